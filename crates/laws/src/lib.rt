@@ -1,0 +1,1 @@
+// Laws that several crates cite, in proofs/. There is no code here.
