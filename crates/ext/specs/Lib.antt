@@ -1,0 +1,6 @@
+pub mod Kinds
+pub mod Classes
+pub mod Read
+pub mod Bytewise
+pub mod Write
+pub mod Find
