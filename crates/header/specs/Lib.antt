@@ -1,0 +1,5 @@
+pub mod Settings
+pub mod Read
+pub mod Write
+pub mod Machine
+pub mod Represents
