@@ -1,0 +1,51 @@
+-- What it is for a row to pass: the definitions give the numbers that it expects.
+use Prim.Native.Nat.{ℕ}
+use mathlib.Core.Bool.{Bool, true, false, _&&_}
+use mathlib.Core.List.{List, [], _∷_}
+use lib.Dec.{eqb}
+use lib.ListN.{length}
+use Rattle.error.specs.Answer.{Answer, gives, refuses}
+use Rattle.mbi.specs.Bytes.{mbiBytes}
+use Rattle.mbi.specs.Read.{readMbi}
+use Rattle.ext.specs.Kinds.{Pair, Fields, none, bitfield, reserved, pairs}
+use Rattle.header.specs.Settings.{extInner}
+use Rattle.header.specs.Read.{Header, readHeader}
+use Rattle.conformance.specs.Table.{Row, number, value, refused, header}
+
+abbrev pub same : List ℕ → List ℕ → Bool
+same [] [] = true
+same [] (y ∷ ys) = false
+same (x ∷ xs) [] = false
+same (x ∷ xs) (y ∷ ys) = eqb x y && same xs ys
+
+-- the value is given, and the offset after it is the input's end
+abbrev pub givesValue : Answer (ℕ × ℕ) → ℕ → ℕ → Bool
+givesValue (gives r) v end = eqb (r .0) v && eqb (r .1) end
+givesValue (refuses code offset) v end = false
+
+abbrev pub isRefused : Answer (ℕ × ℕ) → ℕ → ℕ → Bool
+isRefused (gives r) code offset = false
+isRefused (refuses c p) code offset = eqb c code && eqb p offset
+
+-- the fields are one pair
+abbrev pub isPair : Fields → List ℕ → List ℕ → Bool
+isPair none i v = false
+isPair (bitfield octets) i v = false
+isPair (reserved kind octet) i v = false
+isPair (pairs []) i v = false
+isPair (pairs (p ∷ [])) i v = same (p .identifier) i && same (p .value) v
+isPair (pairs (p ∷ q ∷ ps)) i v = false
+
+abbrev pub givesHeader : Answer Header → ℕ → ℕ → List ℕ → List ℕ → ℕ → Bool
+givesHeader (gives h) w ht i v body = eqb (h .width) w && eqb (h .height) ht && isPair (h .fields) i v && eqb (h .body) body
+givesHeader (refuses code offset) w ht i v body = false
+
+abbrev pub passes : Row → Bool
+passes (number n bytes) = same (mbiBytes n) bytes
+passes (value strict bytes v) = givesValue (readMbi strict bytes 0) v (length bytes)
+passes (refused strict bytes code offset) = isRefused (readMbi strict bytes 0) code offset
+passes (header bytes w h i v body) = givesHeader (readHeader (extInner false) bytes) w h i v body
+
+abbrev pub allPass : List (ℕ × Row) → Bool
+allPass [] = true
+allPass (r ∷ rs) = passes (r .1) && allPass rs

@@ -1,0 +1,32 @@
+-- The cards that document 01 asks to be proved ("Cards to prove (P)"), typed from it: what goes in and the numbers that are expected.
+use Prim.Native.Nat.{ℕ}
+use mathlib.Core.Bool.{Bool, true, false}
+use mathlib.Core.List.{List, [], _∷_, _++_}
+use lib.ListN.{replicate}
+
+pub data Row : Type 0 where
+  -- a number and its bytes
+  number : ℕ → List ℕ → Row
+  -- an integer's bytes, read strictly or not, and its value
+  value : Bool → List ℕ → ℕ → Row
+  -- the same, refused: the code and the offset
+  refused : Bool → List ℕ → ℕ → ℕ → Row
+  -- a header, read leniently: width, height, the identifier and the value of its one pair, and where the body starts
+  header : List ℕ → ℕ → ℕ → List ℕ → List ℕ → ℕ → Row
+
+-- each row with the number of its card
+abbrev pub table : List (ℕ × Row)
+table =
+    (1, number 0 (0x00 ∷ []))
+    ∷ (1, number 127 (0x7F ∷ []))
+    ∷ (1, number 128 (0x81 ∷ 0x00 ∷ []))
+    ∷ (1, number 16384 (0x81 ∷ 0x80 ∷ 0x00 ∷ []))
+    ∷ (2, number 4294967295 (0x8F ∷ 0xFF ∷ 0xFF ∷ 0xFF ∷ 0x7F ∷ []))
+    ∷ (2, refused false (0x90 ∷ 0x80 ∷ 0x80 ∷ 0x80 ∷ 0x00 ∷ []) 2 5)
+    ∷ (3, value false (0x80 ∷ 0x80 ∷ 0x05 ∷ []) 5)
+    ∷ (3, refused true (0x80 ∷ 0x80 ∷ 0x05 ∷ []) 4 0)
+    ∷ (4, value false (replicate 6 0x80 ++ (0x05 ∷ [])) 5)
+    ∷ (4, refused false (replicate 7 0x80 ++ (0x05 ∷ [])) 3 8)
+    ∷ (4, refused false (replicate 7 0x80) 1 7)
+    ∷ (5, header (0x00 ∷ 0xE0 ∷ 0x12 ∷ 0x6B ∷ 0x31 ∷ 0x32 ∷ 0x09 ∷ 0x02 ∷ []) 9 2 (0x6B ∷ []) (0x31 ∷ 0x32 ∷ []) 8)
+    ∷ []
