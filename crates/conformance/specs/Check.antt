@@ -41,7 +41,8 @@ givesHeader (gives h) w ht i v body = eqb (h .width) w && eqb (h .height) ht && 
 givesHeader (refuses code offset) w ht i v body = false
 
 abbrev pub passes : Row → Bool
-passes (number n bytes) = same (mbiBytes n) bytes
+passes (number n bytes) =
+    same (mbiBytes n) bytes && givesValue (readMbi false bytes 0) n (length bytes) && givesValue (readMbi true bytes 0) n (length bytes)
 passes (value strict bytes v) = givesValue (readMbi strict bytes 0) v (length bytes)
 passes (refused strict bytes code offset) = isRefused (readMbi strict bytes 0) code offset
 passes (header bytes w h i v body) = givesHeader (readHeader (extInner false) bytes) w h i v body

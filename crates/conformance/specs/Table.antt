@@ -5,7 +5,7 @@ use mathlib.Core.List.{List, [], _∷_, _++_}
 use lib.ListN.{replicate}
 
 pub data Row : Type 0 where
-  -- a number and its bytes
+  -- a number and its bytes, written, and read strictly and not
   number : ℕ → List ℕ → Row
   -- an integer's bytes, read strictly or not, and its value
   value : Bool → List ℕ → ℕ → Row

@@ -21,9 +21,9 @@ abbrev pub map : {A B : Type 0} → (A → B) → Answer A → Answer B
 map f (gives a) = gives (f a)
 map f (refuses code offset) = refuses code offset
 
--- the refusals of an input that ends too early: with more bytes the answer may be another
+-- the refusals of an input that ends too early, "1, 6, 9, 13 or 20": with more bytes the answer may be another
 abbrev pub isEnd : ℕ → Bool
-isEnd code = eqb code 1 || eqb code 6 || eqb code 9 || eqb code 13
+isEnd code = eqb code 1 || eqb code 6 || eqb code 9 || eqb code 13 || eqb code 20
 
 -- what the code's values mean
 abbrev pub refusal : {A : Type 0} → WbmpError → Answer A

@@ -1,4 +1,4 @@
-// Refusals: a number of document 01's table, and the offset that the Rust's `&mut offset` would hold when the call ends.
+// Refusals: a number of document 01's table and its place, the Rust's offset when the call ends; 0 for writers and where the table says so.
 
 // An integer ends before its last byte.
 pub const MBI_TRUNCATED: u8 = 1;
@@ -18,7 +18,7 @@ pub const FIX_HEADER_NOT_ZERO: u8 = 7;
 pub const ZERO_DIMENSION: u8 = 8;
 // Extension fields end before their last octet or pair header.
 pub const EXT_TRUNCATED: u8 = 9;
-// Extension fields pass the ceiling of 4,096.
+// A 4,097th octet of kind 00, or a pair that starts 4,096 or more past the first.
 pub const EXT_TOO_LONG: u8 = 10;
 // An identifier's length is 0, or above 7 where it is to be written.
 pub const IDENTIFIER_LENGTH: u8 = 11;
@@ -42,7 +42,7 @@ pub const BYTE_LIMIT: u8 = 19;
 pub const PLANE_TOO_SHORT: u8 = 20;
 // There are no frames, or more than 16.
 pub const FRAME_COUNT: u8 = 21;
-// There are too few gray samples.
+// There are too few gray samples, or making was closed early.
 pub const GRAY_TOO_SHORT: u8 = 22;
 // There are no octets or no pairs to write.
 pub const FIELDS_EMPTY: u8 = 23;
