@@ -1,2 +1,5 @@
 pub mod Lists
 pub mod Tests
+pub mod Digits
+pub mod Store
+pub mod Writers

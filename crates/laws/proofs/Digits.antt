@@ -1,0 +1,7 @@
+-- Digits of a number in a base b.
+use Prim.Native.Nat.{ℕ, suc, _/_, _^_, _<_}
+use native.Mathlib.Nat.{pow-suc, div-lt-iff-lt-mul}
+
+-- a number without its last digit is below one power less
+pub div-below : (b k n : ℕ) → 0 < b → n < b ^ suc k → n / b < b ^ k
+div-below b k n p h = div-lt-iff-lt-mul p .1 (rw pow-suc at h)

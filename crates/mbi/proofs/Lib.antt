@@ -1,0 +1,7 @@
+pub mod Step
+pub mod Groups
+pub mod Length
+pub mod Write
+pub mod Continuation
+pub mod Prefix
+pub mod RoundTrip
