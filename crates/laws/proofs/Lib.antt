@@ -3,3 +3,4 @@ pub mod Tests
 pub mod Digits
 pub mod Store
 pub mod Writers
+pub mod Octets

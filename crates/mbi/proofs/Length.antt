@@ -1,12 +1,13 @@
 -- How many bytes an integer has.
 use Prim.Native.Nat.{ℕ, zero, suc, _+_, _/_, _%_, _^_, _<_, _≤_}
-use mathlib.Core.Path.{_≡_, _∙_, refl, ap}
+use mathlib.Core.Path.{_≡_, _∙_, refl, sym, ap, subst}
 use mathlib.Core.List.{List, [], _∷_}
 use native.Mathlib.Omega.{arith}
 use lib.ListN.{length}
 use Rattle.laws.proofs.Digits.{div-below}
-use Rattle.mbi.specs.Bytes.{mbiBytes}
-use Rattle.mbi.proofs.Groups.{above, count, count-zero, count-group, length-above, bytes-above}
+use Rattle.laws.proofs.Octets.{Octets, octets-nil, octets-cons}
+use Rattle.mbi.specs.Bytes.{groups, mbiBytes}
+use Rattle.mbi.proofs.Groups.{count, groups-suc, count-zero, count-group, length-above, bytes-above}
 
 -- a number below 128 ^ k has at most k groups
 pub count-le : (k n : ℕ) → n < 128 ^ k → count n ≤ k
@@ -26,3 +27,21 @@ bytes-one n = omega (arith, length-bytes n)
 
 pub bytes-five : (n : ℕ) → n < 4294967296 → length (mbiBytes n) ≤ 5
 bytes-five n h = omega (arith, length-bytes n, count-le 4 (n / 128) (omega arith))
+
+-- 4294967295 has five
+five : length (mbiBytes 4294967295) ≡ 5
+unfolding mbiBytes groups
+five = refl
+
+-- every byte is one
+pub groups-octets : (m n : ℕ) (last : List ℕ) → Octets last → Octets (groups m n last)
+unfolding groups
+groups-octets zero n last o = o
+groups-octets (suc m) zero last o = o
+groups-octets (suc m) (suc n) last o =
+    subst Octets (sym (groups-suc m (suc n) last (omega arith)))
+    (groups-octets m (suc n / 128) ((128 + suc n % 128) ∷ last) (octets-cons (128 + suc n % 128) last (omega arith) o))
+
+pub bytes-octets : (n : ℕ) → Octets (mbiBytes n)
+unfolding mbiBytes
+bytes-octets n = groups-octets n (n / 128) (n % 128 ∷ []) (octets-cons (n % 128) [] (omega arith) octets-nil)

@@ -3,5 +3,7 @@ pub mod Groups
 pub mod Length
 pub mod Write
 pub mod Continuation
+pub mod Within
 pub mod Prefix
 pub mod RoundTrip
+pub mod Strict

@@ -9,6 +9,7 @@ use lib.Dec.{leb}
 use lib.ListN.{length, drop}
 use lib.Seq.{drop-append-le}
 use Rattle.error.specs.Answer.{Answer, gives, refuses}
+use Rattle.laws.proofs.Tests.{zero-one}
 use Rattle.mbi.specs.Read.{ByteRead, goes, ends, wrong, readByte, readRest, readMbi, upon}
 use Rattle.mbi.proofs.Continuation.{rest-cons, rest-end}
 
@@ -41,3 +42,8 @@ mbi-prefix strict s ρ at h = go (leb at (length s)) refl
         ap (λ (l : List ℕ). readRest strict l at 0 0) (drop-append-le at s ρ (leb-true at (length s) e))
         ∙ rest-prefix strict (drop at s) ρ at 0 0 h
     go false e = absurd (h at (rest-end strict s at 0 0 (le-of-lt (leb-false at (length s) e))))
+
+-- 80 80 05 is 5, whatever follows
+example : (ρ : List ℕ) → readMbi false ((128 ∷ 128 ∷ 5 ∷ []) ++ ρ) 0 ≡ gives (5, 3)
+unfolding readRest readByte
+example ρ = mbi-prefix false (128 ∷ 128 ∷ 5 ∷ []) ρ 0 (λ p e. zero-one (cc))
