@@ -4,3 +4,4 @@ pub mod Digits
 pub mod Store
 pub mod Writers
 pub mod Octets
+pub mod Answers

@@ -3,7 +3,7 @@
 use Prim.Native.Nat.{ℕ, _+_, _<_, _≤_}
 use mathlib.Core.Path.{_≡_, _∙_, refl, sym, ap}
 use mathlib.Core.List.{List, [], _∷_}
-use mathlib.Core.Bool.{Bool, true, false}
+use mathlib.Core.Bool.{Bool, false}
 use lib.ListN.{length, drop, getD, drop-of-length-le}
 use Rattle.error.specs.Answer.{Answer, gives, refuses, bind}
 use Rattle.laws.proofs.Lists.{drop-at, tail-drop}
@@ -63,6 +63,16 @@ pub integer-mbi : {A : Type 0} (strict : Bool) (s : List ℕ) (at : ℕ) (k : �
     → integer strict (drop at s) at 0 0 k ≡ bind (readMbi strict s at) (λ r. k (r .0) (r .1) (drop (r .1) s))
 integer-mbi strict s at k = integer-in strict s (drop at s) at 0 0 k refl
 
+-- one byte of the continuation form
+module _ {A : Type 0} (strict : Bool) (b : ℕ) (τ : List ℕ) (at v n w : ℕ) (k : ℕ → ℕ → List ℕ → Answer A) where
+  pub integer-goes : readByte strict at v n b ≡ goes w → integer strict (b ∷ τ) at v n k ≡ integer strict τ (at + 1) w (n + 1) k
+  unfolding integer
+  integer-goes e = ap (λ (x : ByteRead). upon x (λ u. integer strict τ (at + 1) u (n + 1) k) (λ u. k u (at + 1) τ)) e
+
+  pub integer-ends : readByte strict at v n b ≡ ends w → integer strict (b ∷ τ) at v n k ≡ k w (at + 1) τ
+  unfolding integer
+  integer-ends e = ap (λ (x : ByteRead). upon x (λ u. integer strict τ (at + 1) u (n + 1) k) (λ u. k u (at + 1) τ)) e
+
 -- go on from what `read_mbi_u32` answered, x being its case
 pub integer-on : {A : Type 0} (strict : Bool) (s : List ℕ) (at : ℕ) (k : ℕ → ℕ → List ℕ → Answer A) (r x : MbiRead)
     → meaning r ≡ readMbi strict s at → r ≡ x
@@ -90,3 +100,8 @@ module _ (strict : Bool) (s : List ℕ) (at v n : ℕ) where
   pub rest-end : length s ≤ at → readRest strict (drop at s) at v n ≡ refuses 1 at
   unfolding readRest
   rest-end h = rw (drop-of-length-le s h)
+
+-- 81 00 after one byte; the value, the offset after it and what follows
+example : integer false (drop 1 (7 ∷ 129 ∷ 0 ∷ 9 ∷ [])) 1 0 0 (λ v at τ. gives (v ∷ at ∷ τ)) ≡ gives (128 ∷ 3 ∷ 9 ∷ [])
+unfolding readRest readByte
+example = integer-mbi false (7 ∷ 129 ∷ 0 ∷ 9 ∷ []) 1 (λ v at τ. gives (v ∷ at ∷ τ))

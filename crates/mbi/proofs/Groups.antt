@@ -59,6 +59,9 @@ groups-append (suc m) (suc n) last τ =
     ∙ groups-append m (suc n / 128) ((128 + suc n % 128) ∷ last) τ
     ∙ ap (λ (l : List ℕ). l ++ τ) (sym (groups-suc m (suc n) last (omega arith)))
 
+pub bytes-append : (n : ℕ) (τ : List ℕ) → mbiBytes n ++ τ ≡ above (n / 128) (n % 128 ∷ τ)
+bytes-append n τ = ap (λ (l : List ℕ). l ++ τ) (bytes-above n) ∙ sym (groups-append (n / 128) (n / 128) (n % 128 ∷ []) τ)
+
 pub above-append : (n : ℕ) (last : List ℕ) → above n last ≡ above n [] ++ last
 above-append n last = groups-append n n [] last
 

@@ -1,52 +1,53 @@
 -- Strict reading "succeeds exactly where the bytes begin with the writer's output for some u32, and returns that number. It never gives
 -- 3." (document 01, mbi.rs)
-use Prim.Native.Nat.{ℕ, zero, suc, _+_, _-_, _*_, _/_, _%_, _<_, _≤_}
-use mathlib.Core.Path.{_≡_, _∙_, refl, sym, ap, subst}
+use Prim.Native.Nat.{ℕ, zero, suc, _+_, _-_, _/_, _%_, _<_, _≤_}
+use mathlib.Core.Path.{_≡_, _∙_, refl, sym, ap}
 use mathlib.Core.List.{List, [], _∷_, _++_}
 use mathlib.Core.Bool.{true}
 use mathlib.Core.Logic.{_↔_}
 use native.Mathlib.Omega.{arith}
 use lib.ListN.{length, drop}
 use lib.Seq.{drop-drop}
-use Rattle.error.specs.Answer.{Answer, gives, refuses}
+use Rattle.error.specs.Answer.{gives, refuses}
+use Rattle.laws.proofs.Answers.{gives-pair}
 use Rattle.laws.proofs.Octets.{Octets, octets-by, octets-drop}
 use Rattle.laws.proofs.Tests.{zero-one}
-use Rattle.mbi.specs.Bytes.{groups, mbiBytes}
+use Rattle.mbi.specs.Bytes.{mbiBytes}
 use Rattle.mbi.specs.Read.{ByteRead, goes, ends, wrong, readByte, readRest, readMbi, upon}
 use Rattle.mbi.proofs.Groups.{above, count, above-zero, count-zero, above-group, count-group, length-above, groups-append, bytes-above}
-use Rattle.mbi.proofs.Length.{count-le, length-bytes}
-use Rattle.mbi.proofs.Step.{Taken, goes-taken, ends-taken, wrong-code, strict-free}
+use Rattle.mbi.proofs.Length.{count-le}
+use Rattle.mbi.proofs.Step.{Taken, known}
 use Rattle.mbi.proofs.Continuation.{found, rest-cons, rest-integer}
 use Rattle.mbi.proofs.RoundTrip.{read-bytes}
 
--- One byte after n others that are the groups of v.
+-- one byte after n others that are the groups of v
 module _ (at v n b w : ℕ) (c : n ≡ count v) where
-  -- it is a group of w
+  -- it is the next group of w
   module _ (o : b < 256) (e : readByte true at v n b ≡ goes w) where
     positive : 0 < w
-    positive = go w (goes-taken true at v n b w e) e
+    positive = go w (known true v n b at (goes w) e)
       where
-        go : (w : ℕ) → Taken v n b w × (128 ≤ b) → readByte true at v n b ≡ goes w → 0 < w
-        go zero t e = absurd (strict-free at v n b 0 e (c ∙ count-zero v (omega (arith, t .0 .value))) (omega (arith, t .0 .value)))
-        go (suc w) t e = omega arith
+        go : (w : ℕ) → Taken true v n b w × (128 ≤ b) → 0 < w
+        go zero t = absurd (t .0 .free refl (c ∙ count-zero v (omega (arith, t .0 .value))) (omega (arith, t .0 .value)))
+        go (suc w) t = omega arith
 
-    pub goes-group : (τ : List ℕ) → above w τ ≡ above v (b ∷ τ)
+    goes-group : (τ : List ℕ) → above w τ ≡ above v (b ∷ τ)
     goes-group τ =
-        let t = goes-taken true at v n b w e in
+        let t = known true v n b at (goes w) e in
         let p : w / 128 ≡ v = omega (arith, t .0 .value) in
         let q : 128 + w % 128 ≡ b = omega (arith, t .0 .value) in
         above-group w τ positive ∙ rw (p, q)
 
-    pub goes-count : n + 1 ≡ count w
+    goes-count : n + 1 ≡ count w
     goes-count =
-        let t = goes-taken true at v n b w e in
+        let t = known true v n b at (goes w) e in
         let p : w / 128 ≡ v = omega (arith, t .0 .value) in
         sym (count-group w positive ∙ rw (p, ← c))
 
   -- it is the last byte of w
-  pub ends-bytes : readByte true at v n b ≡ ends w → mbiBytes w ≡ above v (b ∷ [])
+  ends-bytes : readByte true at v n b ≡ ends w → mbiBytes w ≡ above v (b ∷ [])
   ends-bytes e =
-      let t = ends-taken true at v n b w e in
+      let t = known true v n b at (ends w) e in
       let p : w / 128 ≡ v = omega (arith, t .0 .value) in
       let q : w % 128 ≡ b = omega (arith, t .0 .value) in
       bytes-above w ∙ rw (p, q)
@@ -78,12 +79,10 @@ finds (b ∷ τ) at u n o c v e h =
           place = omega (arith, f .place, goes-count at u n b w c (o 0) p);
         }
     go (ends w) p k ih =
-        let z : _≡_ {A = ℕ × ℕ} (w, at + 1) (v, e) = cc in
-        let x : w ≡ v = ap (λ (r : ℕ × ℕ). r .0) z in
-        let y : at + 1 ≡ e = ap (λ (r : ℕ × ℕ). r .1) z in
+        let z : (w ≡ v) × (at + 1 ≡ e) = gives-pair k in
         let d : e - at ≡ 1 = omega arith in
-        let t = ends-taken true at u n b w p in
-        let l : mbiBytes v ≡ above u (b ∷ []) = ap mbiBytes (sym x) ∙ ends-bytes at u n b w c p in
+        let t = known true u n b at (ends w) p in
+        let l : mbiBytes v ≡ above u (b ∷ []) = ap mbiBytes (sym (z .0)) ∙ ends-bytes at u n b w c p in
         record {
           small = omega (arith, t .0 .small);
           starts = groups-append u u (b ∷ []) τ ∙ ap (λ (r : List ℕ). r ++ τ) (sym l) ∙ ap (λ (i : ℕ). mbiBytes v ++ drop i (b ∷ τ)) (sym d);
@@ -103,11 +102,11 @@ three (b ∷ τ) at u n o c l p h =
         → upon x (λ w. readRest true τ (at + 1) w (n + 1)) (λ w. gives (w, at + 1)) ≡ refuses 3 p
         → ((w : ℕ) → n + 1 ≡ count w → w ≤ 4294967295 → readRest true τ (at + 1) w (n + 1) ≡ refuses 3 p → ⊥)
         → ⊥
-    go (goes w) e k ih = ih w (goes-count at u n b w c (o 0) e) (goes-taken true at u n b w e .0 .small) k
+    go (goes w) e k ih = ih w (goes-count at u n b w c (o 0) e) (known true u n b at (goes w) e .0 .small) k
     go (ends w) e k ih = zero-one (cc)
     go (wrong code i) e k ih =
         let j : code ≡ 3 = cc in
-        omega (arith, wrong-code true at u n b code i e .1 j, count-le 5 u (omega arith))
+        omega (arith, known true u n b at (wrong code i) e .1 j, count-le 5 u (omega arith))
 
 -- the bytes of s from `at` on begin with the writer's output for v, which ends at e
 pub record Begins (s : List ℕ) (at v e : ℕ) : Type 0 where

@@ -1,12 +1,12 @@
 -- Writing an integer from its last byte to its first: the groups of v are still to be written, in front of what stands from k on.
 use Prim.Native.Nat.{ℕ, _+_, _-_, _/_, _%_, _<_, _≤_}
 use mathlib.Core.Path.{_≡_, _∙_, refl, sym, ap}
-use mathlib.Core.List.{List, [], _∷_, _++_}
+use mathlib.Core.List.{List, _∷_, _++_}
 use native.Mathlib.Omega.{arith}
 use lib.ListN.{length, drop, set, length-set}
 use Rattle.laws.proofs.Store.{drop-set}
 use Rattle.mbi.specs.Bytes.{mbiBytes}
-use Rattle.mbi.proofs.Groups.{above, count, above-zero, count-zero, above-group, count-group, groups-append, bytes-above}
+use Rattle.mbi.proofs.Groups.{above, count, above-zero, count-zero, above-group, count-group, bytes-append}
 use Rattle.mbi.proofs.Length.{length-bytes}
 
 pub record Filling (v₀ k₀ : ℕ) (out₀ : List ℕ) (v k : ℕ) (out : List ℕ) : Type 0 where
@@ -54,5 +54,4 @@ module _ (value : ℕ) (old : List ℕ) (n : ℕ) (e : n ≡ length (mbiBytes va
   begun-bytes =
       let k : n - 1 + 1 ≡ length (mbiBytes value) = omega (arith, length-bytes value) in
       ap (above (value / 128)) (drop-set old (n - 1) (value % 128) (omega (arith, length-bytes value)) ∙ ap (λ (i : ℕ). value % 128 ∷ drop i old) k)
-      ∙ groups-append (value / 128) (value / 128) (value % 128 ∷ []) (drop (length (mbiBytes value)) old)
-      ∙ ap (λ (l : List ℕ). l ++ drop (length (mbiBytes value)) old) (sym (bytes-above value))
+      ∙ sym (bytes-append value (drop (length (mbiBytes value)) old))

@@ -29,6 +29,9 @@ pub enum MbiStep {
     Refused(WbmpError),
 }
 
+// An integer has at most this many bytes: the five of the largest, and two 0x80s before them.
+pub const MAX_MBI_BYTES: u8 = 7;
+
 // Whether strict reading refuses a byte because an integer starts with 0x80.
 fn leading(strict: bool, count: u8, byte: u8) -> bool
     ensures { λ r. ⌜ r ≡ (strict && eqb count 0 && eqb byte 128) ⌝ }
@@ -58,7 +61,7 @@ pub fn mbi_step(strict: bool, at: usize, value: u32, count: u8, byte: u8) -> Mbi
             offset: after,
         });
     }
-    if count >= 7 {
+    if count >= MAX_MBI_BYTES {
         return MbiStep::Refused(WbmpError {
             code: MBI_TOO_LONG,
             offset: after,

@@ -1,17 +1,30 @@
 use Prim.Native.Nat.{ℕ, _+_, _%_, _<_, _≤_}
-use mathlib.Core.Path.{_≡_, _∙_, sym, ap}
+use mathlib.Core.Path.{_≡_, _∙_, sym}
+use mathlib.Core.Bool.{true, false, _&&_}
 use native.Mathlib.Omega.{arith}
 use borrow.Author.Tests.{lt-ltb, le-ltb}
 use borrow.Author.Needs.{needs}
-use lib.Dec.{ltb}
-use mathlib.Core.Bool.{true, false}
+use lib.Dec.{ltb, eqb}
 use Rattle.mbi.specs.Read.{readByte}
 use Rattle.mbi.proofs.mbi_step.Statement.{statement}
 use Rattle.mbi.proofs.mbi_step.Tie as tie
-use Rattle.mbi.proofs.mbi_step.Reads as reads
-use Rattle.mbi.proofs.mbi_step.Lts as lts
-use Rattle.mbi.proofs.leading.Reads as leading-reads
-use Rattle.std.proofs.num.wrapping_add_usize.Reads as wrapping-add-usize-reads
+
+-- the offset after a byte
+after : (at r : ℕ) → r ≡ (at + 1) % 18446744073709551616 → at < 18446744073709551615 → r ≡ at + 1
+after at r e h = omega arith
+
+-- the test on the count, as the definition has it
+eighth : (n : ℕ) → 7 ≤ n → ltb 7 (n + 1) ≡ true
+eighth n h = lt-ltb 7 (n + 1) (omega arith)
+
+within : (n : ℕ) → n < 7 → ltb 7 (n + 1) ≡ false
+within n h = le-ltb 7 (n + 1) (omega arith)
+
+-- no leading 0x80
+free : (c : tie.Else1)
+    → let a = c .before .before .args in
+    (a .strict && eqb (a .count) 0 && eqb (a .byte) 128) ≡ false
+free c = sym (c .before .leading .ensures) ∙ c .if1 .left
 
 leading-requires : tie.Need-leading-requires
 leading-requires c κs = search needs
@@ -29,24 +42,14 @@ mul-v c = search needs
 add-v : tie.Need-add-v
 add-v c = search needs
 
--- the offset after a byte
-after : (at r : ℕ) → r ≡ (at + 1) % 18446744073709551616 → at < 18446744073709551615 → r ≡ at + 1
-after at r e h = omega arith
-
-eighth : (n : ℕ) → 7 ≤ n → ltb 7 (n + 1) ≡ true
-eighth n h = lt-ltb 7 (n + 1) (omega arith)
-
-within : (n : ℕ) → n < 7 → ltb 7 (n + 1) ≡ false
-within n h = le-ltb 7 (n + 1) (omega arith)
-
 returns-2 : tie.Need-returns-2
 unfolding readByte
 returns-2 c =
     record {
       does =
           λ h.
-          simp
-          (after _ _ (c .before .wrapping-add-usize .ensures) h, sym (c .before .before .before .leading .ensures) ∙ c .before .before .if1 .left, lt-ltb _ _ (c .if2 .taken));
+          let e = after _ _ (c .before .wrapping-add-usize .ensures) h in
+          simp (e, free (c .before .before), lt-ltb _ _ (c .if2 .taken));
     }
 
 returns-3 : tie.Need-returns-3
@@ -55,8 +58,8 @@ returns-3 c =
     record {
       does =
           λ h.
-          simp
-          (after _ _ (c .before .before .wrapping-add-usize .ensures) h, sym (c .before .before .before .before .leading .ensures) ∙ c .before .before .before .if1 .left, le-ltb _ _ (c .before .if2 .left), eighth _ (c .if3 .taken));
+          let e = after _ _ (c .before .before .wrapping-add-usize .ensures) h in
+          simp (e, free (c .before .before .before), le-ltb _ _ (c .before .if2 .left), eighth _ (c .if3 .taken));
     }
 
 cast-t17 : tie.Need-cast-t17
@@ -65,12 +68,8 @@ cast-t17 c = search needs
 returns-4 : tie.Need-returns-4
 unfolding readByte
 returns-4 c =
-    record {
-      does =
-          λ h.
-          simp
-          (sym (c .before .before .before .before .before .leading .ensures) ∙ c .before .before .before .before .if1 .left, le-ltb _ _ (c .before .before .if2 .left), within _ (c .before .if3 .left), lt-ltb _ _ (c .if4 .taken));
-    }
+    let d = c .before in
+    record { does = λ h. simp (free (d .before .before .before), le-ltb _ _ (d .before .if2 .left), within _ (d .if3 .left), lt-ltb _ _ (c .if4 .taken)) }
 
 cast-t18 : tie.Need-cast-t18
 cast-t18 c = search needs
@@ -78,12 +77,8 @@ cast-t18 c = search needs
 returns-5 : tie.Need-returns-5
 unfolding readByte
 returns-5 c =
-    record {
-      does =
-          λ h.
-          simp
-          (sym (c .before .before .before .before .before .leading .ensures) ∙ c .before .before .before .before .if1 .left, le-ltb _ _ (c .before .before .if2 .left), within _ (c .before .if3 .left), le-ltb _ _ (c .if4 .left));
-    }
+    let d = c .before in
+    record { does = λ h. simp (free (d .before .before .before), le-ltb _ _ (d .before .if2 .left), within _ (d .if3 .left), le-ltb _ _ (c .if4 .left)) }
 
 pub mbi-step-spec : {M : Type 1} → statement M
 mbi-step-spec =

@@ -1,5 +1,5 @@
-use Prim.Native.Nat.{_+_, _/_, _<_}
-use mathlib.Core.Path.{_≡_, _∙_}
+use Prim.Native.Nat.{_+_}
+use mathlib.Core.Path.{_≡_}
 use native.Mathlib.Omega.{arith}
 use lib.ListN.{length}
 use Rattle.mbi.specs.Bytes.{mbiBytes}
@@ -7,8 +7,6 @@ use Rattle.mbi.proofs.Groups.{count, count-group, count-zero}
 use Rattle.mbi.proofs.Length.{length-bytes, bytes-five}
 use Rattle.mbi.proofs.mbi_u32_len.Statement.{statement}
 use Rattle.mbi.proofs.mbi_u32_len.Tie as tie
-use Rattle.mbi.proofs.mbi_u32_len.Reads as reads
-use Rattle.mbi.proofs.mbi_u32_len.Lts as lts
 
 -- the groups that are left are still to be counted
 abbrev Inv-loop : tie.InvT-loop

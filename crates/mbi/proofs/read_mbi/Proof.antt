@@ -1,4 +1,4 @@
-use Prim.Native.Nat.{ℕ, _+_, _-_, _≤_, _<_}
+use Prim.Native.Nat.{_+_, _-_, _<_}
 use mathlib.Core.Path.{_≡_, _∙_, sym, ap, refl}
 use native.Mathlib.Omega.{arith}
 use borrow.Author.Needs.{needs}
@@ -7,17 +7,15 @@ use denote.Ref.{now}
 use Rattle.error.specs.Answer.{gives}
 use Rattle.mbi.specs.Read.{ByteRead, readByte, readRest, readMbi, upon, stepMeaning}
 use Rattle.mbi.specs.declared.MbiStep.{MbiStep}
-use Rattle.mbi.proofs.Step.{goes-taken}
+use Rattle.mbi.proofs.Step.{known}
 use Rattle.mbi.proofs.Continuation.{rest-at, rest-end}
 use Rattle.mbi.proofs.read_mbi.Statement.{statement}
 use Rattle.mbi.proofs.read_mbi.Tie as tie
-use Rattle.mbi.proofs.read_mbi.Reads as reads
-use Rattle.mbi.proofs.read_mbi.Lts as lts
-use Rattle.mbi.proofs.mbi_step.Reads as mbi-step-reads
 
+-- what is left to read gives the whole answer
 abbrev Inv-loop : tie.InvT-loop
 Inv-loop strict bytes offset at₀ value₀ count₀ at value count =
-    (count ≤ 7) × (readMbi strict bytes offset ≡ readRest strict (drop at bytes) at value count)
+    readMbi strict bytes offset ≡ readRest strict (drop at bytes) at value count
 
 abbrev μ-loop : tie.MeasureT-loop
 μ-loop strict bytes offset at₀ value₀ count₀ at value count = length bytes - at
@@ -38,16 +36,17 @@ turned : (c : tie.After-mbi-step Inv-loop μ-loop) (x : MbiStep) → c .mbi-step
 turned c x e =
     let a = c .before .before .before .before .before .args in
     let l = c .before .before .before .loop in
-    l .inv .1 ∙ rest-at (a .strict) (now (a .bytes)) (l .at) (l .value) (l .count) (c .before .before .loop-test .taken)
+    l .inv ∙ rest-at (a .strict) (now (a .bytes)) (l .at) (l .value) (l .count) (c .before .before .loop-test .taken)
     ∙ ap (λ (y : ByteRead). upon y (λ w. readRest (a .strict) (drop (l .at + 1) (now (a .bytes))) (l .at + 1) w (l .count + 1)) (λ w. gives (w, l .at + 1))) (did c x e)
 
+-- an integer that goes on has had fewer than seven bytes
 below : (c : tie.After-known-told Inv-loop μ-loop) → c .before .before .before .before .before .before .loop .count < 7
 below c =
     let m = c .before .before .before in
-    goes-taken _ _ _ _ _ _ (did m _ (c .before .v .given .1)) .0 .few
+    known _ _ _ _ _ _ (did m _ (c .before .v .given .1)) .0 .few
 
 loop-holds : tie.Need-loop-holds Inv-loop μ-loop
-loop-holds c = (omega arith, refl)
+loop-holds c = refl
 
 shared-slice-read-mbi-step : tie.Need-shared-slice-read-mbi-step Inv-loop μ-loop
 shared-slice-read-mbi-step c = search needs
@@ -83,13 +82,13 @@ loop-less : tie.Need-loop-less Inv-loop μ-loop
 loop-less c = search needs
 
 loop-again : tie.Need-loop-again Inv-loop μ-loop
-loop-again c = (omega (arith, below c), turned (c .before .before .before) _ (c .before .v .given .1))
+loop-again c = turned (c .before .before .before) _ (c .before .v .given .1)
 
 returns-3 : tie.Need-returns-3 Inv-loop μ-loop
 returns-3 c =
     let a = c .before .before .before .args in
     let l = c .before .loop in
-    sym (l .inv .1 ∙ rest-end (a .strict) (now (a .bytes)) (l .at) (l .value) (l .count) (c .loop-test .left))
+    sym (l .inv ∙ rest-end (a .strict) (now (a .bytes)) (l .at) (l .value) (l .count) (c .loop-test .left))
 
 pub read-mbi-spec : {M : Type 1} → statement M
 read-mbi-spec =

@@ -1,5 +1,4 @@
-use Prim.Native.Nat.{_<_, _≤_}
-use mathlib.Core.Path.{_≡_, _∙_, sym, ap, refl}
+use mathlib.Core.Path.{_∙_}
 use native.Mathlib.Omega.{arith}
 use borrow.Author.Needs.{needs}
 use denote.Ref.{now}
@@ -10,9 +9,6 @@ use Rattle.mbi.proofs.Length.{bytes-one}
 use Rattle.mbi.proofs.Write.{Filling, room, filled, done, begun, begun-bytes}
 use Rattle.mbi.proofs.write_mbi_u32.Statement.{statement}
 use Rattle.mbi.proofs.write_mbi_u32.Tie as tie
-use Rattle.mbi.proofs.write_mbi_u32.Reads as reads
-use Rattle.mbi.proofs.write_mbi_u32.Lts as lts
-use Rattle.mbi.proofs.mbi_u32_len.Reads as mbi-u32-len-reads
 
 abbrev Inv-loop : tie.InvT-loop
 Inv-loop value out₀ n k₀ v₀ out k v = Filling v₀ k₀ out₀ v k out
