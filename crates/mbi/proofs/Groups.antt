@@ -16,7 +16,7 @@ above n last = groups n n last
 abbrev pub count : ℕ → ℕ
 count n = length (above n [])
 
--- one group, where there is one
+-- one group more
 pub groups-suc : (m n : ℕ) (last : List ℕ) → 0 < n → groups (suc m) n last ≡ groups m (n / 128) ((128 + n % 128) ∷ last)
 unfolding groups
 groups-suc m n last h =
@@ -37,7 +37,6 @@ groups-bound (suc m) (suc k) (suc n) last p q =
     ∙ groups-bound m k (suc n / 128) ((128 + suc n % 128) ∷ last) (omega arith) (omega arith)
     ∙ sym (groups-suc k (suc n) last (omega arith))
 
--- one group
 pub above-group : (n : ℕ) (last : List ℕ) → 0 < n → above n last ≡ above (n / 128) ((128 + n % 128) ∷ last)
 above-group zero last h = absurd (omega arith)
 above-group (suc m) last h =
@@ -59,6 +58,7 @@ groups-append (suc m) (suc n) last τ =
     ∙ groups-append m (suc n / 128) ((128 + suc n % 128) ∷ last) τ
     ∙ ap (λ (l : List ℕ). l ++ τ) (sym (groups-suc m (suc n) last (omega arith)))
 
+-- so an integer and what follows it are such groups too
 pub bytes-append : (n : ℕ) (τ : List ℕ) → mbiBytes n ++ τ ≡ above (n / 128) (n % 128 ∷ τ)
 bytes-append n τ = ap (λ (l : List ℕ). l ++ τ) (bytes-above n) ∙ sym (groups-append (n / 128) (n / 128) (n % 128 ∷ []) τ)
 

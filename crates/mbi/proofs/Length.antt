@@ -1,4 +1,4 @@
--- How many bytes an integer has.
+-- How many bytes an integer has, and that they are bytes.
 use Prim.Native.Nat.{ℕ, zero, suc, _+_, _/_, _%_, _^_, _<_, _≤_}
 use mathlib.Core.Path.{_≡_, _∙_, refl, sym, ap, subst}
 use mathlib.Core.List.{List, [], _∷_}
@@ -21,6 +21,12 @@ count-le (suc k) n h = go n h (λ m. count-le k m)
 pub length-bytes : (n : ℕ) → length (mbiBytes n) ≡ count (n / 128) + 1
 length-bytes n = ap length (bytes-above n) ∙ length-above (n / 128) (n % 128 ∷ [])
 
+pub bytes-small : (n : ℕ) → n < 128 → length (mbiBytes n) ≡ 1
+bytes-small n h = omega (arith, length-bytes n, count-zero (n / 128) (omega arith))
+
+pub bytes-more : (n : ℕ) → 128 ≤ n → length (mbiBytes n) ≡ length (mbiBytes (n / 128)) + 1
+bytes-more n h = omega (arith, length-bytes n, length-bytes (n / 128), count-group (n / 128) (omega arith))
+
 -- a number of 32 bits has 1 to 5 bytes
 pub bytes-one : (n : ℕ) → 1 ≤ length (mbiBytes n)
 bytes-one n = omega (arith, length-bytes n)
@@ -33,7 +39,7 @@ five : length (mbiBytes 4294967295) ≡ 5
 unfolding mbiBytes groups
 five = refl
 
--- every byte is one
+-- every element is a byte
 pub groups-octets : (m n : ℕ) (last : List ℕ) → Octets last → Octets (groups m n last)
 unfolding groups
 groups-octets zero n last o = o

@@ -13,10 +13,11 @@ use Rattle.laws.proofs.Tests.{zero-one}
 use Rattle.mbi.specs.Read.{ByteRead, goes, ends, wrong, readByte, readRest, readMbi, upon}
 use Rattle.mbi.proofs.Continuation.{rest-cons, rest-end}
 
-abbrev pub Ended : Answer (ℕ × ℕ) → Type 0
-Ended a = (at : ℕ) → a ≡ refuses 1 at → ⊥
+-- an answer that is not the end of the input
+abbrev pub Final : Answer (ℕ × ℕ) → Type 0
+Final a = (at : ℕ) → a ≡ refuses 1 at → ⊥
 
-pub rest-prefix : (strict : Bool) (τ ρ : List ℕ) (at v n : ℕ) → Ended (readRest strict τ at v n)
+pub rest-prefix : (strict : Bool) (τ ρ : List ℕ) (at v n : ℕ) → Final (readRest strict τ at v n)
     → readRest strict (τ ++ ρ) at v n ≡ readRest strict τ at v n
 unfolding readRest
 rest-prefix strict [] ρ at v n h = absurd (h at refl)
@@ -26,15 +27,15 @@ rest-prefix strict (b ∷ τ) ρ at v n h =
     ∙ sym (rest-cons strict b τ at v n)
   where
     go : (x : ByteRead)
-        → Ended (upon x (λ w. readRest strict τ (at + 1) w (n + 1)) (λ w. gives (w, at + 1)))
-        → ((w : ℕ) → Ended (readRest strict τ (at + 1) w (n + 1)) → readRest strict (τ ++ ρ) (at + 1) w (n + 1) ≡ readRest strict τ (at + 1) w (n + 1))
+        → Final (upon x (λ w. readRest strict τ (at + 1) w (n + 1)) (λ w. gives (w, at + 1)))
+        → ((w : ℕ) → Final (readRest strict τ (at + 1) w (n + 1)) → readRest strict (τ ++ ρ) (at + 1) w (n + 1) ≡ readRest strict τ (at + 1) w (n + 1))
         → upon x (λ w. readRest strict (τ ++ ρ) (at + 1) w (n + 1)) (λ w. gives (w, at + 1))
         ≡ upon x (λ w. readRest strict τ (at + 1) w (n + 1)) (λ w. gives (w, at + 1))
     go (goes w) k ih = ih w k
     go (ends w) k ih = refl
     go (wrong code p) k ih = refl
 
-pub mbi-prefix : (strict : Bool) (s ρ : List ℕ) (at : ℕ) → Ended (readMbi strict s at) → readMbi strict (s ++ ρ) at ≡ readMbi strict s at
+pub mbi-prefix : (strict : Bool) (s ρ : List ℕ) (at : ℕ) → Final (readMbi strict s at) → readMbi strict (s ++ ρ) at ≡ readMbi strict s at
 mbi-prefix strict s ρ at h = go (leb at (length s)) refl
   where
     go : (t : Bool) → leb at (length s) ≡ t → readMbi strict (s ++ ρ) at ≡ readMbi strict s at

@@ -9,6 +9,7 @@ use Rattle.mbi.specs.Bytes.{mbiBytes}
 use Rattle.mbi.proofs.Groups.{above, count, above-zero, count-zero, above-group, count-group, bytes-append}
 use Rattle.mbi.proofs.Length.{length-bytes}
 
+-- since the loop began with v₀, k₀ and out₀
 pub record Filling (v₀ k₀ : ℕ) (out₀ : List ℕ) (v k : ℕ) (out : List ℕ) : Type 0 where
   pub left : k ≡ count v
   pub inside : k < length out
@@ -33,7 +34,7 @@ module _ {v₀ k₀ : ℕ} {out₀ : List ℕ} {v k : ℕ} {out : List ℕ} (f :
             ∙ sym (above-group v (drop k out) h) ∙ f .whole;
       }
 
-  -- the last byte
+  -- no group is left
   pub done : v ≡ 0 → out ≡ above v₀ (drop k₀ out₀)
   done h =
       let e : k ≡ 0 = f .left ∙ count-zero v h in

@@ -43,7 +43,7 @@ fn leading(strict: bool, count: u8, byte: u8) -> bool
     }
 }
 
-// The byte at an offset, where `count` bytes before it have given `value`.
+// The byte at an offset, where `count` bytes before it have given `value`. `after` wraps only at the last `usize`, where no byte stands.
 pub fn mbi_step(strict: bool, at: usize, value: u32, count: u8, byte: u8) -> MbiStep
     ensures { λ r. ⌜ Stepped strict at value count byte r ⌝ }
 {
@@ -122,9 +122,9 @@ pub fn read_mbi_u32_strict(bytes: &[u8], offset: usize) -> MbiRead
 pub fn mbi_u32_len(value: u32) -> usize
     ensures { λ r. ⌜ r ≡ length (mbiBytes value) ⌝ }
 {
-    let mut v = value / 128;
+    let mut v = value;
     let mut n: usize = 1;
-    while v > 0 {
+    while v >= 128 {
         v = v / 128;
         n += 1;
     }

@@ -63,8 +63,10 @@ returns-2 : tie.Need-returns-2 Inv-loop μ-loop
 returns-2 c =
     let s = c .before .before .before in
     let a = s .before .before .args in
-    emits-all (mbiBytes (a .value)) (now (a .out)) (c .before .loop .out) (s .mbi-u32-len .result) (omega (arith, s .mbi-u32-len .ensures, c .before .before .if1 .left)) (s .mbi-u32-len .ensures)
-    (done (c .before .loop .inv) (omega arith) ∙ begun-bytes (a .value) (now (a .out)) _ (s .mbi-u32-len .ensures) (c .before .before .if1 .left))
+    let e = s .mbi-u32-len .ensures in
+    let fits = c .before .before .if1 .left in
+    emits-all (mbiBytes (a .value)) (now (a .out)) (c .before .loop .out) (s .mbi-u32-len .result) (omega (arith, e, fits)) e
+    (done (c .before .loop .inv) (omega arith) ∙ begun-bytes (a .value) (now (a .out)) _ e fits)
 
 pub write-mbi-u32-spec : {M : Type 1} → statement M
 write-mbi-u32-spec =
