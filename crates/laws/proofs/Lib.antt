@@ -5,3 +5,4 @@ pub mod Store
 pub mod Writers
 pub mod Octets
 pub mod Answers
+pub mod Runs
