@@ -1,0 +1,77 @@
+-- Where the parts of a pair stand that was read.
+use Prim.Native.Nat.{ℕ, _+_, _/_, _%_, _<_, _≤_}
+use mathlib.Core.Path.{_≡_, refl, subst}
+use mathlib.Core.List.{List}
+use mathlib.Core.Bool.{Bool, true, false}
+use native.Mathlib.Omega.{arith}
+use borrow.Author.Tests.{ltb-false, eqb-false}
+use lib.Dec.{ltb, leb, eqb}
+use lib.ListN.{length, getD}
+use lib.Seq.{slice}
+use Rattle.error.specs.Choice.{if}
+use Rattle.error.specs.Answer.{Answer, gives, refuses}
+use Rattle.laws.proofs.Tests.{zero-one}
+use Rattle.ext.specs.Classes.{isChar, isAlphaDigit, inClass}
+use Rattle.ext.specs.Read.{PairAt, readPair}
+
+-- the lengths in a pair's header byte
+abbrev pub identifierSize : ℕ → ℕ
+identifierSize h = h / 16 % 8
+
+abbrev pub valueSize : ℕ → ℕ
+valueSize h = h % 16
+
+-- a pair of a file s, whose header byte h stands at `at`
+pub record PairIn (s : List ℕ) (h at : ℕ) (p : PairAt) : Type 0 where
+  pub identifier-is : p .pair .identifier ≡ slice (at + 1) (at + 1 + identifierSize h) s
+  pub value-is : p .pair .value ≡ slice (at + 1 + identifierSize h) (at + 1 + identifierSize h + valueSize h) s
+  pub end-is : p .end ≡ at + 1 + identifierSize h + valueSize h
+  pub within : p .end ≤ length s
+  pub identifier-some : 1 ≤ identifierSize h
+  pub value-some : 1 ≤ valueSize h
+
+pub pair-in : (strict : Bool) (s : List ℕ) (at : ℕ) (p : PairAt) → readPair strict s at ≡ gives p → PairIn s (getD s at 0) at p
+unfolding readPair
+pair-in strict s at p e =
+    go (eqb (identifierSize h) 0) (eqb (valueSize h) 0) (ltb (length s) b) (ltb (length s) c) (inClass strict isChar (slice a b s))
+    (inClass strict isAlphaDigit (slice b c s)) refl refl refl e
+  where
+    h : ℕ
+    h = getD s at 0
+
+    a : ℕ
+    a = at + 1
+
+    b : ℕ
+    b = at + 1 + identifierSize (getD s at 0)
+
+    c : ℕ
+    c = at + 1 + identifierSize (getD s at 0) + valueSize (getD s at 0)
+
+    whole : PairAt
+    whole = record { pair = record { identifier = slice a b s; value = slice b c s }; more = leb 128 h; end = c }
+
+    go : (t1 t2 t3 t4 t5 t6 : Bool) → eqb (identifierSize h) 0 ≡ t1 → eqb (valueSize h) 0 ≡ t2 → ltb (length s) c ≡ t4
+        → if t1 (refuses 11 a) (if t2 (refuses 12 a) (if t3 (refuses 13 a) (if t4 (refuses 13 b)
+        (if t5 (if t6 (gives whole) (refuses 15 c)) (refuses 14 c))))) ≡ gives p
+        → PairIn s h at p
+    go true t2 t3 t4 t5 t6 x y z q = zero-one (cc)
+    go false true t3 t4 t5 t6 x y z q = zero-one (cc)
+    go false false true t4 t5 t6 x y z q = zero-one (cc)
+    go false false false true t5 t6 x y z q = zero-one (cc)
+    go false false false false false t6 x y z q = zero-one (cc)
+    go false false false false true false x y z q = zero-one (cc)
+    go false false false false true true x y z q =
+        let i = eqb-false (identifierSize h) 0 x in
+        let v = eqb-false (valueSize h) 0 y in
+        let w = ltb-false (length s) c z in
+        let is : whole ≡ p = cc in
+        subst (PairIn s h at) is
+        (record {
+          identifier-is = refl;
+          value-is = refl;
+          end-is = refl;
+          within = w;
+          identifier-some = omega arith;
+          value-some = omega arith;
+        })

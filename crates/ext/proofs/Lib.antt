@@ -1,0 +1,4 @@
+pub mod Faults
+pub mod Extent
+pub mod Pairs
+pub mod Continuation
