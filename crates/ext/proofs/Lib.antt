@@ -2,3 +2,4 @@ pub mod Faults
 pub mod Extent
 pub mod Pairs
 pub mod Continuation
+pub mod Bounds
