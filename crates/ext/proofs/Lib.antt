@@ -3,3 +3,4 @@ pub mod Extent
 pub mod Pairs
 pub mod Continuation
 pub mod Bounds
+pub mod Prefix
