@@ -12,6 +12,7 @@ use Rattle.laws.proofs.Tests.{zero-one}
 use Rattle.ext.specs.Kinds.{Pair, Fields, none, bitfield, reserved, pairs}
 use Rattle.ext.specs.Classes.{all, isAlphaDigit}
 use Rattle.ext.specs.Read.{PairAt, readOctets, readOctet, readPair, readPairs, readFields}
+use Rattle.ext.proofs.Answers.{map-gives, bind-gives}
 use Rattle.ext.proofs.Extent.{PairIn, pair-in}
 use Rattle.ext.proofs.Continuation.{pairCount}
 
@@ -22,14 +23,6 @@ pub record Bounds (follow : Bool) (s : List ℕ) (at : ℕ) (f : Fields) (end : 
   pub pairs-most : pairCount f ≤ 1366
   pub empty : follow ≡ false → end ≡ at
   pub within : follow ≡ true → end ≤ length s
-
-map-gives : {A B : Type 0} (f : A → B) (x : Answer A) (b : B) → map f x ≡ gives b → (a : A) × (x ≡ gives a) × (f a ≡ b)
-map-gives f (gives a) b e = (a, refl, cc)
-map-gives f (refuses c o) b e = zero-one (cc)
-
-bind-gives : {A B : Type 0} (f : A → Answer B) (x : Answer A) (b : B) → bind x f ≡ gives b → (a : A) × (x ≡ gives a) × (f a ≡ gives b)
-bind-gives f (gives a) b e = (a, refl, e)
-bind-gives f (refuses c o) b e = zero-one (cc)
 
 octets-bound : (τ : List ℕ) (start at : ℕ) (r : List ℕ × ℕ) → readOctets τ start at ≡ gives r → (at < r .1) × (r .1 ≤ start + 4096) × (r .1 ≤ at + length τ)
 unfolding readOctets

@@ -14,16 +14,13 @@ use Rattle.ext.specs.Kinds.{Pair, Fields, bitfield, reserved, pairs}
 use Rattle.ext.specs.Find.{pairsIn}
 use Rattle.ext.specs.Read.{PairAt, readOctets, readOctet, readPair, readPairs, readFields}
 use Rattle.ext.specs.Bytewise.{octets, octet, pairsFrom, fieldsFrom}
+use Rattle.ext.proofs.Answers.{bind-map}
 use Rattle.ext.proofs.Extent.{PairIn, pair-in}
 use Rattle.ext.proofs.Pairs.{afterPair, pairs-end, pairs-over, pairs-pair}
 
 -- how many pairs there are
 abbrev pub pairCount : Fields → ℕ
 pairCount f = length (pairsIn f)
-
-pub bind-map : {A B C : Type 0} (x : Answer A) (f : A → B) (g : B → Answer C) → bind (map f x) g ≡ bind x (λ a. g (f a))
-bind-map (gives a) f g = refl
-bind-map (refuses c o) f g = refl
 
 module _ {A : Type 0} (s : List ℕ) (k : ℕ → ℕ → List ℕ → Answer A) where
   pub octets-in : (τ : List ℕ) (start at : ℕ) → τ ≡ drop at s

@@ -1,18 +1,20 @@
 -- Where the parts of a pair stand that was read.
 use Prim.Native.Nat.{ℕ, _+_, _/_, _%_, _<_, _≤_}
-use mathlib.Core.Path.{_≡_, refl, subst}
+use mathlib.Core.Path.{_≡_, refl, sym, ap, subst}
 use mathlib.Core.List.{List}
 use mathlib.Core.Bool.{Bool, true, false}
 use native.Mathlib.Omega.{arith}
-use borrow.Author.Tests.{ltb-false, eqb-false}
+use borrow.Author.Tests.{ltb-false, le-ltb, eqb-false, ne-eqb}
 use lib.Dec.{ltb, leb, eqb}
 use lib.ListN.{length, getD}
 use lib.Seq.{slice}
 use Rattle.error.specs.Choice.{if}
-use Rattle.error.specs.Answer.{Answer, gives, refuses}
+use Rattle.error.specs.Answer.{Answer, gives, refuses, map}
 use Rattle.laws.proofs.Tests.{zero-one}
 use Rattle.ext.specs.Classes.{isChar, isAlphaDigit, inClass}
-use Rattle.ext.specs.Read.{PairAt, readPair}
+use Rattle.ext.specs.Read.{PairAt, readPair, classed}
+use Rattle.ext.specs.Steps.{pairStep}
+use Rattle.ext.proofs.Answers.{map-gives}
 
 -- the lengths in a pair's header byte
 abbrev pub identifierSize : ℕ → ℕ
@@ -20,6 +22,26 @@ identifierSize h = h / 16 % 8
 
 abbrev pub valueSize : ℕ → ℕ
 valueSize h = h % 16
+
+-- the pair whose header byte stands at `at`, where the file has all of it
+abbrev pub wholePair : List ℕ → ℕ → PairAt
+wholePair s at =
+    let h = getD s at 0 in
+    let b = at + 1 + identifierSize h in
+    let e = b + valueSize h in
+    record { pair = record { identifier = slice (at + 1) b s; value = slice b e s }; more = leb 128 h; end = e }
+
+pub pair-whole : (strict : Bool) (s : List ℕ) (at : ℕ)
+    → (identifierSize (getD s at 0) ≡ 0 → ⊥) → (valueSize (getD s at 0) ≡ 0 → ⊥) → wholePair s at .end ≤ length s
+    → readPair strict s at ≡ classed strict (wholePair s at)
+unfolding readPair
+pair-whole strict s at i v h =
+    simp (
+      ne-eqb (identifierSize (getD s at 0)) 0 i,
+      ne-eqb (valueSize (getD s at 0)) 0 v,
+      le-ltb (length s) (at + 1 + identifierSize (getD s at 0)) (omega arith),
+      le-ltb (length s) (wholePair s at .end) h,
+    )
 
 -- a pair of a file s, whose header byte h stands at `at`
 pub record PairIn (s : List ℕ) (h at : ℕ) (p : PairAt) : Type 0 where
@@ -46,14 +68,11 @@ pair-in strict s at p e =
     b = at + 1 + identifierSize (getD s at 0)
 
     c : ℕ
-    c = at + 1 + identifierSize (getD s at 0) + valueSize (getD s at 0)
-
-    whole : PairAt
-    whole = record { pair = record { identifier = slice a b s; value = slice b c s }; more = leb 128 h; end = c }
+    c = wholePair s at .end
 
     go : (t1 t2 t3 t4 t5 t6 : Bool) → eqb (identifierSize h) 0 ≡ t1 → eqb (valueSize h) 0 ≡ t2 → ltb (length s) c ≡ t4
         → if t1 (refuses 11 a) (if t2 (refuses 12 a) (if t3 (refuses 13 a) (if t4 (refuses 13 b)
-        (if t5 (if t6 (gives whole) (refuses 15 c)) (refuses 14 c))))) ≡ gives p
+        (if t5 (if t6 (gives (wholePair s at)) (refuses 15 c)) (refuses 14 c))))) ≡ gives p
         → PairIn s h at p
     go true t2 t3 t4 t5 t6 x y z q = zero-one (cc)
     go false true t3 t4 t5 t6 x y z q = zero-one (cc)
@@ -65,7 +84,7 @@ pair-in strict s at p e =
         let i = eqb-false (identifierSize h) 0 x in
         let v = eqb-false (valueSize h) 0 y in
         let w = ltb-false (length s) c z in
-        let is : whole ≡ p = cc in
+        let is : wholePair s at ≡ p = cc in
         subst (PairIn s h at) is
         (record {
           identifier-is = refl;
@@ -75,3 +94,11 @@ pair-in strict s at p e =
           identifier-some = omega arith;
           value-some = omega arith;
         })
+
+-- a pair takes bytes
+pub step-after : (strict : Bool) (s : List ℕ) (at : ℕ) (r : Bool × ℕ) → gives r ≡ map pairStep (readPair strict s at) → at < r .1
+step-after strict s at r e =
+    let m = map-gives pairStep (readPair strict s at) r (sym e) in
+    let i = pair-in strict s at (m .0) (m .1) in
+    let end : m .0 .end ≡ r .1 = ap (λ (x : Bool × ℕ). x .1) (m .2) in
+    omega arith

@@ -1,6 +1,12 @@
+pub mod Answers
+pub mod ClassOf
 pub mod Faults
 pub mod Extent
+pub mod Octets
 pub mod Pairs
 pub mod Continuation
 pub mod Bounds
 pub mod Prefix
+pub mod Spans
+pub mod Same
+pub mod Walk

@@ -1,6 +1,6 @@
 -- A pair byte by byte is the pair as it stands in the file.
 use Prim.Native.Nat.{ℕ, zero, suc, _+_, _-_, _/_, _%_, _<_, _≤_}
-use mathlib.Core.Path.{_≡_, _∙_, refl, ap}
+use mathlib.Core.Path.{_≡_, _∙_, refl, sym, ap}
 use mathlib.Core.List.{List, [], _∷_}
 use mathlib.Core.Bool.{Bool, true, false}
 use native.Mathlib.Omega.{arith}
@@ -9,11 +9,13 @@ use lib.Dec.{ltb, leb, eqb}
 use lib.ListN.{length, drop, take, getD, length-drop, drop-of-length-le}
 use lib.Seq.{slice, drop-drop}
 use Rattle.error.specs.Choice.{if}
-use Rattle.error.specs.Answer.{Answer, gives, refuses, bind}
+use Rattle.error.specs.Answer.{Answer, gives, refuses, bind, map}
 use Rattle.laws.proofs.Lists.{drop-at, take-slice}
 use Rattle.ext.specs.Classes.{isChar, isAlphaDigit, inClass}
 use Rattle.ext.specs.Read.{PairAt, readPair, pairParts, classed}
 use Rattle.ext.specs.Bytewise.{pairsFrom, identifierFrom, valueFrom, identifierFault, valueFault}
+use Rattle.ext.specs.Steps.{pairStep}
+use Rattle.ext.proofs.Answers.{bind-map}
 use Rattle.ext.proofs.Faults.{identifierFaults, valueFaults, pair-fault}
 
 module _ {A : Type 0} (strict : Bool) (start done : ℕ) (more : Bool) (k : ℕ → ℕ → List ℕ → Answer A) where
@@ -156,3 +158,8 @@ module _ {A : Type 0} (strict : Bool) (s : List ℕ) (start done : ℕ) (k : ℕ
         where
           pos : (n : ℕ) → (n ≡ 0 → ⊥) → 1 ≤ n
           pos n f = omega arith
+
+  -- the same by what the code's step answers
+  pub pairs-step : (at : ℕ) → at < length s → at < start + 4096
+      → pairsFrom (drop at s) strict start at done k ≡ bind (map pairStep (readPair strict s at)) (λ p. afterPair (p .0) (p .1))
+  pairs-step at h o = pairs-pair at h o ∙ sym (bind-map (readPair strict s at) pairStep (λ p. afterPair (p .0) (p .1)))

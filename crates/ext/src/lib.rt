@@ -1,5 +1,15 @@
 // Extension fields, WAP 4.4.1 to 4.4.3.
+ghost use mathlib.Core.Path.{_≡_};
+ghost use Prim.Native.Nat.{_<_};
+ghost use Rattle.ext.specs.Kinds.{kindNumber, SplitFix};
+
+mod classes;
+pub mod find;
+mod read;
+
 use error::WbmpError;
+pub use read::parse_ext_fields;
+pub use read::parse_ext_fields_strict;
 
 // The kind of the fields: bits 6-5 of the FixHeader byte.
 pub enum ExtFieldType {
@@ -16,6 +26,33 @@ pub struct FixHeaderField {
     pub ext_type: ExtFieldType,
 }
 
+impl ExtFieldType {
+    fn from_bits(bits65: u8) -> ExtFieldType
+        requires { ⌜ bits65 < 4 ⌝ }
+        ensures { λ r. ⌜ kindNumber r ≡ bits65 ⌝ }
+    {
+        match bits65 {
+            0 => ExtFieldType::Bitfield00,
+            1 => ExtFieldType::Reserved01,
+            2 => ExtFieldType::Reserved10,
+            _ => ExtFieldType::ParameterPairs11,
+        }
+    }
+}
+
+impl FixHeaderField {
+    pub fn from_byte(raw: u8) -> FixHeaderField
+        ensures { λ r. ⌜ SplitFix raw r ⌝ }
+    {
+        let ext_type = ExtFieldType::from_bits(raw / 32 % 4);
+        FixHeaderField {
+            raw,
+            ext_fields_follow: 128 <= raw,
+            ext_type,
+        }
+    }
+}
+
 // Fields of an input: their kind, where they start, how many bytes they are, and how many pairs (0 unless the kind is 11).
 pub struct ExtFields {
     pub ext_type: ExtFieldType,
@@ -29,6 +66,18 @@ pub enum ExtRead {
     Absent,
     Fields(ExtFields),
     Refused(WbmpError),
+}
+
+// What reading one pair answers: whether one more follows and the offset after it, or a refusal.
+enum PairRead {
+    Pair { more: bool, end: usize },
+    Refused(WbmpError),
+}
+
+// A strict class of WAP 4.4.3, from RFC 2234 6.1.
+enum Class {
+    Char,
+    AlphaDigit,
 }
 
 // The lengths of a pair to be written.

@@ -1,0 +1,217 @@
+-- Walking over the pairs of fields that were read, in search of an identifier.
+use Prim.Native.Nat.{ℕ, zero, suc, _+_, _-_, _<_, _≤_}
+use mathlib.Core.Path.{_≡_, _∙_, refl, sym, ap, subst}
+use mathlib.Core.List.{List, [], _∷_}
+use mathlib.Core.Bool.{Bool, true, false}
+use native.Mathlib.Omega.{arith}
+use lib.Dec.{leb, eqb}
+use lib.ListN.{length, getD, drop}
+use lib.Seq.{slice, length-slice}
+use Rattle.error.specs.Answer.{Answer, gives, refuses, bind, map}
+use Rattle.laws.proofs.Tests.{zero-one}
+use Rattle.ext.specs.Kinds.{Pair, Fields, none, bitfield, reserved, pairs, absent, spanOf, fieldsSpan, meaning}
+use Rattle.ext.specs.Read.{PairAt, readOctets, readOctet, readPair, readPairs, readFields}
+use Rattle.ext.specs.Find.{pairsIn, pairAt, pairSize, valueStart, Carries, Finds, Looked}
+use Rattle.ext.specs.declared.ExtFields.{ExtFields}
+use Rattle.ext.specs.declared.ExtRead.{ExtRead}
+use Rattle.ext.specs.declared.ExtRead.the-variants.{Absent}
+use Rattle.ext.specs.declared.Lookup.{Lookup}
+use Rattle.ext.specs.declared.Lookup.the-variants.{Nothing, Value}
+use Rattle.ext.proofs.Answers.{map-gives, bind-gives}
+use Rattle.ext.proofs.Extent.{identifierSize, valueSize, PairIn, pair-in}
+
+-- pairs stand in a file s from an offset on
+abbrev pub Stands : List ℕ → ℕ → List Pair → Type 0
+Stands s at [] = Unit {0}
+Stands s at (p ∷ ps) = (x : PairAt) × PairIn s (getD s at 0) at x × (x .pair ≡ p) × Stands s (x .end) ps
+
+stands-pairs : (most : ℕ) (strict : Bool) (s : List ℕ) (start at : ℕ) (r : List Pair × ℕ) → readPairs most strict s start at ≡ gives r → Stands s at (r .0)
+unfolding readPairs
+stands-pairs zero strict s start at r e = zero-one (cc)
+stands-pairs (suc most) strict s start at r e = go (leb (length s) at) (leb (start + 4096) at) e (stands-pairs most strict s start)
+  where
+    after : PairAt → Answer (List Pair × ℕ)
+    after p =
+        elim (p .more) [
+          | true ↦ map (λ r. (p .pair ∷ r .0, r .1)) (readPairs most strict s start (p .end))
+          | false ↦ gives (p .pair ∷ [], p .end)
+        ]
+
+    go : (t u : Bool)
+        → (elim t as (λ x. Answer (List Pair × ℕ)) [
+          | true ↦ refuses 9 at
+          | false ↦ elim u as (λ x. Answer (List Pair × ℕ)) [ true ↦ refuses 10 at | false ↦ bind (readPair strict s at) after ]
+        ]) ≡ gives r
+        → ((end : ℕ) (r : List Pair × ℕ) → readPairs most strict s start end ≡ gives r → Stands s end (r .0))
+        → Stands s at (r .0)
+    go true u q ih = zero-one (cc)
+    go false true q ih = zero-one (cc)
+    go false false q ih =
+        let b = bind-gives after (readPair strict s at) r q in
+        one (b .0) (pair-in strict s at (b .0) (b .1)) (b .0 .more) (b .2)
+      where
+        one : (x : PairAt) → PairIn s (getD s at 0) at x → (t : Bool)
+            → (elim t as (λ x. Answer (List Pair × ℕ)) [
+              | true ↦ map (λ r. (x .pair ∷ r .0, r .1)) (readPairs most strict s start (x .end))
+              | false ↦ gives (x .pair ∷ [], x .end)
+            ]) ≡ gives r
+            → Stands s at (r .0)
+        one x i true e =
+            let m = map-gives _ (readPairs most strict s start (x .end)) r e in
+            subst (λ (r : List Pair × ℕ). Stands s at (r .0)) (m .2) (x, i, refl, ih (x .end) (m .0) (m .1))
+        one x i false e =
+            let is : (x .pair ∷ [], x .end) ≡ r = cc in
+            subst (λ (r : List Pair × ℕ). Stands s at (r .0)) is (x, i, refl, tt)
+
+pub stands-fields : (strict follow : Bool) (kind : ℕ) (s : List ℕ) (at : ℕ) (r : Fields × ℕ) → readFields strict follow kind s at ≡ gives r
+    → Stands s at (pairsIn (r .0))
+unfolding readFields
+stands-fields strict false kind s at r e =
+    let is : (none, at) ≡ r = cc in
+    subst (λ (r : Fields × ℕ). Stands s at (pairsIn (r .0))) is tt
+stands-fields strict true kind s at r e = go (eqb kind 0) (eqb kind 3) e
+  where
+    is : (f : Fields) (end : ℕ) → (f, end) ≡ r → Stands s at (pairsIn f) → Stands s at (pairsIn (r .0))
+    is f end p = subst (λ (r : Fields × ℕ). Stands s at (pairsIn (r .0))) p
+
+    go : (t u : Bool)
+        → (elim t as (λ x. Answer (Fields × ℕ)) [
+          | true ↦ map (λ r. (bitfield (r .0), r .1)) (readOctets (drop at s) at at)
+          | false ↦
+              elim u as (λ x. Answer (Fields × ℕ)) [
+                | true ↦ map (λ r. (pairs (r .0), r .1)) (readPairs (suc (length s)) strict s at at)
+                | false ↦ map (λ r. (reserved kind (r .0), r .1)) (readOctet (drop at s) at)
+              ]
+        ]) ≡ gives r
+        → Stands s at (pairsIn (r .0))
+    go true u q = let m = map-gives _ (readOctets (drop at s) at at) r q in is _ _ (m .2) tt
+    go false true q =
+        let m = map-gives _ (readPairs (suc (length s)) strict s at at) r q in
+        is _ _ (m .2) (stands-pairs (suc (length s)) strict s at at (m .0) (m .1))
+    go false false q = let m = map-gives _ (readOctet (drop at s) at) r q in is _ _ (m .2) tt
+
+-- the sizes of a pair that was read
+sizes : (s : List ℕ) (h at : ℕ) (x : PairAt) → PairIn s h at x
+    → (length (x .pair .identifier) ≡ identifierSize h) × (length (x .pair .value) ≡ valueSize h)
+sizes s h at x i =
+    let m = i .end-is in
+    let w = i .within in
+    let a = ap length (i .identifier-is) ∙ length-slice (at + 1) (at + 1 + identifierSize h) s (omega arith) in
+    let b = ap length (i .value-is) ∙ length-slice (at + 1 + identifierSize h) (at + 1 + identifierSize h + valueSize h) s (omega arith) in
+    (omega arith, omega arith)
+
+finds-here : (at : ℕ) (p : Pair) (ps : List Pair) (identifier : List ℕ) (from len : ℕ) → p .identifier ≡ identifier
+    → from ≡ at + 1 + length (p .identifier) → len ≡ length (p .value) → Finds at (p ∷ ps) identifier (Value from len)
+unfolding valueStart
+finds-here at p ps identifier from len e f n = (0, record { below = omega arith; same = e; starts = f; long = n })
+
+finds-next : (at end : ℕ) (p : Pair) (ps : List Pair) (identifier : List ℕ) (r : Lookup) → (p .identifier ≡ identifier → ⊥) → end ≡ at + pairSize p
+    → Finds end ps identifier r → Finds at (p ∷ ps) identifier r
+unfolding valueStart
+finds-next at end p ps identifier Nothing other e f = none-more
+  where
+    none-more : (i : ℕ) → i < length (p ∷ ps) → pairAt (p ∷ ps) i .identifier ≡ identifier → ⊥
+    none-more zero h same = other same
+    none-more (suc i) h same = f i (omega arith) same
+finds-next at end p ps identifier (Value from len) other e (i, c) =
+    let b = c .below in (
+      suc i,
+      record {
+        below = omega arith;
+        same = c .same;
+        starts = c .starts ∙ ap (λ (n : ℕ). valueStart n ps i) e;
+        long = c .long;
+      },
+    )
+finds-next at end p ps identifier (Lookup.Refused e′) other e f = f
+
+-- The walk has come to an offset and has pairs left there; what it finds among them it finds among all of `ps`.
+pub record Rest (s identifier : List ℕ) (start : ℕ) (ps : List Pair) (at left : ℕ) : Type 0 where
+  pub rest : List Pair
+  pub count : length rest ≡ left
+  pub stands : Stands s at rest
+  pub enough : (r : Lookup) → Finds at rest identifier r → Finds start ps identifier r
+
+-- the next pair of the walk, its header byte h
+pub record Next (s identifier : List ℕ) (start : ℕ) (ps : List Pair) (h at left : ℕ) : Type 0 where
+  pub within : at + 1 + identifierSize h + valueSize h ≤ length s
+  pub found : slice (at + 1) (at + 1 + identifierSize h) s ≡ identifier → Finds start ps identifier (Value (at + 1 + identifierSize h) (valueSize h))
+  pub other : (slice (at + 1) (at + 1 + identifierSize h) s ≡ identifier → ⊥)
+      → Rest s identifier start ps (at + 1 + identifierSize h + valueSize h) (left - 1)
+
+pub walk-next : (s identifier : List ℕ) (start : ℕ) (ps : List Pair) (at left : ℕ) → 0 < left → Rest s identifier start ps at left
+    → Next s identifier start ps (getD s at 0) at left
+walk-next s identifier start ps at left h r = go (r .rest) (r .count) (r .stands) (r .enough)
+  where
+    b : ℕ
+    b = getD s at 0
+
+    value : ℕ
+    value = at + 1 + identifierSize (getD s at 0)
+
+    go : (rest : List Pair) → length rest ≡ left → Stands s at rest → ((r : Lookup) → Finds at rest identifier r → Finds start ps identifier r)
+        → Next s identifier start ps (getD s at 0) at left
+    go [] n stands enough = let f : ⊥ = omega arith in absurd f
+    go (p ∷ rest) n (x, i, e, stands) enough =
+        let z = sizes s b at x i in
+        let is : length (p .identifier) ≡ identifierSize b = ap (λ (p : Pair). length (p .identifier)) (sym e) ∙ z .0 in
+        let vs : length (p .value) ≡ valueSize b = ap (λ (p : Pair). length (p .value)) (sym e) ∙ z .1 in
+        let name : p .identifier ≡ slice (at + 1) (at + 1 + identifierSize b) s = ap (λ (p : Pair). p .identifier) (sym e) ∙ i .identifier-is in
+        let m = i .end-is in
+        let w = i .within in
+        record {
+          within = omega arith;
+          found = λ q. enough (Value value (valueSize b)) (finds-here at p rest identifier value (valueSize b) (name ∙ q) (omega arith) (omega arith));
+          other = λ q. record {
+            rest = rest;
+            count = omega arith;
+            stands = subst (λ (n : ℕ). Stands s n rest) m stands;
+            enough = λ r f. enough r (finds-next at (value + valueSize b) p rest identifier r (λ g. q (sym name ∙ g)) (omega arith) f);
+          };
+        }
+
+pub walk-end : (s identifier : List ℕ) (start : ℕ) (ps : List Pair) (at left : ℕ) → left ≤ 0 → Rest s identifier start ps at left
+    → Finds start ps identifier Nothing
+walk-end s identifier start ps at left h r = go (r .rest) (r .count) (r .enough)
+  where
+    go : (rest : List Pair) → length rest ≡ left → ((r : Lookup) → Finds at rest identifier r → Finds start ps identifier r)
+        → Finds start ps identifier Nothing
+    go [] n enough = enough Nothing (λ i b e. let f : ⊥ = omega arith in f)
+    go (p ∷ rest) n enough = let f : ⊥ = omega arith in absurd f
+
+-- What the code's reading of the fields says for the search: an answer at once, or the pairs to walk over.
+abbrev pub Begins : Answer (Fields × ℕ) → List ℕ → ℕ → List ℕ → ExtRead → Type 0
+Begins x s start identifier Absent = Looked x start identifier Nothing
+Begins x s start identifier (ExtRead.Refused e) = Looked x start identifier (Lookup.Refused e)
+Begins x s start identifier (ExtRead.Fields f) =
+    (ps : List Pair) × Rest s identifier start ps start (f .pairs) × ((r : Lookup) → Finds start ps identifier r → Looked x start identifier r)
+
+no-pairs : (start end : ℕ) (f : Fields) → gives absent ≡ gives (spanOf start (f, end)) → pairsIn f ≡ []
+no-pairs start end none e = refl
+no-pairs start end (bitfield octets) e = refl
+no-pairs start end (reserved kind octet) e = refl
+no-pairs start end (pairs ps) e = zero-one (cc)
+
+count-pairs : (start end : ℕ) (f : Fields) (x : ExtFields) → gives (fieldsSpan x) ≡ gives (spanOf start (f, end)) → length (pairsIn f) ≡ x .pairs
+count-pairs start end none x e = zero-one (cc)
+count-pairs start end (bitfield octets) x e = cc
+count-pairs start end (reserved kind octet) x e = cc
+count-pairs start end (pairs ps) x e = cc
+
+pub begins : (x : Answer (Fields × ℕ)) (s : List ℕ) (start : ℕ) (identifier : List ℕ) (r : ExtRead)
+    → ((f : Fields × ℕ) → x ≡ gives f → Stands s start (pairsIn (f .0)))
+    → meaning r ≡ map (spanOf start) x → Begins x s start identifier r
+begins (gives f) s start identifier Absent stands e =
+    subst (λ (ps : List Pair). Finds start ps identifier Nothing) (sym (no-pairs start (f .1) (f .0) e)) (λ i b q. let f : ⊥ = omega arith in f)
+begins (gives f) s start identifier (ExtRead.Refused e′) stands e = zero-one (cc)
+begins (gives f) s start identifier (ExtRead.Fields x) stands e = (
+  pairsIn (f .0),
+  record { rest = pairsIn (f .0); count = count-pairs start (f .1) (f .0) x e; stands = stands f refl; enough = λ r q. q },
+  λ r q. q,
+)
+begins (refuses code offset) s start identifier Absent stands e = zero-one (cc)
+begins (refuses code offset) s start identifier (ExtRead.Refused e′) stands e =
+    let c : e′ .code ≡ code = cc in
+    let o : e′ .offset ≡ offset = cc in
+    rw (c, o)
+begins (refuses code offset) s start identifier (ExtRead.Fields x) stands e = zero-one (cc)
