@@ -3,3 +3,4 @@ pub mod Read
 pub mod Write
 pub mod Machine
 pub mod Represents
+pub mod Pieces

@@ -1,0 +1,6 @@
+pub mod Machine
+pub mod Integers
+pub mod Keeps
+pub mod Taken
+pub mod Ends
+pub mod Meets
