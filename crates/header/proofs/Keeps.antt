@@ -16,7 +16,7 @@ use Rattle.header.specs.Settings.{Settings}
 use Rattle.header.specs.Machine.{State, inType, atFix, inOctets, atOctet, atPair, inIdentifier, inValue, inWidth, inHeight, start, Step, more, done, refused, onByte, stepOf, steps}
 use Rattle.header.specs.Represents.{Sound}
 use Rattle.header.specs.Pieces.{onward}
-use Rattle.header.proofs.Integers.{goes-below, wrong-code}
+use Rattle.header.proofs.IntegerByte.{goes-below, wrong-code}
 use Rattle.header.proofs.Machine.{steps-cons}
 
 -- a fault that waits is 14 or 15

@@ -1,5 +1,5 @@
 pub mod Machine
-pub mod Integers
+pub mod IntegerByte
 pub mod Keeps
 pub mod Taken
 pub mod Ends

@@ -3,4 +3,5 @@ pub mod Read
 pub mod Write
 pub mod Machine
 pub mod Represents
+pub mod Phase
 pub mod Pieces

@@ -8,9 +8,9 @@ use Rattle.error.specs.declared.WbmpError.{WbmpError}
 use Rattle.header.specs.Settings.{Settings, settings}
 use Rattle.header.specs.Read.{extSpan, parsed}
 use Rattle.header.specs.Machine.{State, inType, atFix, inOctets, atOctet, atPair, inIdentifier, inValue, inWidth, inHeight, Step, more, done, refused, stepOf, resume}
-use Rattle.header.specs.declared.Phase.{Phase}
-use Rattle.header.specs.declared.HeaderReader.{HeaderReader}
-use Rattle.header.specs.declared.HeaderStep.{HeaderStep}
+use Rattle.header.specs.declared.phase.Phase.{Phase}
+use Rattle.header.specs.declared.reader.HeaderReader.{HeaderReader}
+use Rattle.header.specs.declared.reader.HeaderStep.{HeaderStep}
 
 abbrev pub state : Phase → State
 state (Phase.InType at v n) = inType at v n

@@ -3,6 +3,15 @@ use error::WbmpError;
 use ext::ExtFieldType;
 use ext::ExtFields;
 
+mod faults;
+mod fields;
+mod integers;
+mod phase;
+mod reader;
+
+pub use reader::HeaderReader;
+pub use reader::HeaderStep;
+
 // What a header reader demands and honours. Each reader of the Rust is one choice of these.
 pub struct HeaderMode {
     // Integers do not start with 0x80.
@@ -38,80 +47,4 @@ pub enum HeaderRead {
 pub enum ExtPresence {
     Absent,
     Present(ExtFieldType),
-}
-
-// Where a reading stands between two bytes; `at` is how many it has taken.
-enum Phase {
-    InType {
-        at: usize,
-        value: u32,
-        count: u8,
-    },
-    AtFix {
-        at: usize,
-    },
-    InOctets {
-        fix: u8,
-        start: usize,
-        at: usize,
-    },
-    AtOctet {
-        fix: u8,
-        at: usize,
-    },
-    AtPair {
-        fix: u8,
-        start: usize,
-        at: usize,
-        pairs: usize,
-    },
-    InIdentifier {
-        fix: u8,
-        start: usize,
-        at: usize,
-        pairs: usize,
-        begun: usize,
-        left: u8,
-        size: u8,
-        more: bool,
-        fault: u8,
-    },
-    InValue {
-        fix: u8,
-        start: usize,
-        at: usize,
-        pairs: usize,
-        begun: usize,
-        left: u8,
-        more: bool,
-        fault: u8,
-    },
-    InWidth {
-        fix: u8,
-        fields: HeaderExt,
-        at: usize,
-        value: u32,
-        count: u8,
-    },
-    InHeight {
-        fix: u8,
-        fields: HeaderExt,
-        width: u32,
-        at: usize,
-        value: u32,
-        count: u8,
-    },
-}
-
-// A header reader that takes one byte at a time.
-pub struct HeaderReader {
-    mode: HeaderMode,
-    phase: Phase,
-}
-
-// What one byte does: the header goes on, ends, or is refused.
-pub enum HeaderStep {
-    More(HeaderReader),
-    Done(ParsedHeader),
-    Refused(WbmpError),
 }

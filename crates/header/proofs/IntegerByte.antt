@@ -1,6 +1,6 @@
 -- What one byte of an integer says of the bytes before it, and of its refusal.
 use Prim.Native.Nat.{ℕ, _+_, _*_, _%_, _<_}
-use mathlib.Core.Path.{_≡_, refl, subst}
+use mathlib.Core.Path.{_≡_, _∙_, refl, sym, ap, subst}
 use mathlib.Core.Bool.{Bool, true, false, _&&_}
 use native.Mathlib.Omega.{arith}
 use borrow.Author.Tests.{ltb-false}
@@ -8,7 +8,9 @@ use lib.Dec.{ltb, eqb}
 use Rattle.error.specs.Choice.{if}
 use Rattle.error.specs.Answer.{isEnd}
 use Rattle.laws.proofs.Tests.{zero-one}
-use Rattle.mbi.specs.Read.{ByteRead, goes, ends, wrong, readByte}
+use Rattle.mbi.specs.Read.{ByteRead, goes, ends, wrong, readByte, stepMeaning}
+use Rattle.mbi.specs.Step.{Stepped}
+use Rattle.mbi.specs.declared.MbiStep.{MbiStep}
 
 -- an integer that goes on has had fewer than seven bytes
 pub goes-below : (strict : Bool) (at v n b w : ℕ) → readByte strict at v n b ≡ goes w → n < 7
@@ -41,3 +43,8 @@ wrong-code strict at v n b code offset e =
     go false false true t4 q = is 3 (cc) refl
     go false false false true q = zero-one (cc)
     go false false false false q = zero-one (cc)
+
+-- what the code's step says of a byte, x being its case
+pub byte-is : {strict : Bool} {at v n b : ℕ} {r x : MbiStep} → Stepped strict at v n b r → r ≡ x → at < 8192
+    → readByte strict at v n b ≡ stepMeaning x
+byte-is s e h = sym (s .does (omega arith)) ∙ ap stepMeaning e

@@ -1,0 +1,31 @@
+use Rattle.ext.specs.Classes.{isAlphaDigit}
+use mathlib.Core.Bool.{or-false}
+use native.Mathlib.Omega.{arith}
+use borrow.Author.Tests.{lt-ltb, le-ltb, le-leb, lt-leb, eq-eqb, ne-eqb}
+use Rattle.header.proofs.faults.letter_or_digit.Statement.{statement}
+use Rattle.header.proofs.faults.letter_or_digit.Tie as tie
+use Rattle.header.proofs.faults.letter_or_digit.Reads as reads
+use Rattle.header.proofs.faults.letter_or_digit.Lts as lts
+
+returns : tie.Need-returns
+unfolding isAlphaDigit
+returns c = let b = c .before .args .byte in
+    simp (le-leb 48 b (omega arith), lt-leb b 57 (omega arith), le-leb 65 b (omega arith), lt-leb b 90 (omega arith), le-leb 97 b (omega arith))
+
+returns-2 : tie.Need-returns-2
+unfolding isAlphaDigit
+returns-2 c = let b = c .before .before .args .byte in
+    simp (le-leb 48 b (omega arith), lt-leb b 57 (omega arith), le-leb 65 b (omega arith), lt-leb 97 b (omega arith), or-false)
+
+returns-3 : tie.Need-returns-3
+unfolding isAlphaDigit
+returns-3 c = let b = c .before .before .before .args .byte in
+    simp (le-leb 48 b (omega arith), lt-leb 65 b (omega arith), lt-leb 97 b (omega arith), or-false)
+
+returns-4 : tie.Need-returns-4
+unfolding isAlphaDigit
+returns-4 c = let b = c .before .before .before .args .byte in
+    simp (lt-leb 48 b (omega arith), lt-leb 65 b (omega arith), lt-leb 97 b (omega arith))
+
+pub letter-or-digit-spec : {M : Type 1} → statement M
+letter-or-digit-spec = tie.close (tie.spec returns returns-2 returns-3 returns-4)

@@ -1,0 +1,32 @@
+use Rattle.ext.specs.Bytewise.{identifierFault, valueFault}
+use mathlib.Core.Path.{_≡_, _∙_, sym, ap, refl, subst}
+use borrow.Author.Tests.{lt-ltb, le-ltb, le-leb, lt-leb, eq-eqb, ne-eqb}
+use borrow.Author.Needs.{needs}
+use Rattle.header.proofs.faults.value_fault.Statement.{statement}
+use Rattle.header.proofs.faults.value_fault.Tie as tie
+use Rattle.header.proofs.faults.value_fault.Reads as reads
+use Rattle.header.proofs.faults.value_fault.Lts as lts
+use Rattle.header.proofs.faults.letter_or_digit.Reads as letter-or-digit-reads
+
+letter-or-digit-requires : tie.Need-letter-or-digit-requires
+letter-or-digit-requires c κs = search needs
+
+returns : tie.Need-returns
+unfolding valueFault
+returns c = simp (c .before .before .before .if1 .taken, eq-eqb _ _ (c .before .before .if2 .taken), sym (c .before .letter-or-digit .ensures) ∙ c .if3 .taken)
+
+returns-2 : tie.Need-returns-2
+unfolding valueFault
+returns-2 c = simp (c .before .before .before .if1 .taken, eq-eqb _ _ (c .before .before .if2 .taken), sym (c .before .letter-or-digit .ensures) ∙ c .if3 .left)
+
+returns-3 : tie.Need-returns-3
+unfolding valueFault
+returns-3 c = simp (c .before .if1 .taken, ne-eqb _ _ (c .if2 .left))
+
+returns-4 : tie.Need-returns-4
+unfolding valueFault
+returns-4 c = simp (c .if1 .left)
+
+pub value-fault-spec : {M : Type 1} → statement M
+value-fault-spec =
+    tie.close (tie.spec letter-or-digit-requires returns returns-2 returns-3 returns-4)

@@ -1,0 +1,1 @@
+// The FixHeader byte and the extension fields.

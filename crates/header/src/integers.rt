@@ -1,0 +1,127 @@
+// The integers of a header: type, width and height.
+use crate::HeaderExt;
+use crate::HeaderMode;
+use crate::ParsedHeader;
+use crate::phase::Phase;
+use crate::phase::PhaseStep;
+use error::TYPE_UNSUPPORTED;
+use error::WbmpError;
+use error::ZERO_DIMENSION;
+use mbi::MbiStep;
+use mbi::mbi_step;
+ghost use mathlib.Core.Path.{_≡_};
+ghost use mathlib.Core.Bool.{_||_};
+ghost use lib.Dec.{eqb};
+ghost use Rattle.error.specs.Choice.{if};
+ghost use Rattle.header.specs.Settings.{settings};
+ghost use Rattle.header.specs.Read.{extSpan};
+ghost use Rattle.header.specs.Machine.{inType, inWidth, inHeight, done, refused, stepOf};
+ghost use Rattle.header.specs.Phase.{moved, Bounded};
+
+pub fn in_type(mode: HeaderMode, at: usize, value: u32, count: u8, byte: u8) -> PhaseStep
+    requires { ⌜ Bounded (inType at value count) ⌝ }
+    ensures { λ r. ⌜ moved r ≡ stepOf (settings mode) (inType at value count) byte ⌝ }
+{
+    match mbi_step(mode.shortest, at, value, count, byte) {
+        MbiStep::Goes(v) => PhaseStep::More(Phase::InType {
+            at: at + 1,
+            value: v,
+            count: count + 1,
+        }),
+        MbiStep::Ends(v) => {
+            if v == 0 {
+                PhaseStep::More(Phase::AtFix { at: at + 1 })
+            } else {
+                PhaseStep::Refused(WbmpError {
+                    code: TYPE_UNSUPPORTED,
+                    offset: at + 1,
+                })
+            }
+        }
+        MbiStep::Refused(e) => PhaseStep::Refused(e),
+    }
+}
+
+pub fn in_width(
+    mode: HeaderMode,
+    fix: u8,
+    fields: HeaderExt,
+    at: usize,
+    value: u32,
+    count: u8,
+    byte: u8,
+) -> PhaseStep
+    requires { ⌜ Bounded (inWidth fix (extSpan fields) at value count) ⌝ }
+    ensures { λ r. ⌜ moved r ≡ stepOf (settings mode) (inWidth fix (extSpan fields) at value count) byte ⌝ }
+{
+    match mbi_step(mode.shortest, at, value, count, byte) {
+        MbiStep::Goes(v) => PhaseStep::More(Phase::InWidth {
+            fix,
+            fields,
+            at: at + 1,
+            value: v,
+            count: count + 1,
+        }),
+        MbiStep::Ends(v) => PhaseStep::More(Phase::InHeight {
+            fix,
+            fields,
+            width: v,
+            at: at + 1,
+            value: 0,
+            count: 0,
+        }),
+        MbiStep::Refused(e) => PhaseStep::Refused(e),
+    }
+}
+
+// The header's end, after both sizes.
+fn sized(fix: u8, fields: HeaderExt, width: u32, height: u32, body: usize) -> PhaseStep
+    ensures { λ r. ⌜ moved r ≡ if (eqb width 0 || eqb height 0) (refused 8 body) (done (record { width = width; height = height; fix = fix; fields = extSpan fields; body = body })) ⌝ }
+{
+    if width == 0 {
+        return PhaseStep::Refused(WbmpError {
+            code: ZERO_DIMENSION,
+            offset: body,
+        });
+    }
+    if height == 0 {
+        return PhaseStep::Refused(WbmpError {
+            code: ZERO_DIMENSION,
+            offset: body,
+        });
+    }
+    PhaseStep::Done(ParsedHeader {
+        width,
+        height,
+        data_offset: body,
+        fix_header: fix,
+        ext_fields: fields,
+    })
+}
+
+pub fn in_height(
+    mode: HeaderMode,
+    fix: u8,
+    fields: HeaderExt,
+    width: u32,
+    at: usize,
+    value: u32,
+    count: u8,
+    byte: u8,
+) -> PhaseStep
+    requires { ⌜ Bounded (inHeight fix (extSpan fields) width at value count) ⌝ }
+    ensures { λ r. ⌜ moved r ≡ stepOf (settings mode) (inHeight fix (extSpan fields) width at value count) byte ⌝ }
+{
+    match mbi_step(mode.shortest, at, value, count, byte) {
+        MbiStep::Goes(v) => PhaseStep::More(Phase::InHeight {
+            fix,
+            fields,
+            width,
+            at: at + 1,
+            value: v,
+            count: count + 1,
+        }),
+        MbiStep::Ends(v) => sized(fix, fields, width, v, at + 1),
+        MbiStep::Refused(e) => PhaseStep::Refused(e),
+    }
+}
