@@ -4,7 +4,7 @@ use mathlib.Core.Path.{_≡_}
 use mathlib.Core.Bool.{Bool, true}
 use Rattle.header.specs.Read.{extSpan, parsed}
 use Rattle.header.specs.Machine.{State, inType, atFix, inOctets, atOctet, atPair, inIdentifier, inValue, inWidth, inHeight, Step, more, done, refused}
-use Rattle.header.specs.Represents.{state, Sound}
+use Rattle.header.specs.Represents.{state}
 use Rattle.header.specs.declared.phase.PhaseStep.{PhaseStep}
 
 abbrev pub moved : PhaseStep → Step
@@ -12,14 +12,25 @@ moved (PhaseStep.More p) = more (state p)
 moved (PhaseStep.Done h) = done (parsed h)
 moved (PhaseStep.Refused e) = refused (e .code) (e .offset)
 
--- what keeps the sums of a step in range
+-- what keeps the sums of a step in range; readings stay far below
+abbrev pub IntegerBound : ℕ → ℕ → Type 0
+IntegerBound at count = (at < 8192) × (count < 8)
+
+abbrev pub FieldsBound : ℕ → ℕ → ℕ → Type 0
+FieldsBound start at pairs = (start ≤ at) × (at < 8192) × (pairs < 8192)
+
 abbrev pub Bounded : State → Type 0
-Bounded (inType at v n) = (at < 8192) × (n < 8)
+Bounded (inType at v n) = IntegerBound at n
 Bounded (atFix at) = at < 8192
-Bounded (inOctets fix start at) = (at < 8192) × (start ≤ at)
+Bounded (inOctets fix start at) = FieldsBound start at 0
 Bounded (atOctet fix at) = at < 8192
-Bounded (atPair fix start at pairs) = (at < 8192) × (start ≤ at)
-Bounded (inIdentifier fix start at pairs begun left size again fault) = at < 8192
-Bounded (inValue fix start at pairs begun left again fault) = (at < 8192) × (start ≤ at) × (pairs < 8192)
-Bounded (inWidth fix f at v n) = (at < 8192) × (n < 8)
-Bounded (inHeight fix f w at v n) = (at < 8192) × (n < 8)
+Bounded (atPair fix start at pairs) = FieldsBound start at pairs
+Bounded (inIdentifier fix start at pairs begun left size again fault) = FieldsBound start at pairs
+Bounded (inValue fix start at pairs begun left again fault) = FieldsBound start at pairs
+Bounded (inWidth fix f at v n) = IntegerBound at n
+Bounded (inHeight fix f w at v n) = IntegerBound at n
+
+-- r says whether P holds
+pub record Tells (P : Type 0) (r : Bool) : Type 0 where
+  pub yes : P → r ≡ true
+  pub holds : r ≡ true → P

@@ -38,7 +38,11 @@ pub fn value_fault(strict: bool, fault: u8, byte: u8) -> u8
 {
     if strict {
         if fault == 0 {
-            if letter_or_digit(byte) { fault } else { VALUE_CLASS }
+            if letter_or_digit(byte) {
+                fault
+            } else {
+                VALUE_CLASS
+            }
         } else {
             fault
         }

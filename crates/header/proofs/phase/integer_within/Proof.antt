@@ -1,0 +1,16 @@
+use Rattle.laws.proofs.Tests.{zero-one}
+use native.Mathlib.Omega.{arith}
+use borrow.Author.Tests.{lt-ltb, ltb-true, le-leb, leb-true}
+use Rattle.header.proofs.phase.integer_within.Statement.{statement}
+use Rattle.header.proofs.phase.integer_within.Tie as tie
+use Rattle.header.proofs.phase.integer_within.Reads as reads
+use Rattle.header.proofs.phase.integer_within.Lts as lts
+
+returns : tie.Need-returns
+returns c = record { yes = λ h. lt-ltb _ _ (h .1); holds = λ e. (omega arith, ltb-true _ _ e) }
+
+returns-2 : tie.Need-returns-2
+returns-2 c = record { yes = λ h. absurd (omega arith); holds = λ e. zero-one (cc) }
+
+pub integer-within-spec : {M : Type 1} → statement M
+integer-within-spec = tie.close (tie.spec returns returns-2)
