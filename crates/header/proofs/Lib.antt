@@ -4,3 +4,4 @@ pub mod Keeps
 pub mod Taken
 pub mod Ends
 pub mod Meets
+pub mod Represented

@@ -2,7 +2,11 @@
 use crate::HeaderMode;
 use crate::ParsedHeader;
 use crate::phase::Phase;
+use crate::phase::PhaseStep;
 use error::WbmpError;
+ghost use Rattle.header.specs.Settings.{settings};
+ghost use Rattle.header.specs.Machine.{start};
+ghost use Rattle.header.specs.Represents.{Represents, Stepped, Ended};
 
 pub struct HeaderReader {
     mode: HeaderMode,
@@ -14,4 +18,42 @@ pub enum HeaderStep {
     More(HeaderReader),
     Done(ParsedHeader),
     Refused(WbmpError),
+}
+
+impl HeaderReader {
+    pub fn new(mode: HeaderMode) -> HeaderReader
+        ensures { λ r. ⌜ Represents r (settings mode) start ⌝ }
+    {
+        let phase = Phase::InType {
+            at: 0,
+            value: 0,
+            count: 0,
+        };
+        HeaderReader { mode, phase }
+    }
+
+    // One byte more. A reader that no reading comes to stays as it is.
+    pub fn step(self, byte: u8) -> HeaderStep
+        ensures { λ r. ⌜ Stepped self byte r ⌝ }
+    {
+        let mode = self.mode;
+        let phase = self.phase;
+        if phase.within() {
+            match phase.step(mode, byte) {
+                PhaseStep::More(next) => HeaderStep::More(HeaderReader { mode, phase: next }),
+                PhaseStep::Done(header) => HeaderStep::Done(header),
+                PhaseStep::Refused(e) => HeaderStep::Refused(e),
+            }
+        } else {
+            HeaderStep::More(self)
+        }
+    }
+
+    // The input ends before the header does.
+    pub fn ended(self) -> WbmpError
+        ensures { λ r. ⌜ Ended self r ⌝ }
+    {
+        let phase = self.phase;
+        phase.ended()
+    }
 }

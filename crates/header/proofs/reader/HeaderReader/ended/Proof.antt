@@ -1,0 +1,16 @@
+use Rattle.header.proofs.Represented.{ended-at}
+use borrow.Author.Needs.{needs}
+use Rattle.header.proofs.reader.HeaderReader.ended.Statement.{statement}
+use Rattle.header.proofs.reader.HeaderReader.ended.Tie as tie
+use Rattle.header.proofs.reader.HeaderReader.ended.Reads as reads
+use Rattle.header.proofs.reader.HeaderReader.ended.Lts as lts
+use Rattle.header.proofs.phase.Phase.ended.Reads as ended-reads
+
+ended-requires : tie.Need-ended-requires
+ended-requires c κs = search needs
+
+returns : tie.Need-returns
+returns c = ended-at _ _ (c .ended .ensures)
+
+pub ended-spec : {M : Type 1} → statement M
+ended-spec = tie.close (tie.spec ended-requires returns)
