@@ -5,3 +5,4 @@ pub mod Taken
 pub mod Ends
 pub mod Meets
 pub mod Represented
+pub mod Pieces
