@@ -22,6 +22,9 @@ ghost use Rattle.header.specs.Settings.{Settings, settings};
 ghost use Rattle.header.specs.Machine.{atFix, inOctets, atOctet, atPair, inIdentifier, inValue, Step, refused, toWidth, toFields, found, stepOf};
 ghost use Rattle.header.specs.Phase.{moved, Bounded};
 
+// The octets or bytes of pairs after which no octet and no pair may start.
+const CEILING: usize = 4096;
+
 fn kind_of(fix: u8) -> ExtFieldType
     ensures { λ r. ⌜ kindNumber r ≡ kindBits fix ⌝ }
 {
@@ -116,7 +119,7 @@ pub fn in_octets(fix: u8, start: usize, at: usize, byte: u8) -> PhaseStep
     requires { ⌜ Bounded (inOctets fix start at) ⌝ }
     ensures { λ r. ⌜ ((o : Settings) → moved r ≡ stepOf o (inOctets fix start at) byte) ⌝ }
 {
-    if start + 4096 <= at {
+    if start + CEILING <= at {
         return PhaseStep::Refused(WbmpError {
             code: EXT_TOO_LONG,
             offset: at,
@@ -143,7 +146,7 @@ pub fn at_pair(fix: u8, start: usize, at: usize, pairs: usize, byte: u8) -> Phas
     requires { ⌜ Bounded (atPair fix start at pairs) ⌝ }
     ensures { λ r. ⌜ ((o : Settings) → moved r ≡ stepOf o (atPair fix start at pairs) byte) ⌝ }
 {
-    if start + 4096 <= at {
+    if start + CEILING <= at {
         return PhaseStep::Refused(WbmpError {
             code: EXT_TOO_LONG,
             offset: at,
