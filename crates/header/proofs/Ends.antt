@@ -1,16 +1,13 @@
 -- An input that ends before its header does, and the refusals that are met before that.
 use Prim.Native.Nat.{ℕ}
-use mathlib.Core.Path.{_≡_, _∙_, refl, sym, ap, subst}
-use mathlib.Core.Bool.{Bool, true, false}
-use mathlib.Core.List.{List, []}
-use Rattle.error.specs.Answer.{Answer, refuses, isEnd}
-use Rattle.laws.proofs.Tests.{zero-one}
+use mathlib.Core.Path.{_≡_, _∙_, refl, sym, subst}
+use mathlib.Core.Bool.{true}
+use mathlib.Core.List.{[]}
+use Rattle.error.specs.Answer.{refuses, isEnd}
 use Rattle.mbi.specs.Read.{integer}
 use Rattle.ext.specs.Bytewise.{octets, octet, pairsFrom}
 use Rattle.header.specs.Settings.{Settings}
-use Rattle.header.specs.Read.{Outline}
-use Rattle.header.specs.Machine.{State, inType, atFix, inOctets, atOctet, atPair, inIdentifier, inValue, inWidth, inHeight, start, Step, more, done, refused, fixFrom, resume, steps, after}
-use Rattle.header.proofs.Machine.{steps-all}
+use Rattle.header.specs.Machine.{State, inType, atFix, inOctets, atOctet, atPair, inIdentifier, inValue, inWidth, inHeight, fixFrom, resume}
 
 -- the code and the offset of an input that ends at a state
 abbrev pub endCode : State → ℕ

@@ -8,7 +8,7 @@ use lib.Dec.{ltb, eqb}
 use Rattle.error.specs.Choice.{if}
 use Rattle.error.specs.Answer.{isEnd}
 use Rattle.laws.proofs.Tests.{zero-one}
-use Rattle.mbi.specs.Read.{ByteRead, goes, ends, wrong, readByte, stepMeaning}
+use Rattle.mbi.specs.Read.{goes, ends, wrong, readByte, stepMeaning}
 use Rattle.mbi.specs.Step.{Stepped}
 use Rattle.mbi.specs.declared.MbiStep.{MbiStep}
 

@@ -6,3 +6,4 @@ pub mod Ends
 pub mod Meets
 pub mod Represented
 pub mod Pieces
+pub mod Direct

@@ -5,13 +5,13 @@ use mathlib.Core.Bool.{Bool, true, false, _&&_, _||_}
 use mathlib.Core.List.{List, [], _∷_, _++_, append-nil}
 use lib.Dec.{ltb, leb, eqb}
 use Rattle.error.specs.Choice.{if}
-use Rattle.error.specs.Answer.{Answer, gives, refuses}
+use Rattle.error.specs.Answer.{Answer}
 use Rattle.mbi.specs.Read.{ByteRead, goes, ends, wrong, readByte, integer, upon}
 use Rattle.ext.specs.Kinds.{fieldsFollow, kindBits}
 use Rattle.ext.specs.Bytewise.{octets, octet, pairsFrom, fieldsFrom, valueFault}
 use Rattle.header.specs.Settings.{Settings}
 use Rattle.header.specs.Read.{Outline}
-use Rattle.header.specs.Machine.{State, inType, atFix, inOctets, atOctet, atPair, inIdentifier, inValue, inWidth, inHeight, start, Step, more, done, refused, onByte, fixFrom, resume, stepOf, steps, after}
+use Rattle.header.specs.Machine.{State, inType, atFix, inOctets, atOctet, atPair, inIdentifier, inValue, inWidth, inHeight, Step, more, done, refused, onByte, fixFrom, resume, stepOf, steps, after}
 use Rattle.header.specs.Pieces.{onward}
 
 module _ (o : Settings) (τ : List ℕ) where

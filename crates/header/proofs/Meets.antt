@@ -1,15 +1,14 @@
 -- What a reading meets while bytes come is what it answers where they end, unless that is the refusal of an early end.
 use Prim.Native.Nat.{ℕ}
 use mathlib.Core.Path.{_≡_, _∙_, refl, sym, ap, subst}
-use mathlib.Core.Bool.{true, false}
+use mathlib.Core.Bool.{false}
 use mathlib.Core.List.{List, [], _∷_, _++_}
 use Rattle.error.specs.Answer.{gives, refuses, isEnd}
 use Rattle.laws.proofs.Tests.{zero-one}
 use Rattle.mbi.specs.Read.{readByte, integer}
 use Rattle.header.specs.Settings.{Settings, inner}
 use Rattle.header.specs.Read.{Outline}
-use Rattle.header.specs.Machine.{State, start, Step, more, done, refused, fixFrom, resume, steps, after}
-use Rattle.header.specs.Represents.{Sound}
+use Rattle.header.specs.Machine.{State, start, Step, more, done, refused, resume, steps, after}
 use Rattle.header.proofs.Machine.{steps-law, steps-all}
 use Rattle.header.proofs.Keeps.{SoundStep, sound-steps, sound-start}
 use Rattle.header.proofs.Ends.{end-is, end-short}

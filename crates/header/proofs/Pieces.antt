@@ -2,15 +2,15 @@
 use Prim.Native.Nat.{ℕ}
 use mathlib.Core.Path.{_≡_, _∙_, refl, sym, ap, subst⁻¹}
 use mathlib.Core.Bool.{false}
-use mathlib.Core.List.{List, [], _∷_, _++_}
-use Rattle.error.specs.Answer.{Answer, gives, refuses, refusal}
+use mathlib.Core.List.{List, [], _∷_}
+use Rattle.error.specs.Answer.{Answer, gives, map}
 use Rattle.error.specs.declared.WbmpError.{WbmpError}
 use Rattle.mbi.specs.Read.{readByte}
 use Rattle.ext.specs.Kinds.{absent}
 use Rattle.header.specs.Settings.{Settings, settings}
-use Rattle.header.specs.Read.{Outline, parsed}
+use Rattle.header.specs.Read.{Outline, outline, parsed, readHeader}
 use Rattle.header.specs.Machine.{State, start, Step, more, done, refused, stepOf, steps, after, resume}
-use Rattle.header.specs.Represents.{state, Represents, Answers, Stepped, Ended}
+use Rattle.header.specs.Represents.{state, Represents, Answers, Stepped}
 use Rattle.header.specs.Pieces.{join, onward, Fed, nothing, byte, last, bad, Run, closed, piece, whole, met}
 use Rattle.header.specs.Phase.{moved}
 use Rattle.header.specs.declared.HeaderMode.{HeaderMode}
@@ -23,6 +23,7 @@ use Rattle.header.specs.declared.reader.HeaderStep.{HeaderStep}
 use Rattle.header.proofs.Machine.{steps-cons, steps-law}
 use Rattle.header.proofs.Keeps.{sound-start}
 use Rattle.header.proofs.Represented.{asReader, stepped}
+use Rattle.header.proofs.Direct.{direct}
 
 module _ (o : Settings) where
   -- what a case of the code's step says of the definitions' step
@@ -68,13 +69,14 @@ module _ (o : Settings) where
       sym (steps-law o σ (join σs) st ∙ ap (λ (k : Step). after o k (join σs)) (refused-is (steps o st σ) (fed h f)))
 
   -- a reading in pieces is the reading of their join: outline, refusal and offset
-  pub pieces : {r : HeaderReader} {σs : List (List ℕ)} {a : Answer Outline} → Represents r o start → Run r σs a → a ≡ resume o start (join σs)
-  pieces h u = run-from h u
+  pub pieces : {r : HeaderReader} {σs : List (List ℕ)} {a : Answer Outline} → Represents r o start → Run r σs a
+      → a ≡ map outline (readHeader o (join σs))
+  pieces {σs = σs} h u = run-from h u ∙ sym (direct o (join σs))
 
   -- two cuts of the same bytes answer the same
   pub two-cuts : {r₁ r₂ : HeaderReader} {σs₁ σs₂ : List (List ℕ)} {a₁ a₂ : Answer Outline}
       → Represents r₁ o start → Represents r₂ o start → join σs₁ ≡ join σs₂ → Run r₁ σs₁ a₁ → Run r₂ σs₂ a₂ → a₁ ≡ a₂
-  two-cuts h₁ h₂ e u v = pieces h₁ u ∙ ap (resume o start) e ∙ sym (pieces h₂ v)
+  two-cuts h₁ h₂ e u v = run-from h₁ u ∙ ap (resume o start) e ∙ sym (run-from h₂ v)
 
 -- the card 00 00 09 02, cut as 00, nothing, 00 09, 02
 abbrev lenient : HeaderMode
@@ -103,5 +105,5 @@ cut-run =
     (whole (last (takes (Phase.InHeight 0 HeaderExt.Absent 9 3 0 0) 2
     (PhaseStep.Done (record { width = 9; height = 2; «data_offset» = 4; «fix_header» = 0; «ext_fields» = HeaderExt.Absent })) refl)))))
 
-cut-card : card ≡ resume (settings lenient) start (0 ∷ 0 ∷ 9 ∷ 2 ∷ [])
+cut-card : card ≡ map outline (readHeader (settings lenient) (0 ∷ 0 ∷ 9 ∷ 2 ∷ []))
 cut-card = pieces (settings lenient) (record { mode-is = refl; phase-is = refl; sound = sound-start }) cut-run

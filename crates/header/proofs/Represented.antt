@@ -1,7 +1,7 @@
 -- From what a phase does to what its reader promises.
 use Prim.Native.Nat.{ℕ}
 use mathlib.Core.Path.{_≡_, _∙_, refl, sym, ap, subst, subst⁻¹}
-use mathlib.Core.Bool.{Bool, true, false}
+use mathlib.Core.Bool.{Bool, false}
 use mathlib.Core.List.{[]}
 use native.Mathlib.Omega.{arith}
 use Rattle.error.specs.Answer.{refusal}
@@ -9,7 +9,7 @@ use Rattle.error.specs.declared.WbmpError.{WbmpError}
 use Rattle.laws.proofs.Tests.{zero-one}
 use Rattle.header.specs.Settings.{Settings, settings}
 use Rattle.header.specs.Machine.{State, inType, atFix, inOctets, atOctet, atPair, inIdentifier, inValue, inWidth, inHeight, Step, stepOf, resume}
-use Rattle.header.specs.Represents.{state, Sound, Represents, Answers, Stepped, Ended}
+use Rattle.header.specs.Represents.{state, Sound, Answers, Stepped, Ended}
 use Rattle.header.specs.Phase.{moved, Bounded, Tells}
 use Rattle.header.specs.declared.HeaderMode.{HeaderMode}
 use Rattle.header.specs.declared.phase.PhaseStep.{PhaseStep}

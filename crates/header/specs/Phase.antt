@@ -2,7 +2,7 @@
 use Prim.Native.Nat.{ℕ, _≤_, _<_}
 use mathlib.Core.Path.{_≡_}
 use mathlib.Core.Bool.{Bool, true}
-use Rattle.header.specs.Read.{extSpan, parsed}
+use Rattle.header.specs.Read.{parsed}
 use Rattle.header.specs.Machine.{State, inType, atFix, inOctets, atOctet, atPair, inIdentifier, inValue, inWidth, inHeight, Step, more, done, refused}
 use Rattle.header.specs.Represents.{state}
 use Rattle.header.specs.declared.phase.PhaseStep.{PhaseStep}

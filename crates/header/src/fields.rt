@@ -10,14 +10,14 @@ use error::FIX_HEADER_NOT_ZERO;
 use error::IDENTIFIER_LENGTH;
 use error::VALUE_LENGTH;
 use error::WbmpError;
-use ext::ExtFieldType;
 use ext::ExtFields;
+use ext::FixHeaderField;
 ghost use mathlib.Core.Path.{_≡_};
 ghost use mathlib.Core.Bool.{_&&_};
 ghost use Prim.Native.Nat.{_≤_};
 ghost use lib.Dec.{eqb};
 ghost use Rattle.error.specs.Choice.{if};
-ghost use Rattle.ext.specs.Kinds.{absent, kindNumber, kindBits, fieldsFollow};
+ghost use Rattle.ext.specs.Kinds.{absent, fieldsFollow};
 ghost use Rattle.header.specs.Settings.{Settings, settings};
 ghost use Rattle.header.specs.Machine.{atFix, inOctets, atOctet, atPair, inIdentifier, inValue, Step, refused, toWidth, toFields, found, stepOf};
 ghost use Rattle.header.specs.Phase.{moved, Bounded};
@@ -25,28 +25,13 @@ ghost use Rattle.header.specs.Phase.{moved, Bounded};
 // The octets or bytes of pairs after which no octet and no pair may start.
 const CEILING: usize = 4096;
 
-fn kind_of(fix: u8) -> ExtFieldType
-    ensures { λ r. ⌜ kindNumber r ≡ kindBits fix ⌝ }
-{
-    let kind = fix / 32 % 4;
-    if kind == 0 {
-        return ExtFieldType::Bitfield00;
-    }
-    if kind == 1 {
-        return ExtFieldType::Reserved01;
-    }
-    if kind == 2 {
-        return ExtFieldType::Reserved10;
-    }
-    ExtFieldType::ParameterPairs11
-}
-
 // The width comes next, after fields that stand from `start` to `end`.
 fn after_fields(fix: u8, start: usize, end: usize, pairs: usize) -> PhaseStep
     requires { ⌜ start ≤ end ⌝ }
     ensures { λ r. ⌜ moved r ≡ toWidth fix (found fix start end pairs) end ⌝ }
 {
-    let ext_type = kind_of(fix);
+    let fix_header = FixHeaderField::from_byte(fix);
+    let ext_type = fix_header.ext_type;
     let fields = HeaderExt::Fields(ExtFields {
         ext_type,
         start,

@@ -1,9 +1,7 @@
-use Rattle.ext.specs.Bytewise.{identifierFault, valueFault}
-use borrow.Author.Tests.{lt-ltb, le-ltb, le-leb, lt-leb, eq-eqb, ne-eqb}
+use Rattle.ext.specs.Bytewise.{identifierFault}
+use borrow.Author.Tests.{le-leb, lt-leb}
 use Rattle.header.proofs.faults.identifier_fault.Statement.{statement}
 use Rattle.header.proofs.faults.identifier_fault.Tie as tie
-use Rattle.header.proofs.faults.identifier_fault.Reads as reads
-use Rattle.header.proofs.faults.identifier_fault.Lts as lts
 
 returns : tie.Need-returns
 unfolding identifierFault

@@ -1,11 +1,9 @@
 use Rattle.ext.specs.Classes.{isAlphaDigit}
 use mathlib.Core.Bool.{or-false}
 use native.Mathlib.Omega.{arith}
-use borrow.Author.Tests.{lt-ltb, le-ltb, le-leb, lt-leb, eq-eqb, ne-eqb}
+use borrow.Author.Tests.{le-leb, lt-leb}
 use Rattle.header.proofs.faults.letter_or_digit.Statement.{statement}
 use Rattle.header.proofs.faults.letter_or_digit.Tie as tie
-use Rattle.header.proofs.faults.letter_or_digit.Reads as reads
-use Rattle.header.proofs.faults.letter_or_digit.Lts as lts
 
 returns : tie.Need-returns
 unfolding isAlphaDigit

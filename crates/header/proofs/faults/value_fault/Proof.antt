@@ -1,12 +1,9 @@
-use Rattle.ext.specs.Bytewise.{identifierFault, valueFault}
-use mathlib.Core.Path.{_≡_, _∙_, sym, ap, refl, subst}
-use borrow.Author.Tests.{lt-ltb, le-ltb, le-leb, lt-leb, eq-eqb, ne-eqb}
+use Rattle.ext.specs.Bytewise.{valueFault}
+use mathlib.Core.Path.{_∙_, sym}
+use borrow.Author.Tests.{eq-eqb, ne-eqb}
 use borrow.Author.Needs.{needs}
 use Rattle.header.proofs.faults.value_fault.Statement.{statement}
 use Rattle.header.proofs.faults.value_fault.Tie as tie
-use Rattle.header.proofs.faults.value_fault.Reads as reads
-use Rattle.header.proofs.faults.value_fault.Lts as lts
-use Rattle.header.proofs.faults.letter_or_digit.Reads as letter-or-digit-reads
 
 letter-or-digit-requires : tie.Need-letter-or-digit-requires
 letter-or-digit-requires c κs = search needs

@@ -1,10 +1,7 @@
-use borrow.Author.Tests.{lt-ltb, le-ltb, le-leb, lt-leb, eq-eqb, ne-eqb}
+use borrow.Author.Tests.{le-leb, lt-leb}
 use borrow.Author.Needs.{needs}
 use Rattle.header.proofs.fields.after_fix.Statement.{statement}
 use Rattle.header.proofs.fields.after_fix.Tie as tie
-use Rattle.header.proofs.fields.after_fix.Reads as reads
-use Rattle.header.proofs.fields.after_fix.Lts as lts
-use Rattle.header.proofs.fields.to_fields.Reads as to-fields-reads
 
 to-fields-requires : tie.Need-to-fields-requires
 to-fields-requires c κs = search needs

@@ -1,10 +1,7 @@
-use borrow.Author.Tests.{lt-ltb, le-ltb, le-leb, lt-leb, eq-eqb, ne-eqb}
+use borrow.Author.Tests.{eq-eqb, ne-eqb}
 use borrow.Author.Needs.{needs}
 use Rattle.header.proofs.fields.after_pair.Statement.{statement}
 use Rattle.header.proofs.fields.after_pair.Tie as tie
-use Rattle.header.proofs.fields.after_pair.Reads as reads
-use Rattle.header.proofs.fields.after_pair.Lts as lts
-use Rattle.header.proofs.fields.after_fields.Reads as after-fields-reads
 
 after-fields-requires : tie.Need-after-fields-requires
 after-fields-requires c κs = search needs

@@ -1,12 +1,9 @@
 use mathlib.Core.Logic.{⊎-elim}
 use Rattle.header.specs.Machine.{stepOf}
-use borrow.Author.Tests.{lt-ltb, le-ltb, le-leb, lt-leb, eq-eqb, ne-eqb}
+use borrow.Author.Tests.{lt-ltb, le-ltb}
 use borrow.Author.Needs.{needs}
 use Rattle.header.proofs.fields.at_fix.Statement.{statement}
 use Rattle.header.proofs.fields.at_fix.Tie as tie
-use Rattle.header.proofs.fields.at_fix.Reads as reads
-use Rattle.header.proofs.fields.at_fix.Lts as lts
-use Rattle.header.proofs.fields.after_fix.Reads as after-fix-reads
 
 returns : tie.Need-returns
 unfolding stepOf

@@ -2,9 +2,6 @@ use Rattle.header.specs.Machine.{stepOf}
 use borrow.Author.Needs.{needs}
 use Rattle.header.proofs.fields.at_octet.Statement.{statement}
 use Rattle.header.proofs.fields.at_octet.Tie as tie
-use Rattle.header.proofs.fields.at_octet.Reads as reads
-use Rattle.header.proofs.fields.at_octet.Lts as lts
-use Rattle.header.proofs.fields.after_fields.Reads as after-fields-reads
 
 add-after-fields : tie.Need-add-after-fields
 add-after-fields c = search needs

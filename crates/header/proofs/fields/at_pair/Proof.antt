@@ -1,10 +1,8 @@
 use Rattle.header.specs.Machine.{stepOf}
-use borrow.Author.Tests.{lt-ltb, le-ltb, le-leb, lt-leb, eq-eqb, ne-eqb}
+use borrow.Author.Tests.{le-leb, lt-leb, eq-eqb, ne-eqb}
 use borrow.Author.Needs.{needs}
 use Rattle.header.proofs.fields.at_pair.Statement.{statement}
 use Rattle.header.proofs.fields.at_pair.Tie as tie
-use Rattle.header.proofs.fields.at_pair.Reads as reads
-use Rattle.header.proofs.fields.at_pair.Lts as lts
 
 add-if1 : tie.Need-add-if1
 add-if1 c = search needs

@@ -1,11 +1,8 @@
 use Rattle.header.specs.Machine.{stepOf}
-use borrow.Author.Tests.{lt-ltb, le-ltb, le-leb, lt-leb, eq-eqb, ne-eqb}
+use borrow.Author.Tests.{lt-ltb, le-ltb}
 use borrow.Author.Needs.{needs}
 use Rattle.header.proofs.fields.in_identifier.Statement.{statement}
 use Rattle.header.proofs.fields.in_identifier.Tie as tie
-use Rattle.header.proofs.fields.in_identifier.Reads as reads
-use Rattle.header.proofs.fields.in_identifier.Lts as lts
-use Rattle.header.proofs.faults.identifier_fault.Reads as identifier-fault-reads
 
 identifier-fault-requires : tie.Need-identifier-fault-requires
 identifier-fault-requires c κs = search needs

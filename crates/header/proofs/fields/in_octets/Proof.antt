@@ -1,11 +1,8 @@
 use Rattle.header.specs.Machine.{stepOf}
-use borrow.Author.Tests.{lt-ltb, le-ltb, le-leb, lt-leb, eq-eqb, ne-eqb}
+use borrow.Author.Tests.{lt-ltb, le-ltb, le-leb, lt-leb}
 use borrow.Author.Needs.{needs}
 use Rattle.header.proofs.fields.in_octets.Statement.{statement}
 use Rattle.header.proofs.fields.in_octets.Tie as tie
-use Rattle.header.proofs.fields.in_octets.Reads as reads
-use Rattle.header.proofs.fields.in_octets.Lts as lts
-use Rattle.header.proofs.fields.after_fields.Reads as after-fields-reads
 
 add-if1 : tie.Need-add-if1
 add-if1 c = search needs

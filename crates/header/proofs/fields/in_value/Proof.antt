@@ -1,12 +1,8 @@
 use Rattle.header.specs.Machine.{stepOf}
-use borrow.Author.Tests.{lt-ltb, le-ltb, le-leb, lt-leb, eq-eqb, ne-eqb}
+use borrow.Author.Tests.{lt-ltb, le-ltb}
 use borrow.Author.Needs.{needs}
 use Rattle.header.proofs.fields.in_value.Statement.{statement}
 use Rattle.header.proofs.fields.in_value.Tie as tie
-use Rattle.header.proofs.fields.in_value.Reads as reads
-use Rattle.header.proofs.fields.in_value.Lts as lts
-use Rattle.header.proofs.faults.value_fault.Reads as value-fault-reads
-use Rattle.header.proofs.fields.after_pair.Reads as after-pair-reads
 
 value-fault-requires : tie.Need-value-fault-requires
 value-fault-requires c κs = search needs

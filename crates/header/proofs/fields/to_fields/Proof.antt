@@ -1,8 +1,6 @@
-use borrow.Author.Tests.{lt-ltb, le-ltb, le-leb, lt-leb, eq-eqb, ne-eqb}
+use borrow.Author.Tests.{eq-eqb, ne-eqb}
 use Rattle.header.proofs.fields.to_fields.Statement.{statement}
 use Rattle.header.proofs.fields.to_fields.Tie as tie
-use Rattle.header.proofs.fields.to_fields.Reads as reads
-use Rattle.header.proofs.fields.to_fields.Lts as lts
 
 returns : tie.Need-returns
 returns c = simp (eq-eqb _ _ (c .if1 .taken))

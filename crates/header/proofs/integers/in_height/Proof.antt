@@ -4,10 +4,6 @@ use native.Mathlib.Omega.{arith}
 use borrow.Author.Needs.{needs}
 use Rattle.header.proofs.integers.in_height.Statement.{statement}
 use Rattle.header.proofs.integers.in_height.Tie as tie
-use Rattle.header.proofs.integers.in_height.Reads as reads
-use Rattle.header.proofs.integers.in_height.Lts as lts
-use Rattle.header.proofs.integers.sized.Reads as sized-reads
-use Rattle.mbi.proofs.mbi_step.Reads as mbi-step-reads
 
 mbi-step-requires : tie.Need-mbi-step-requires
 mbi-step-requires c κs = search needs

@@ -1,13 +1,10 @@
 use Rattle.header.proofs.IntegerByte.{byte-is}
 use Rattle.header.specs.Machine.{stepOf}
 use native.Mathlib.Omega.{arith}
-use borrow.Author.Tests.{lt-ltb, le-ltb, le-leb, lt-leb, eq-eqb, ne-eqb}
+use borrow.Author.Tests.{eq-eqb, ne-eqb}
 use borrow.Author.Needs.{needs}
 use Rattle.header.proofs.integers.in_type.Statement.{statement}
 use Rattle.header.proofs.integers.in_type.Tie as tie
-use Rattle.header.proofs.integers.in_type.Reads as reads
-use Rattle.header.proofs.integers.in_type.Lts as lts
-use Rattle.mbi.proofs.mbi_step.Reads as mbi-step-reads
 
 mbi-step-requires : tie.Need-mbi-step-requires
 mbi-step-requires c κs = search needs

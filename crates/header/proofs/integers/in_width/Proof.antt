@@ -4,9 +4,6 @@ use native.Mathlib.Omega.{arith}
 use borrow.Author.Needs.{needs}
 use Rattle.header.proofs.integers.in_width.Statement.{statement}
 use Rattle.header.proofs.integers.in_width.Tie as tie
-use Rattle.header.proofs.integers.in_width.Reads as reads
-use Rattle.header.proofs.integers.in_width.Lts as lts
-use Rattle.mbi.proofs.mbi_step.Reads as mbi-step-reads
 
 mbi-step-requires : tie.Need-mbi-step-requires
 mbi-step-requires c κs = search needs

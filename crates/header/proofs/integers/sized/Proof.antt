@@ -1,8 +1,6 @@
-use borrow.Author.Tests.{lt-ltb, le-ltb, le-leb, lt-leb, eq-eqb, ne-eqb}
+use borrow.Author.Tests.{eq-eqb, ne-eqb}
 use Rattle.header.proofs.integers.sized.Statement.{statement}
 use Rattle.header.proofs.integers.sized.Tie as tie
-use Rattle.header.proofs.integers.sized.Reads as reads
-use Rattle.header.proofs.integers.sized.Lts as lts
 
 returns : tie.Need-returns
 returns c = simp (eq-eqb _ _ (c .if1 .taken))

@@ -1,10 +1,8 @@
 use Rattle.laws.proofs.Tests.{zero-one}
 use native.Mathlib.Omega.{arith}
-use borrow.Author.Tests.{lt-ltb, ltb-true, le-leb, leb-true}
+use borrow.Author.Tests.{le-leb, leb-true}
 use Rattle.header.proofs.phase.fields_within.Statement.{statement}
 use Rattle.header.proofs.phase.fields_within.Tie as tie
-use Rattle.header.proofs.phase.fields_within.Reads as reads
-use Rattle.header.proofs.phase.fields_within.Lts as lts
 
 returns : tie.Need-returns
 returns c = record { yes = λ h. le-leb _ _ (h .0); holds = λ e. (leb-true _ _ e, omega arith, omega arith) }

@@ -1,10 +1,8 @@
 use Rattle.laws.proofs.Tests.{zero-one}
 use native.Mathlib.Omega.{arith}
-use borrow.Author.Tests.{lt-ltb, ltb-true, le-leb, leb-true}
+use borrow.Author.Tests.{lt-ltb, ltb-true}
 use Rattle.header.proofs.phase.integer_within.Statement.{statement}
 use Rattle.header.proofs.phase.integer_within.Tie as tie
-use Rattle.header.proofs.phase.integer_within.Reads as reads
-use Rattle.header.proofs.phase.integer_within.Lts as lts
 
 returns : tie.Need-returns
 returns c = record { yes = λ h. lt-ltb _ _ (h .1); holds = λ e. (omega arith, ltb-true _ _ e) }

@@ -3,8 +3,6 @@ use mathlib.Core.Path.{sym}
 use borrow.Author.Needs.{needs}
 use Rattle.header.proofs.phase.Phase.ended.Statement.{statement}
 use Rattle.header.proofs.phase.Phase.ended.Tie as tie
-use Rattle.header.proofs.phase.Phase.ended.Reads as reads
-use Rattle.header.proofs.phase.Phase.ended.Lts as lts
 
 enum-known-self : tie.Need-enum-known-self
 enum-known-self c = search needs

@@ -5,17 +5,6 @@ use mathlib.Core.Path.{subst}
 use borrow.Author.Needs.{needs}
 use Rattle.header.proofs.phase.Phase.step.Statement.{statement}
 use Rattle.header.proofs.phase.Phase.step.Tie as tie
-use Rattle.header.proofs.phase.Phase.step.Reads as reads
-use Rattle.header.proofs.phase.Phase.step.Lts as lts
-use Rattle.header.proofs.fields.at_fix.Reads as at-fix-reads
-use Rattle.header.proofs.fields.at_octet.Reads as at-octet-reads
-use Rattle.header.proofs.fields.at_pair.Reads as at-pair-reads
-use Rattle.header.proofs.fields.in_identifier.Reads as in-identifier-reads
-use Rattle.header.proofs.fields.in_octets.Reads as in-octets-reads
-use Rattle.header.proofs.fields.in_value.Reads as in-value-reads
-use Rattle.header.proofs.integers.in_height.Reads as in-height-reads
-use Rattle.header.proofs.integers.in_type.Reads as in-type-reads
-use Rattle.header.proofs.integers.in_width.Reads as in-width-reads
 
 enum-known-self : tie.Need-enum-known-self
 enum-known-self c = search needs

@@ -1,11 +1,7 @@
-use borrow.Author.Tests.{lt-ltb, ltb-true, le-leb, leb-true}
+use borrow.Author.Tests.{lt-ltb, ltb-true}
 use borrow.Author.Needs.{needs}
 use Rattle.header.proofs.phase.Phase.within.Statement.{statement}
 use Rattle.header.proofs.phase.Phase.within.Tie as tie
-use Rattle.header.proofs.phase.Phase.within.Reads as reads
-use Rattle.header.proofs.phase.Phase.within.Lts as lts
-use Rattle.header.proofs.phase.fields_within.Reads as fields-within-reads
-use Rattle.header.proofs.phase.integer_within.Reads as integer-within-reads
 
 enum-known-self : tie.Need-enum-known-self
 enum-known-self c = search needs

@@ -2,9 +2,6 @@ use Rattle.header.proofs.Represented.{ended-at}
 use borrow.Author.Needs.{needs}
 use Rattle.header.proofs.reader.HeaderReader.ended.Statement.{statement}
 use Rattle.header.proofs.reader.HeaderReader.ended.Tie as tie
-use Rattle.header.proofs.reader.HeaderReader.ended.Reads as reads
-use Rattle.header.proofs.reader.HeaderReader.ended.Lts as lts
-use Rattle.header.proofs.phase.Phase.ended.Reads as ended-reads
 
 ended-requires : tie.Need-ended-requires
 ended-requires c κs = search needs

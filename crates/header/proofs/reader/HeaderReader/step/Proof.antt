@@ -2,10 +2,6 @@ use Rattle.header.proofs.Represented.{stepped, lost}
 use borrow.Author.Needs.{needs}
 use Rattle.header.proofs.reader.HeaderReader.step.Statement.{statement}
 use Rattle.header.proofs.reader.HeaderReader.step.Tie as tie
-use Rattle.header.proofs.reader.HeaderReader.step.Reads as reads
-use Rattle.header.proofs.reader.HeaderReader.step.Lts as lts
-use Rattle.header.proofs.phase.Phase.step.Reads as step-reads
-use Rattle.header.proofs.phase.Phase.within.Reads as within-reads
 
 within-requires : tie.Need-within-requires
 within-requires c κs = search needs
