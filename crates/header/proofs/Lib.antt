@@ -7,3 +7,5 @@ pub mod Meets
 pub mod Represented
 pub mod Pieces
 pub mod Direct
+pub mod Put
+pub mod Descent

@@ -63,6 +63,18 @@ abbrev pub outline : Header → Outline
 outline h =
     record { width = h .width; height = h .height; fix = h .fix; fields = spanOf (h .start) (h .fields, h .sizes); body = h .body }
 
+-- the sizes of a header whose fields have a span
+abbrev pub sized : ℕ → Span → ℕ → ℕ × ℕ → Answer Outline
+sized fix f width h =
+    if (eqb width 0 || eqb (h .0) 0) (refuses 8 (h .1))
+    (gives (record { width = width; height = h .0; fix = fix; fields = f; body = h .1 }))
+
+abbrev pub outlineHeight : Bool → List ℕ → ℕ → Span → ℕ × ℕ → Answer Outline
+outlineHeight shortest s fix f w = bind (readMbi shortest s (w .1)) (sized fix f (w .0))
+
+abbrev pub outlineSizes : Bool → List ℕ → ℕ → Span → ℕ → Answer Outline
+outlineSizes shortest s fix f at = bind (readMbi shortest s at) (outlineHeight shortest s fix f)
+
 -- what the code's values mean
 abbrev pub extSpan : HeaderExt → Span
 extSpan Absent = absent

@@ -18,9 +18,12 @@ fixByte (bitfield octets) = 128
 fixByte (reserved kind octet) = 128 + kind * 32
 fixByte (pairs ps) = 224
 
+abbrev pub sizeBytes : ℕ → ℕ → List ℕ
+sizeBytes width height = mbiBytes width ++ mbiBytes height
+
 -- Type 0, a FixHeader byte, the bytes of the fields, Width, Height
 abbrev pub headerBytes : ℕ → List ℕ → ℕ → ℕ → List ℕ
-headerBytes fix fields width height = mbiBytes 0 ++ fix ∷ (fields ++ (mbiBytes width ++ mbiBytes height))
+headerBytes fix fields width height = mbiBytes 0 ++ fix ∷ (fields ++ sizeBytes width height)
 
 -- "`write_header` writes zero sizes"
 abbrev pub plainHeader : ℕ → ℕ → Answer (List ℕ)

@@ -7,10 +7,16 @@ mod faults;
 mod fields;
 mod integers;
 mod phase;
+mod read;
 mod reader;
+mod write;
 
+pub use read::parse_header_ext_inner;
+pub use read::parse_header_inner;
+pub use read::parse_header_mode;
 pub use reader::HeaderReader;
 pub use reader::HeaderStep;
+pub use write::write_header;
 
 // What a header reader demands and honours. Each reader of the Rust is one choice of these.
 pub struct HeaderMode {
