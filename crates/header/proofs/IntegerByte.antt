@@ -10,6 +10,7 @@ use Rattle.error.specs.Answer.{isEnd}
 use Rattle.laws.proofs.Tests.{zero-one}
 use Rattle.mbi.specs.Read.{goes, ends, wrong, readByte, stepMeaning}
 use Rattle.mbi.specs.Step.{Stepped}
+use Rattle.mbi.proofs.Step.{word-is}
 use Rattle.mbi.specs.declared.MbiStep.{MbiStep}
 
 -- an integer that goes on has had fewer than seven bytes
@@ -47,4 +48,4 @@ wrong-code strict at v n b code offset e =
 -- what the code's step says of a byte, x being its case
 pub byte-is : {strict : Bool} {at v n b : ℕ} {r x : MbiStep} → Stepped strict at v n b r → r ≡ x → at < 8192
     → readByte strict at v n b ≡ stepMeaning x
-byte-is s e h = sym (s .does (omega arith)) ∙ ap stepMeaning e
+byte-is {strict} {at} {v} {n} {b} s e h = sym (s .does ∙ word-is strict at v n b (omega arith)) ∙ ap stepMeaning e

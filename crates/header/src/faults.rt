@@ -5,7 +5,7 @@ ghost use mathlib.Core.Path.{_≡_};
 ghost use Rattle.ext.specs.Classes.{isAlphaDigit};
 ghost use Rattle.ext.specs.Bytewise.{identifierFault, valueFault};
 
-pub fn identifier_fault(strict: bool, fault: u8, byte: u8) -> u8
+pub(crate) fn identifier_fault(strict: bool, fault: u8, byte: u8) -> u8
     ensures { λ r. ⌜ r ≡ identifierFault strict fault byte ⌝ }
 {
     if strict {
@@ -33,7 +33,7 @@ fn letter_or_digit(byte: u8) -> bool
     }
 }
 
-pub fn value_fault(strict: bool, fault: u8, byte: u8) -> u8
+pub(crate) fn value_fault(strict: bool, fault: u8, byte: u8) -> u8
     ensures { λ r. ⌜ r ≡ valueFault strict fault byte ⌝ }
 {
     if strict {

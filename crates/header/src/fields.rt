@@ -85,7 +85,7 @@ fn after_fix(honoured: bool, fix: u8, at: usize) -> PhaseStep
     })
 }
 
-pub fn at_fix(mode: HeaderMode, at: usize, byte: u8) -> PhaseStep
+pub(crate) fn at_fix(mode: HeaderMode, at: usize, byte: u8) -> PhaseStep
     requires { ⌜ Bounded (atFix at) ⌝ }
     ensures { λ r. ⌜ moved r ≡ stepOf (settings mode) (atFix at) byte ⌝ }
 {
@@ -100,7 +100,7 @@ pub fn at_fix(mode: HeaderMode, at: usize, byte: u8) -> PhaseStep
     after_fix(mode.fields, byte, at + 1)
 }
 
-pub fn in_octets(fix: u8, start: usize, at: usize, byte: u8) -> PhaseStep
+pub(crate) fn in_octets(fix: u8, start: usize, at: usize, byte: u8) -> PhaseStep
     requires { ⌜ Bounded (inOctets fix start at) ⌝ }
     ensures { λ r. ⌜ ((o : Settings) → moved r ≡ stepOf o (inOctets fix start at) byte) ⌝ }
 {
@@ -120,14 +120,14 @@ pub fn in_octets(fix: u8, start: usize, at: usize, byte: u8) -> PhaseStep
     })
 }
 
-pub fn at_octet(fix: u8, at: usize, byte: u8) -> PhaseStep
+pub(crate) fn at_octet(fix: u8, at: usize, byte: u8) -> PhaseStep
     requires { ⌜ Bounded (atOctet fix at) ⌝ }
     ensures { λ r. ⌜ ((o : Settings) → moved r ≡ stepOf o (atOctet fix at) byte) ⌝ }
 {
     after_fields(fix, at, at + 1, 0)
 }
 
-pub fn at_pair(fix: u8, start: usize, at: usize, pairs: usize, byte: u8) -> PhaseStep
+pub(crate) fn at_pair(fix: u8, start: usize, at: usize, pairs: usize, byte: u8) -> PhaseStep
     requires { ⌜ Bounded (atPair fix start at pairs) ⌝ }
     ensures { λ r. ⌜ ((o : Settings) → moved r ≡ stepOf o (atPair fix start at pairs) byte) ⌝ }
 {
@@ -164,7 +164,7 @@ pub fn at_pair(fix: u8, start: usize, at: usize, pairs: usize, byte: u8) -> Phas
     })
 }
 
-pub fn in_identifier(
+pub(crate) fn in_identifier(
     mode: HeaderMode,
     fix: u8,
     start: usize,
@@ -230,7 +230,7 @@ fn after_pair(fix: u8, start: usize, at: usize, pairs: usize, more: bool, fault:
     }
 }
 
-pub fn in_value(
+pub(crate) fn in_value(
     mode: HeaderMode,
     fix: u8,
     start: usize,

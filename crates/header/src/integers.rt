@@ -18,7 +18,7 @@ ghost use Rattle.header.specs.Read.{extSpan};
 ghost use Rattle.header.specs.Machine.{inType, inWidth, inHeight, done, refused, stepOf};
 ghost use Rattle.header.specs.Phase.{moved, Bounded};
 
-pub fn in_type(mode: HeaderMode, at: usize, value: u32, count: u8, byte: u8) -> PhaseStep
+pub(crate) fn in_type(mode: HeaderMode, at: usize, value: u32, count: u8, byte: u8) -> PhaseStep
     requires { ⌜ Bounded (inType at value count) ⌝ }
     ensures { λ r. ⌜ moved r ≡ stepOf (settings mode) (inType at value count) byte ⌝ }
 {
@@ -42,7 +42,7 @@ pub fn in_type(mode: HeaderMode, at: usize, value: u32, count: u8, byte: u8) -> 
     }
 }
 
-pub fn in_width(
+pub(crate) fn in_width(
     mode: HeaderMode,
     fix: u8,
     fields: HeaderExt,
@@ -99,7 +99,7 @@ fn sized(fix: u8, fields: HeaderExt, width: u32, height: u32, body: usize) -> Ph
     })
 }
 
-pub fn in_height(
+pub(crate) fn in_height(
     mode: HeaderMode,
     fix: u8,
     fields: HeaderExt,

@@ -112,7 +112,7 @@ fn fields_within(start: usize, at: usize, pairs: usize) -> bool
 
 impl Phase {
     // Whether the sums of a step stay in range. They do wherever a reading can stand.
-    pub fn within(self) -> bool
+    pub(crate) fn within(self) -> bool
         ensures { λ r. ⌜ Tells (Bounded (state self)) r ⌝ }
     {
         match self {
@@ -144,7 +144,7 @@ impl Phase {
     }
 
     // The input ends before the header does.
-    pub fn ended(self) -> WbmpError
+    pub(crate) fn ended(self) -> WbmpError
         ensures { λ r. ⌜ ((o : Settings) → refusal r ≡ resume o (state self) []) ⌝ }
     {
         match self {
@@ -187,7 +187,7 @@ impl Phase {
         }
     }
 
-    pub fn step(self, mode: HeaderMode, byte: u8) -> PhaseStep
+    pub(crate) fn step(self, mode: HeaderMode, byte: u8) -> PhaseStep
         requires { ⌜ Bounded (state self) ⌝ }
         ensures { λ r. ⌜ moved r ≡ stepOf (settings mode) (state self) byte ⌝ }
     {

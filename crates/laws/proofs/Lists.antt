@@ -1,7 +1,7 @@
 -- Parts of a list: what stands from an index on, by its first element.
-use Prim.Native.Nat.{ℕ, zero, suc, _+_, _-_, _<_, _≤_}
+use Prim.Native.Nat.{ℕ, zero, suc, _+_, _<_, _≤_}
 use mathlib.Core.Path.{_≡_, _∙_, ap}
-use mathlib.Core.List.{List, [], _∷_, _++_}
+use mathlib.Core.List.{List, [], _∷_}
 use native.Mathlib.Nat.{zero-add}
 use native.Mathlib.Numerals.{add-one}
 use native.Mathlib.Omega.{arith}

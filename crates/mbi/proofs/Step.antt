@@ -1,6 +1,6 @@
 -- One byte of an integer: what is known from what it did, and what it does where the tests are known.
 use Prim.Native.Nat.{ℕ, _+_, _*_, _%_, _<_, _≤_}
-use mathlib.Core.Path.{_≡_, refl, subst}
+use mathlib.Core.Path.{_≡_, refl, ap, subst}
 use mathlib.Core.Bool.{Bool, true, false, _&&_}
 use native.Mathlib.Omega.{arith}
 use borrow.Author.Tests.{ltb-true, ltb-false, lt-ltb, le-ltb, eq-eqb, eqb-true}
@@ -9,6 +9,7 @@ use Rattle.error.specs.Choice.{if}
 use Rattle.error.specs.Answer.{isEnd}
 use Rattle.laws.proofs.Tests.{zero-one}
 use Rattle.mbi.specs.Read.{ByteRead, goes, ends, wrong, readByte}
+use Rattle.mbi.specs.Step.{inWord}
 
 -- a byte b that was taken after n others, the value going from v to w
 pub record Taken (strict : Bool) (v n b w : ℕ) : Type 0 where
@@ -70,3 +71,21 @@ module _ (strict : Bool) (v n b : ℕ) where
     pub goes-by : 128 ≤ b → readByte strict at v n b ≡ goes (v * 128 + b % 128)
     unfolding readByte
     goes-by h = simp (not-leads, le-ltb _ _ small, le-ltb _ _ h, le-ltb 7 (n + 1) (omega arith))
+
+-- the offset of a byte, and the one after it, are within 64 bits
+pub word-is : (strict : Bool) (at v n b : ℕ) → at < 18446744073709551615 → inWord (readByte strict at v n b) ≡ readByte strict at v n b
+unfolding readByte
+word-is strict at v n b h =
+    go (strict && eqb n 0 && eqb b 128) (ltb 4294967295 (v * 128 + b % 128)) (ltb 7 (n + 1)) (ltb b 128)
+  where
+    small : (code p : ℕ) → p < 18446744073709551616 → wrong code (p % 18446744073709551616) ≡ wrong code p
+    small code p l = let q : p % 18446744073709551616 ≡ p = omega arith in ap (wrong code) q
+
+    go : (t1 t2 t3 t4 : Bool)
+        → inWord (if t1 (wrong 4 at) (if t2 (wrong 2 (at + 1)) (if t3 (wrong 3 (at + 1)) (if t4 (ends (v * 128 + b % 128)) (goes (v * 128 + b % 128))))))
+        ≡ if t1 (wrong 4 at) (if t2 (wrong 2 (at + 1)) (if t3 (wrong 3 (at + 1)) (if t4 (ends (v * 128 + b % 128)) (goes (v * 128 + b % 128)))))
+    go true t2 t3 t4 = small 4 at (omega arith)
+    go false true t3 t4 = small 2 (at + 1) (omega arith)
+    go false false true t4 = small 3 (at + 1) (omega arith)
+    go false false false true = refl
+    go false false false false = refl

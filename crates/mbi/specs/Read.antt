@@ -1,7 +1,7 @@
 -- Reading integers, lenient and strict (document 01, mbi.rs).
 use Prim.Native.Nat.{ℕ, _+_, _*_, _%_}
 use mathlib.Core.List.{List, [], _∷_}
-use mathlib.Core.Bool.{Bool, true, false, _&&_}
+use mathlib.Core.Bool.{Bool, _&&_}
 use lib.Dec.{ltb, eqb}
 use lib.ListN.{drop}
 use Rattle.error.specs.Choice.{if}

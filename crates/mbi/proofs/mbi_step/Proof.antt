@@ -9,9 +9,9 @@ use Rattle.mbi.specs.Read.{readByte}
 use Rattle.mbi.proofs.mbi_step.Statement.{statement}
 use Rattle.mbi.proofs.mbi_step.Tie as tie
 
--- the offset after a byte
-after : (at r : ℕ) → r ≡ (at + 1) % 18446744073709551616 → at < 18446744073709551615 → r ≡ at + 1
-after at r e h = omega arith
+-- an offset is its own remainder
+small : (at : ℕ) → at < 18446744073709551616 → at % 18446744073709551616 ≡ at
+small at h = omega arith
 
 -- the test on the count, as the definition has it
 eighth : (n : ℕ) → 7 ≤ n → ltb 7 (n + 1) ≡ true
@@ -31,7 +31,9 @@ leading-requires c κs = search needs
 
 returns : tie.Need-returns
 unfolding readByte
-returns c = record { does = λ h. simp (sym (c .before .leading .ensures) ∙ c .if1 .taken) }
+returns c =
+    let s = c .before .before in
+    record { does = simp (sym (c .before .leading .ensures) ∙ c .if1 .taken, small (s .args .at) (s .fits .at .fits)) }
 
 wrapping-add-usize-requires : tie.Need-wrapping-add-usize-requires
 wrapping-add-usize-requires c κs = search needs
@@ -44,23 +46,11 @@ add-v c = search needs
 
 returns-2 : tie.Need-returns-2
 unfolding readByte
-returns-2 c =
-    record {
-      does =
-          λ h.
-          let e = after _ _ (c .before .wrapping-add-usize .ensures) h in
-          simp (e, free (c .before .before), lt-ltb _ _ (c .if2 .taken));
-    }
+returns-2 c = record { does = simp (c .before .wrapping-add-usize .ensures, free (c .before .before), lt-ltb _ _ (c .if2 .taken)) }
 
 returns-3 : tie.Need-returns-3
 unfolding readByte
-returns-3 c =
-    record {
-      does =
-          λ h.
-          let e = after _ _ (c .before .before .wrapping-add-usize .ensures) h in
-          simp (e, free (c .before .before .before), le-ltb _ _ (c .before .if2 .left), eighth _ (c .if3 .taken));
-    }
+returns-3 c = record { does = simp (c .before .before .wrapping-add-usize .ensures, free (c .before .before .before), le-ltb _ _ (c .before .if2 .left), eighth _ (c .if3 .taken)) }
 
 cast-t17 : tie.Need-cast-t17
 cast-t17 c = search needs
@@ -69,7 +59,7 @@ returns-4 : tie.Need-returns-4
 unfolding readByte
 returns-4 c =
     let d = c .before in
-    record { does = λ h. simp (free (d .before .before .before), le-ltb _ _ (d .before .if2 .left), within _ (d .if3 .left), lt-ltb _ _ (c .if4 .taken)) }
+    record { does = simp (free (d .before .before .before), le-ltb _ _ (d .before .if2 .left), within _ (d .if3 .left), lt-ltb _ _ (c .if4 .taken)) }
 
 cast-t18 : tie.Need-cast-t18
 cast-t18 c = search needs
@@ -78,7 +68,7 @@ returns-5 : tie.Need-returns-5
 unfolding readByte
 returns-5 c =
     let d = c .before in
-    record { does = λ h. simp (free (d .before .before .before), le-ltb _ _ (d .before .if2 .left), within _ (d .if3 .left), le-ltb _ _ (c .if4 .left)) }
+    record { does = simp (free (d .before .before .before), le-ltb _ _ (d .before .if2 .left), within _ (d .if3 .left), le-ltb _ _ (c .if4 .left)) }
 
 pub mbi-step-spec : {M : Type 1} → statement M
 mbi-step-spec =

@@ -7,7 +7,7 @@ use denote.Ref.{now}
 use Rattle.error.specs.Answer.{gives}
 use Rattle.mbi.specs.Read.{ByteRead, readByte, readRest, readMbi, upon, stepMeaning}
 use Rattle.mbi.specs.declared.MbiStep.{MbiStep}
-use Rattle.mbi.proofs.Step.{known}
+use Rattle.mbi.proofs.Step.{known, word-is}
 use Rattle.mbi.proofs.Continuation.{rest-at, rest-end}
 use Rattle.mbi.proofs.read_mbi.Statement.{statement}
 use Rattle.mbi.proofs.read_mbi.Tie as tie
@@ -25,7 +25,7 @@ did : (c : tie.After-mbi-step Inv-loop μ-loop) (x : MbiStep) → c .mbi-step .r
     → let a = c .before .before .before .before .before .args in
     let l = c .before .before .before .loop in
     readByte (a .strict) (l .at) (l .value) (l .count) (getD (now (a .bytes)) (l .at) 0) ≡ stepMeaning x
-did c x e = sym (c .mbi-step .ensures .does (omega arith)) ∙ ap stepMeaning e
+did c x e = sym (c .mbi-step .ensures .does ∙ word-is _ _ _ _ _ (omega arith)) ∙ ap stepMeaning e
 
 -- after the step
 turned : (c : tie.After-mbi-step Inv-loop μ-loop) (x : MbiStep) → c .mbi-step .result ≡ x
