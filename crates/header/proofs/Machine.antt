@@ -69,7 +69,8 @@ module _ (o : Settings) where
   unfolding steps
   steps-law [] τ st = refl
   steps-law (b ∷ σ) τ st =
-      one-step o (σ ++ τ) st b ∙ go (stepOf o st b) (λ s. steps-law σ τ s) ∙ ap (λ (x : Step). after o x τ) (sym (steps-cons st b σ))
+      one-step o (σ ++ τ) st b ∙ go (stepOf o st b) (λ s. steps-law σ τ s)
+      ∙ ap (λ (x : Step). after o x τ) (sym (steps-cons st b σ))
     where
       go : (x : Step) → ((s : State) → resume o s (σ ++ τ) ≡ after o (steps o s σ) τ) → after o x (σ ++ τ) ≡ after o (onward o x σ) τ
       go (more s) ih = ih s
@@ -81,7 +82,8 @@ module _ (o : Settings) where
   unfolding steps
   steps-append [] ρ st = refl
   steps-append (b ∷ σ) ρ st =
-      steps-cons st b (σ ++ ρ) ∙ go (stepOf o st b) (λ s. steps-append σ ρ s) ∙ ap (λ (x : Step). onward o x ρ) (sym (steps-cons st b σ))
+      steps-cons st b (σ ++ ρ) ∙ go (stepOf o st b) (λ s. steps-append σ ρ s)
+      ∙ ap (λ (x : Step). onward o x ρ) (sym (steps-cons st b σ))
     where
       go : (x : Step) → ((s : State) → steps o s (σ ++ ρ) ≡ onward o (steps o s σ) ρ) → onward o x (σ ++ ρ) ≡ onward o (onward o x σ) ρ
       go (more s) ih = ih s

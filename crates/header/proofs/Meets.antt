@@ -42,7 +42,13 @@ module _ (o : Settings) (st : State) (σ : List ℕ) where
 pub met-code : (o : Settings) (σ : List ℕ) (code offset : ℕ) → steps o start σ ≡ refused code offset → isEnd code ≡ false
 met-code o σ code offset e = subst SoundStep e (sound-steps o σ start sound-start)
 
--- a card whose type is 5: the refusal is met with its one byte
-example : steps (inner false) start (5 ∷ []) ≡ refused 5 1
+-- a card whose type is 5: the refusal is met with its one byte, whatever comes after it
+five : steps (inner false) start (5 ∷ []) ≡ refused 5 1
 unfolding resume integer readByte
-example = meets (inner false) start (5 ∷ []) 5 1 refl refl
+five = meets (inner false) start (5 ∷ []) 5 1 refl refl
+
+five-on : (τ : List ℕ) → resume (inner false) start (5 ∷ τ) ≡ refuses 5 1
+five-on = met (inner false) start (5 ∷ []) 5 1 five
+
+five-code : isEnd 5 ≡ false
+five-code = met-code (inner false) (5 ∷ []) 5 1 five

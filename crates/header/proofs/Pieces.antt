@@ -6,7 +6,6 @@ use mathlib.Core.List.{List, [], _∷_}
 use Rattle.error.specs.Answer.{Answer, gives, map}
 use Rattle.error.specs.declared.WbmpError.{WbmpError}
 use Rattle.mbi.specs.Read.{readByte}
-use Rattle.ext.specs.Kinds.{absent}
 use Rattle.header.specs.Settings.{Settings, settings}
 use Rattle.header.specs.Read.{Outline, outline, parsed, readHeader}
 use Rattle.header.specs.Machine.{State, start, Step, more, done, refused, stepOf, steps, after, resume}
@@ -58,7 +57,8 @@ module _ (o : Settings) where
       subst⁻¹ (Answers o x) e (refl, refl)
 
   -- pieces that are fed to a reader at any state
-  pub run-from : {r : HeaderReader} {st : State} {σs : List (List ℕ)} {a : Answer Outline} → Represents r o st → Run r σs a → a ≡ resume o st (join σs)
+  pub run-from : {r : HeaderReader} {st : State} {σs : List (List ℕ)} {a : Answer Outline} → Represents r o st → Run r σs a
+      → a ≡ resume o st (join σs)
   run-from {st = st} h (closed e) = e .does o st h
   run-from {st = st} h (piece {σ = σ} {σs = σs} f u) =
       let q = open-is (steps o st σ) (fed h f) in
@@ -78,32 +78,46 @@ module _ (o : Settings) where
       → Represents r₁ o start → Represents r₂ o start → join σs₁ ≡ join σs₂ → Run r₁ σs₁ a₁ → Run r₂ σs₂ a₂ → a₁ ≡ a₂
   two-cuts h₁ h₂ e u v = run-from h₁ u ∙ ap (resume o start) e ∙ sym (run-from h₂ v)
 
--- the card 00 00 09 02, cut as 00, nothing, 00 09, 02
+-- the card 00 00 09 02, cut as 00, nothing, 00 09, 02, and in one piece
 abbrev lenient : HeaderMode
 lenient = record { shortest = false; «fix_zero» = false; fields = false; classes = false }
 
 abbrev reader : Phase → HeaderReader
 reader p = record { mode = lenient; phase = p }
 
-abbrev card : Answer Outline
-card = gives (record { width = 9; height = 2; fix = 0; fields = absent; body = 4 })
-
-abbrev cut : List (List ℕ)
-cut = (0 ∷ []) ∷ [] ∷ (0 ∷ 9 ∷ []) ∷ (2 ∷ []) ∷ []
+abbrev sized : ParsedHeader
+sized = record { width = 9; height = 2; «data_offset» = 4; «fix_header» = 0; «ext_fields» = HeaderExt.Absent }
 
 takes : (p : Phase) (b : ℕ) (x : PhaseStep) → moved x ≡ stepOf (settings lenient) (state p) b → Stepped (reader p) b (asReader lenient x)
 takes p b x e = stepped (reader p) b x x e refl
 
-cut-run : Run (reader (Phase.InType 0 0 0)) cut card
+type : Stepped (reader (Phase.InType 0 0 0)) 0 (HeaderStep.More (reader (Phase.AtFix 1)))
 unfolding stepOf readByte
-cut-run =
-    piece (byte (takes (Phase.InType 0 0 0) 0 (PhaseStep.More (Phase.AtFix 1)) refl) nothing)
-    (piece nothing
-    (piece
-    (byte (takes (Phase.AtFix 1) 0 (PhaseStep.More (Phase.InWidth 0 HeaderExt.Absent 2 0 0)) refl)
-    (byte (takes (Phase.InWidth 0 HeaderExt.Absent 2 0 0) 9 (PhaseStep.More (Phase.InHeight 0 HeaderExt.Absent 9 3 0 0)) refl) nothing))
-    (whole (last (takes (Phase.InHeight 0 HeaderExt.Absent 9 3 0 0) 2
-    (PhaseStep.Done (record { width = 9; height = 2; «data_offset» = 4; «fix_header» = 0; «ext_fields» = HeaderExt.Absent })) refl)))))
+type = takes (Phase.InType 0 0 0) 0 (PhaseStep.More (Phase.AtFix 1)) refl
 
-cut-card : card ≡ map outline (readHeader (settings lenient) (0 ∷ 0 ∷ 9 ∷ 2 ∷ []))
-cut-card = pieces (settings lenient) (record { mode-is = refl; phase-is = refl; sound = sound-start }) cut-run
+fix : Stepped (reader (Phase.AtFix 1)) 0 (HeaderStep.More (reader (Phase.InWidth 0 HeaderExt.Absent 2 0 0)))
+unfolding stepOf
+fix = takes (Phase.AtFix 1) 0 (PhaseStep.More (Phase.InWidth 0 HeaderExt.Absent 2 0 0)) refl
+
+width : Stepped (reader (Phase.InWidth 0 HeaderExt.Absent 2 0 0)) 9 (HeaderStep.More (reader (Phase.InHeight 0 HeaderExt.Absent 9 3 0 0)))
+unfolding stepOf readByte
+width = takes (Phase.InWidth 0 HeaderExt.Absent 2 0 0) 9 (PhaseStep.More (Phase.InHeight 0 HeaderExt.Absent 9 3 0 0)) refl
+
+height : Stepped (reader (Phase.InHeight 0 HeaderExt.Absent 9 3 0 0)) 2 (HeaderStep.Done sized)
+unfolding stepOf readByte
+height = takes (Phase.InHeight 0 HeaderExt.Absent 9 3 0 0) 2 (PhaseStep.Done sized) refl
+
+opened : Represents (reader (Phase.InType 0 0 0)) (settings lenient) start
+opened = record { mode-is = refl; phase-is = refl; sound = sound-start }
+
+cut : Run (reader (Phase.InType 0 0 0)) ((0 ∷ []) ∷ [] ∷ (0 ∷ 9 ∷ []) ∷ (2 ∷ []) ∷ []) (gives (parsed sized))
+cut = piece (byte type nothing) (piece nothing (piece (byte fix (byte width nothing)) (whole (last height))))
+
+uncut : Run (reader (Phase.InType 0 0 0)) ((0 ∷ 0 ∷ 9 ∷ 2 ∷ []) ∷ []) (gives (parsed sized))
+uncut = whole (byte type (byte fix (byte width (last height))))
+
+card : gives (parsed sized) ≡ map outline (readHeader (settings lenient) (0 ∷ 0 ∷ 9 ∷ 2 ∷ []))
+card = pieces (settings lenient) opened cut
+
+same : gives (parsed sized) ≡ gives (parsed sized)
+same = two-cuts (settings lenient) opened opened refl cut uncut

@@ -47,7 +47,8 @@ module _ (r : HeaderReader) (b : ℕ) where
       record {
         does = λ o st h.
             let q : moved x ≡ stepOf o st b =
-            sym (ap moved c) ∙ e ∙ ap (λ (k : Settings). stepOf k (state (r .phase)) b) (h .mode-is) ∙ ap (λ (k : State). stepOf o k b) (h .phase-is) in
+            sym (ap moved c) ∙ e ∙ ap (λ (k : Settings). stepOf k (state (r .phase)) b) (h .mode-is)
+            ∙ ap (λ (k : State). stepOf o k b) (h .phase-is) in
             subst (λ (k : Step). Answers o (asReader (r .mode) x) k) q
             (answers (r .mode) o x (h .mode-is) (subst⁻¹ SoundStep q (sound-step o st b (h .sound))));
       }

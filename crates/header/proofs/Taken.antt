@@ -37,7 +37,8 @@ pick : (at : ℕ) (t : Bool) (x y : Step) → Moves at x → Moves at y → Move
 pick at true x y p q = p
 pick at false x y p q = q
 
-number : (at : ℕ) (r : ByteRead) (g l : ℕ → Step) → ((w : ℕ) → Moves at (g w)) → ((w : ℕ) → Moves at (l w)) → Moves at (onByte r g l)
+number : (at : ℕ) (r : ByteRead) (g l : ℕ → Step)
+    → ((w : ℕ) → Moves at (g w)) → ((w : ℕ) → Moves at (l w)) → Moves at (onByte r g l)
 number at (goes w) g l p q = p w
 number at (ends w) g l p q = q w
 number at (wrong code offset) g l p q = tt

@@ -1,9 +1,12 @@
 -- What the phases of the code's reader mean.
 use Prim.Native.Nat.{ℕ, _≤_, _<_}
 use mathlib.Core.Path.{_≡_}
-use mathlib.Core.Bool.{Bool, true}
+use mathlib.Core.Bool.{Bool, true, _||_}
+use lib.Dec.{eqb}
+use Rattle.error.specs.Choice.{if}
+use Rattle.ext.specs.Kinds.{Span}
 use Rattle.header.specs.Read.{parsed}
-use Rattle.header.specs.Machine.{State, inType, atFix, inOctets, atOctet, atPair, inIdentifier, inValue, inWidth, inHeight, Step, more, done, refused}
+use Rattle.header.specs.Machine.{State, inType, atFix, inOctets, atOctet, atPair, inIdentifier, inValue, inWidth, inHeight, Step, more, done, refused, found, toWidth}
 use Rattle.header.specs.Represents.{state}
 use Rattle.header.specs.declared.phase.PhaseStep.{PhaseStep}
 
@@ -11,6 +14,16 @@ abbrev pub moved : PhaseStep → Step
 moved (PhaseStep.More p) = more (state p)
 moved (PhaseStep.Done h) = done (parsed h)
 moved (PhaseStep.Refused e) = refused (e .code) (e .offset)
+
+-- what follows a pair whose fault waited, and both sizes
+abbrev pub afterPair : ℕ → ℕ → ℕ → ℕ → Bool → ℕ → Step
+afterPair fix start at pairs again fault =
+    if (eqb fault 0) (if again (more (atPair fix start at pairs)) (toWidth fix (found fix start at pairs) at)) (refused fault at)
+
+abbrev pub afterSizes : ℕ → Span → ℕ → ℕ → ℕ → Step
+afterSizes fix f width height at =
+    if (eqb width 0 || eqb height 0) (refused 8 at)
+    (done (record { width = width; height = height; fix = fix; fields = f; body = at }))
 
 -- what keeps the sums of a step in range; readings stay far below
 abbrev pub IntegerBound : ℕ → ℕ → Type 0

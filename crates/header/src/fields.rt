@@ -15,14 +15,13 @@ use ext::FixHeaderField;
 ghost use mathlib.Core.Path.{_≡_};
 ghost use mathlib.Core.Bool.{_&&_};
 ghost use Prim.Native.Nat.{_≤_};
-ghost use lib.Dec.{eqb};
 ghost use Rattle.error.specs.Choice.{if};
 ghost use Rattle.ext.specs.Kinds.{absent, fieldsFollow};
 ghost use Rattle.header.specs.Settings.{Settings, settings};
-ghost use Rattle.header.specs.Machine.{atFix, inOctets, atOctet, atPair, inIdentifier, inValue, Step, refused, toWidth, toFields, found, stepOf};
-ghost use Rattle.header.specs.Phase.{moved, Bounded};
+ghost use Rattle.header.specs.Machine.{atFix, inOctets, atOctet, atPair, inIdentifier, inValue, toWidth, toFields, found, stepOf};
+ghost use Rattle.header.specs.Phase.{moved, afterPair, Bounded};
 
-// The octets or bytes of pairs after which no octet and no pair may start.
+// No octet and no pair starts so many bytes after the first one, or more.
 const CEILING: usize = 4096;
 
 // The width comes next, after fields that stand from `start` to `end`.
@@ -209,7 +208,7 @@ pub(crate) fn in_identifier(
 // After a pair: the refusal that waited for its end, one more pair, or the width.
 fn after_pair(fix: u8, start: usize, at: usize, pairs: usize, more: bool, fault: u8) -> PhaseStep
     requires { ⌜ start ≤ at ⌝ }
-    ensures { λ r. ⌜ moved r ≡ if (eqb fault 0) (if more (Step.more (atPair fix start at pairs)) (toWidth fix (found fix start at pairs) at)) (refused fault at) ⌝ }
+    ensures { λ r. ⌜ moved r ≡ afterPair fix start at pairs more fault ⌝ }
 {
     if fault == 0 {
         if more {

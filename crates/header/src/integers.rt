@@ -10,13 +10,10 @@ use error::ZERO_DIMENSION;
 use mbi::MbiStep;
 use mbi::mbi_step;
 ghost use mathlib.Core.Path.{_≡_};
-ghost use mathlib.Core.Bool.{_||_};
-ghost use lib.Dec.{eqb};
-ghost use Rattle.error.specs.Choice.{if};
 ghost use Rattle.header.specs.Settings.{settings};
 ghost use Rattle.header.specs.Read.{extSpan};
-ghost use Rattle.header.specs.Machine.{inType, inWidth, inHeight, done, refused, stepOf};
-ghost use Rattle.header.specs.Phase.{moved, Bounded};
+ghost use Rattle.header.specs.Machine.{inType, inWidth, inHeight, stepOf};
+ghost use Rattle.header.specs.Phase.{moved, afterSizes, Bounded};
 
 pub(crate) fn in_type(mode: HeaderMode, at: usize, value: u32, count: u8, byte: u8) -> PhaseStep
     requires { ⌜ Bounded (inType at value count) ⌝ }
@@ -76,7 +73,7 @@ pub(crate) fn in_width(
 
 // The header's end, after both sizes.
 fn sized(fix: u8, fields: HeaderExt, width: u32, height: u32, body: usize) -> PhaseStep
-    ensures { λ r. ⌜ moved r ≡ if (eqb width 0 || eqb height 0) (refused 8 body) (done (record { width = width; height = height; fix = fix; fields = extSpan fields; body = body })) ⌝ }
+    ensures { λ r. ⌜ moved r ≡ afterSizes fix (extSpan fields) width height body ⌝ }
 {
     if width == 0 {
         return PhaseStep::Refused(WbmpError {

@@ -187,6 +187,7 @@ impl Phase {
         }
     }
 
+    // One byte more.
     pub(crate) fn step(self, mode: HeaderMode, byte: u8) -> PhaseStep
         requires { ⌜ Bounded (state self) ⌝ }
         ensures { λ r. ⌜ moved r ≡ stepOf (settings mode) (state self) byte ⌝ }
