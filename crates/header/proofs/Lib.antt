@@ -9,3 +9,4 @@ pub mod Pieces
 pub mod Direct
 pub mod Put
 pub mod Descent
+pub mod Prefix
