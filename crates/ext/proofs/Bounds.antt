@@ -14,6 +14,7 @@ use Rattle.ext.specs.Classes.{all, isAlphaDigit}
 use Rattle.ext.specs.Read.{PairAt, readOctets, readOctet, readPair, readPairs, readFields}
 use Rattle.ext.proofs.Answers.{map-gives, bind-gives}
 use Rattle.ext.proofs.Extent.{PairIn, pair-in}
+use Rattle.ext.proofs.Cases.{by-kind, PairsGiven, last, more, pairs-given}
 use Rattle.ext.proofs.Continuation.{pairCount}
 
 -- fields f of a file s that stand from `at` to `end`
@@ -55,48 +56,14 @@ pairs-bound : (most : ℕ) (strict : Bool) (s : List ℕ) (start at : ℕ) (r : 
     → (at < r .1) × (r .1 ≤ start + 4118) × (r .1 ≤ length s) × (3 * length (r .0) + at ≤ start + 4098)
 unfolding readPairs
 pairs-bound zero strict s start at r e = zero-one (cc)
-pairs-bound (suc most) strict s start at r e = go (leb (length s) at) (leb (start + 4096) at) refl e (pairs-bound most strict s start)
+pairs-bound (suc most) strict s start at r e = go r (pairs-given most strict s start at r e) (pairs-bound most strict s start)
   where
-    after : PairAt → Answer (List Pair × ℕ)
-    after p =
-        elim (p .more) [
-          | true ↦ map (λ r. (p .pair ∷ r .0, r .1)) (readPairs most strict s start (p .end))
-          | false ↦ gives (p .pair ∷ [], p .end)
-        ]
-
-    go : (t u : Bool) → leb (start + 4096) at ≡ u
-        → (elim t as (λ x. Answer (List Pair × ℕ)) [
-          | true ↦ refuses 9 at
-          | false ↦ elim u as (λ x. Answer (List Pair × ℕ)) [ true ↦ refuses 10 at | false ↦ bind (readPair strict s at) after ]
-        ]) ≡ gives r
+    go : (r : List Pair × ℕ) → PairsGiven most strict s start at r
         → ((end : ℕ) (r : List Pair × ℕ) → readPairs most strict s start end ≡ gives r
         → (end < r .1) × (r .1 ≤ start + 4118) × (r .1 ≤ length s) × (3 * length (r .0) + end ≤ start + 4098))
         → (at < r .1) × (r .1 ≤ start + 4118) × (r .1 ≤ length s) × (3 * length (r .0) + at ≤ start + 4098)
-    go true u p q ih = zero-one (cc)
-    go false true p q ih = zero-one (cc)
-    go false false p q ih =
-        let b = bind-gives after (readPair strict s at) r q in
-        one (b .0) (pair-in strict s at (b .0) (b .1)) (b .0 .more) (b .2)
-      where
-        one : (x : PairAt) → PairIn s (getD s at 0) at x → (t : Bool)
-            → (elim t as (λ x. Answer (List Pair × ℕ)) [
-              | true ↦ map (λ r. (x .pair ∷ r .0, r .1)) (readPairs most strict s start (x .end))
-              | false ↦ gives (x .pair ∷ [], x .end)
-            ]) ≡ gives r
-            → (at < r .1) × (r .1 ≤ start + 4118) × (r .1 ≤ length s) × (3 * length (r .0) + at ≤ start + 4098)
-        one x i true e =
-            let h = leb-false (start + 4096) at p in
-            let m = map-gives _ (readPairs most strict s start (x .end)) r e in
-            let j = ih (x .end) (m .0) (m .1) in
-            let end : m .0 .1 ≡ r .1 = ap (λ (x : List Pair × ℕ). x .1) (m .2) in
-            let count : suc (length (m .0 .0)) ≡ length (r .0) = ap (λ (x : List Pair × ℕ). length (x .0)) (m .2) in
-            (omega arith, omega arith, omega arith, omega arith)
-        one x i false e =
-            let h = leb-false (start + 4096) at p in
-            let is : (x .pair ∷ [], x .end) ≡ r = cc in
-            let end : x .end ≡ r .1 = ap (λ (x : List Pair × ℕ). x .1) is in
-            let count : 1 ≡ length (r .0) = ap (λ (x : List Pair × ℕ). length (x .0)) is in
-            (omega arith, omega arith, omega arith, omega arith)
+    go r (last x i h) ih = (omega arith, omega arith, omega arith, omega arith)
+    go r (more x i h rest e) ih = let j = ih (x .end) rest e in (omega arith, omega arith, omega arith, omega arith)
 
 octet-bound : (τ : List ℕ) (at : ℕ) (r : ℕ × ℕ) → readOctet τ at ≡ gives r → (r .1 ≡ at + 1) × (1 ≤ length τ)
 unfolding readOctet
@@ -116,9 +83,24 @@ fields-bound strict false kind s at r e =
       empty = λ z. refl;
       within = λ z. zero-one (cc);
     })
-fields-bound strict true kind s at r e = go (eqb kind 0) (eqb kind 3) e
+fields-bound strict true kind s at r e =
+    by-kind strict kind s at (λ x. x ≡ gives r → Bounds true s at (r .0) (r .1))
+    (λ z q.
+    let m = map-gives _ (readOctets (drop at s) at at) r q in
+    let b = octets-bound (drop at s) at at (m .0) (m .1) in
+    bounds _ _ (m .2) (omega arith) (omega arith) (omega arith) (omega (arith, length-drop at s)))
+    (λ z q.
+    let m = map-gives _ (readPairs (suc (length s)) strict s at at) r q in
+    let b = pairs-bound (suc (length s)) strict s at at (m .0) (m .1) in
+    bounds _ _ (m .2) (omega arith) (omega arith) (omega arith) (omega arith))
+    (λ y z q.
+    let m = map-gives _ (readOctet (drop at s) at) r q in
+    let b = octet-bound (drop at s) at (m .0) (m .1) in
+    bounds _ _ (m .2) (omega arith) (omega arith) (omega arith) (omega (arith, length-drop at s)))
+    e
   where
-    bounds : (f : Fields) (end : ℕ) → (f, end) ≡ r → at ≤ end → end ≤ at + 4118 → pairCount f ≤ 1366 → end ≤ length s → Bounds true s at (r .0) (r .1)
+    bounds : (f : Fields) (end : ℕ) → (f, end) ≡ r → at ≤ end → end ≤ at + 4118 → pairCount f ≤ 1366 → end ≤ length s
+        → Bounds true s at (r .0) (r .1)
     bounds f end is a b c d =
         subst (λ (x : Fields × ℕ). Bounds true s at (x .0) (x .1)) is
         (record {
@@ -128,31 +110,6 @@ fields-bound strict true kind s at r e = go (eqb kind 0) (eqb kind 3) e
           empty = λ z. zero-one (cc);
           within = λ z. d;
         })
-
-    go : (t u : Bool)
-        → (elim t as (λ x. Answer (Fields × ℕ)) [
-          | true ↦ map (λ r. (bitfield (r .0), r .1)) (readOctets (drop at s) at at)
-          | false ↦
-              elim u as (λ x. Answer (Fields × ℕ)) [
-                | true ↦ map (λ r. (pairs (r .0), r .1)) (readPairs (suc (length s)) strict s at at)
-                | false ↦ map (λ r. (reserved kind (r .0), r .1)) (readOctet (drop at s) at)
-              ]
-        ]) ≡ gives r
-        → Bounds true s at (r .0) (r .1)
-    go true u q =
-        let m = map-gives _ (readOctets (drop at s) at at) r q in
-        let b = octets-bound (drop at s) at at (m .0) (m .1) in
-        let l = length-drop at s in
-        bounds _ _ (m .2) (omega arith) (omega arith) (omega arith) (omega arith)
-    go false true q =
-        let m = map-gives _ (readPairs (suc (length s)) strict s at at) r q in
-        let b = pairs-bound (suc (length s)) strict s at at (m .0) (m .1) in
-        bounds _ _ (m .2) (omega arith) (omega arith) (omega arith) (omega arith)
-    go false false q =
-        let m = map-gives _ (readOctet (drop at s) at) r q in
-        let b = octet-bound (drop at s) at (m .0) (m .1) in
-        let l = length-drop at s in
-        bounds _ _ (m .2) (omega arith) (omega arith) (omega arith) (omega arith)
 
 -- the fields of P5, one pair, k = 12
 example : readFields true true 3 (0 ∷ 224 ∷ 18 ∷ 107 ∷ 49 ∷ 50 ∷ 9 ∷ 2 ∷ []) 2

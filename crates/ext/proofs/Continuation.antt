@@ -5,7 +5,7 @@ use mathlib.Core.List.{List, [], _∷_}
 use mathlib.Core.Bool.{Bool, true, false}
 use native.Mathlib.Nat.{zero-add}
 use native.Mathlib.Omega.{arith}
-use borrow.Author.Tests.{leb-true, leb-false}
+use borrow.Author.Tests.{leb-true, leb-false, eq-eqb, ne-eqb}
 use lib.Dec.{ltb, leb, eqb}
 use lib.ListN.{length, drop}
 use Rattle.error.specs.Answer.{Answer, gives, refuses, bind, map}
@@ -16,6 +16,7 @@ use Rattle.ext.specs.Read.{PairAt, readOctets, readOctet, readPair, read
 use Rattle.ext.specs.Bytewise.{octets, octet, pairsFrom, fieldsFrom}
 use Rattle.ext.proofs.Answers.{bind-map}
 use Rattle.ext.proofs.Extent.{PairIn, pair-in}
+use Rattle.ext.proofs.Cases.{by-kind}
 use Rattle.ext.proofs.Pairs.{afterPair, pairs-end, pairs-over, pairs-pair}
 
 -- how many pairs there are
@@ -110,21 +111,10 @@ module _ {A : Type 0} (s : List ℕ) (k : ℕ → ℕ → List ℕ → Answer A)
       ≡ bind (readFields strict follow kind s at) (λ r. k (r .1) (pairCount (r .0)) (drop (r .1) s))
   unfolding fieldsFrom readFields
   fields-in strict false kind at = refl
-  fields-in strict true kind at = go (eqb kind 0) (eqb kind 3)
-    where
-      go : (t u : Bool)
-          → (elim t as (λ x. Answer A) [
-            | true ↦ octets (drop at s) at at k
-            | false ↦ elim u as (λ x. Answer A) [ true ↦ pairsFrom (drop at s) strict at at 0 k | false ↦ octet (drop at s) at k ]
-          ])
-          ≡ bind {A = Fields × ℕ} (elim t as (λ x. Answer (Fields × ℕ)) [
-            | true ↦ map (λ r. (bitfield (r .0), r .1)) (readOctets (drop at s) at at)
-            | false ↦
-                elim u as (λ x. Answer (Fields × ℕ)) [
-                  | true ↦ map (λ r. (pairs (r .0), r .1)) (readPairs (suc (length s)) strict s at at)
-                  | false ↦ map (λ r. (reserved kind (r .0), r .1)) (readOctet (drop at s) at)
-                ]
-          ]) (λ r. k (r .1) (pairCount (r .0)) (drop (r .1) s))
-      go true u = octets-in (drop at s) at at refl ∙ rw bind-map
-      go false true = pairs-in (suc (length s)) strict at at 0 (omega arith) ∙ simp (bind-map, zero-add)
-      go false false = octet-in (drop at s) at refl ∙ rw bind-map
+  fields-in strict true kind at =
+      by-kind strict kind s at
+      (λ x. fieldsFrom strict true kind (drop at s) at k ≡ bind x (λ r. k (r .1) (pairCount (r .0)) (drop (r .1) s)))
+      (λ z. simp (fieldsFrom, eq-eqb kind 0 z, bind-map) (octets-in (drop at s) at at refl))
+      (λ z. simp (fieldsFrom, ne-eqb kind 0 (λ y. omega arith), eq-eqb kind 3 z, bind-map)
+      (pairs-in (suc (length s)) strict at at 0 (omega arith) ∙ simp zero-add))
+      (λ y z. simp (fieldsFrom, ne-eqb kind 0 y, ne-eqb kind 3 z, bind-map) (octet-in (drop at s) at refl))

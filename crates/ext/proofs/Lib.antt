@@ -2,6 +2,7 @@ pub mod Answers
 pub mod ClassOf
 pub mod Faults
 pub mod Extent
+pub mod Cases
 pub mod Octets
 pub mod Pairs
 pub mod Continuation

@@ -13,36 +13,25 @@ use Rattle.ext.specs.Read.{readOctets, readOctet, readPairs, readFields}
 use Rattle.ext.specs.Bytewise.{fieldsFrom}
 use Rattle.ext.specs.declared.ExtRead.{ExtRead}
 use Rattle.ext.proofs.Answers.{map-gives}
+use Rattle.ext.proofs.Cases.{by-kind}
 use Rattle.ext.proofs.Continuation.{pairCount, fields-in}
 use Rattle.ext.proofs.Bounds.{Bounds, fields-bound}
 
 -- fields that were read are of the kind that was asked for
 pub span-is : (strict : Bool) (kind : ℕ) (s : List ℕ) (at : ℕ) (r : Fields × ℕ) → readFields strict true kind s at ≡ gives r
     → spanOf at r ≡ span kind at (r .1 - at) (pairCount (r .0))
-unfolding readFields
-span-is strict kind s at r e = go (eqb kind 0) (eqb kind 3) refl refl e
+span-is strict kind s at r e =
+    by-kind strict kind s at (λ x. x ≡ gives r → spanOf at r ≡ span kind at (r .1 - at) (pairCount (r .0)))
+    (λ z q. let m = map-gives _ (readOctets (drop at s) at at) r q in is _ _ (m .2) (ap (λ (k : ℕ). span k at (m .0 .1 - at) 0) (sym z)))
+    (λ z q.
+    let m = map-gives _ (readPairs (suc (length s)) strict s at at) r q in
+    is _ _ (m .2) (ap (λ (k : ℕ). span k at (m .0 .1 - at) (length (m .0 .0))) (sym z)))
+    (λ y z q. let m = map-gives _ (readOctet (drop at s) at) r q in is _ _ (m .2) refl)
+    e
   where
     is : (f : Fields) (end : ℕ) → (f, end) ≡ r → spanOf at (f, end) ≡ span kind at (end - at) (pairCount f)
         → spanOf at r ≡ span kind at (r .1 - at) (pairCount (r .0))
     is f end p = subst (λ (x : Fields × ℕ). spanOf at x ≡ span kind at (x .1 - at) (pairCount (x .0))) p
-
-    go : (t u : Bool) → eqb kind 0 ≡ t → eqb kind 3 ≡ u
-        → (elim t as (λ x. Answer (Fields × ℕ)) [
-          | true ↦ map (λ r. (bitfield (r .0), r .1)) (readOctets (drop at s) at at)
-          | false ↦
-              elim u as (λ x. Answer (Fields × ℕ)) [
-                | true ↦ map (λ r. (pairs (r .0), r .1)) (readPairs (suc (length s)) strict s at at)
-                | false ↦ map (λ r. (reserved kind (r .0), r .1)) (readOctet (drop at s) at)
-              ]
-        ]) ≡ gives r
-        → spanOf at r ≡ span kind at (r .1 - at) (pairCount (r .0))
-    go true u x y q =
-        let m = map-gives _ (readOctets (drop at s) at at) r q in
-        is _ _ (m .2) (ap (λ (k : ℕ). span k at (m .0 .1 - at) 0) (sym (eqb-true kind 0 x)))
-    go false true x y q =
-        let m = map-gives _ (readPairs (suc (length s)) strict s at at) r q in
-        is _ _ (m .2) (ap (λ (k : ℕ). span k at (m .0 .1 - at) (length (m .0 .0))) (sym (eqb-true kind 3 y)))
-    go false false x y q = let m = map-gives _ (readOctet (drop at s) at) r q in is _ _ (m .2) refl
 
 -- the span from a start to where a reading ends
 abbrev pub spanTo : ℕ → ℕ → ℕ → ℕ → List ℕ → Answer Span

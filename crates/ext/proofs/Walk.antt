@@ -17,7 +17,8 @@ use Rattle.ext.specs.declared.ExtRead.{ExtRead}
 use Rattle.ext.specs.declared.ExtRead.the-variants.{Absent}
 use Rattle.ext.specs.declared.Lookup.{Lookup}
 use Rattle.ext.specs.declared.Lookup.the-variants.{Nothing, Value}
-use Rattle.ext.proofs.Answers.{map-gives, bind-gives}
+use Rattle.ext.proofs.Answers.{map-gives}
+use Rattle.ext.proofs.Cases.{by-kind, PairsGiven, last, more, pairs-given}
 use Rattle.ext.proofs.Extent.{identifierSize, valueSize, PairIn, pair-in}
 
 -- pairs stand in a file s from an offset on
@@ -25,43 +26,17 @@ abbrev pub Stands : List ℕ → ℕ → List Pair → Type 0
 Stands s at [] = Unit {0}
 Stands s at (p ∷ ps) = (x : PairAt) × PairIn s (getD s at 0) at x × (x .pair ≡ p) × Stands s (x .end) ps
 
-stands-pairs : (most : ℕ) (strict : Bool) (s : List ℕ) (start at : ℕ) (r : List Pair × ℕ) → readPairs most strict s start at ≡ gives r → Stands s at (r .0)
+stands-pairs : (most : ℕ) (strict : Bool) (s : List ℕ) (start at : ℕ) (r : List Pair × ℕ) → readPairs most strict s start at ≡ gives r
+    → Stands s at (r .0)
 unfolding readPairs
 stands-pairs zero strict s start at r e = zero-one (cc)
-stands-pairs (suc most) strict s start at r e = go (leb (length s) at) (leb (start + 4096) at) e (stands-pairs most strict s start)
+stands-pairs (suc most) strict s start at r e = go r (pairs-given most strict s start at r e) (stands-pairs most strict s start)
   where
-    after : PairAt → Answer (List Pair × ℕ)
-    after p =
-        elim (p .more) [
-          | true ↦ map (λ r. (p .pair ∷ r .0, r .1)) (readPairs most strict s start (p .end))
-          | false ↦ gives (p .pair ∷ [], p .end)
-        ]
-
-    go : (t u : Bool)
-        → (elim t as (λ x. Answer (List Pair × ℕ)) [
-          | true ↦ refuses 9 at
-          | false ↦ elim u as (λ x. Answer (List Pair × ℕ)) [ true ↦ refuses 10 at | false ↦ bind (readPair strict s at) after ]
-        ]) ≡ gives r
+    go : (r : List Pair × ℕ) → PairsGiven most strict s start at r
         → ((end : ℕ) (r : List Pair × ℕ) → readPairs most strict s start end ≡ gives r → Stands s end (r .0))
         → Stands s at (r .0)
-    go true u q ih = zero-one (cc)
-    go false true q ih = zero-one (cc)
-    go false false q ih =
-        let b = bind-gives after (readPair strict s at) r q in
-        one (b .0) (pair-in strict s at (b .0) (b .1)) (b .0 .more) (b .2)
-      where
-        one : (x : PairAt) → PairIn s (getD s at 0) at x → (t : Bool)
-            → (elim t as (λ x. Answer (List Pair × ℕ)) [
-              | true ↦ map (λ r. (x .pair ∷ r .0, r .1)) (readPairs most strict s start (x .end))
-              | false ↦ gives (x .pair ∷ [], x .end)
-            ]) ≡ gives r
-            → Stands s at (r .0)
-        one x i true e =
-            let m = map-gives _ (readPairs most strict s start (x .end)) r e in
-            subst (λ (r : List Pair × ℕ). Stands s at (r .0)) (m .2) (x, i, refl, ih (x .end) (m .0) (m .1))
-        one x i false e =
-            let is : (x .pair ∷ [], x .end) ≡ r = cc in
-            subst (λ (r : List Pair × ℕ). Stands s at (r .0)) is (x, i, refl, tt)
+    go r (last x i h) ih = (x, i, refl, tt)
+    go r (more x i h rest e) ih = (x, i, refl, ih (x .end) rest e)
 
 pub stands-fields : (strict follow : Bool) (kind : ℕ) (s : List ℕ) (at : ℕ) (r : Fields × ℕ) → readFields strict follow kind s at ≡ gives r
     → Stands s at (pairsIn (r .0))
@@ -69,26 +44,17 @@ unfolding readFields
 stands-fields strict false kind s at r e =
     let is : (none, at) ≡ r = cc in
     subst (λ (r : Fields × ℕ). Stands s at (pairsIn (r .0))) is tt
-stands-fields strict true kind s at r e = go (eqb kind 0) (eqb kind 3) e
+stands-fields strict true kind s at r e =
+    by-kind strict kind s at (λ x. x ≡ gives r → Stands s at (pairsIn (r .0)))
+    (λ z q. let m = map-gives _ (readOctets (drop at s) at at) r q in stand _ _ (m .2) tt)
+    (λ z q.
+    let m = map-gives _ (readPairs (suc (length s)) strict s at at) r q in
+    stand _ _ (m .2) (stands-pairs (suc (length s)) strict s at at (m .0) (m .1)))
+    (λ y z q. let m = map-gives _ (readOctet (drop at s) at) r q in stand _ _ (m .2) tt)
+    e
   where
-    is : (f : Fields) (end : ℕ) → (f, end) ≡ r → Stands s at (pairsIn f) → Stands s at (pairsIn (r .0))
-    is f end p = subst (λ (r : Fields × ℕ). Stands s at (pairsIn (r .0))) p
-
-    go : (t u : Bool)
-        → (elim t as (λ x. Answer (Fields × ℕ)) [
-          | true ↦ map (λ r. (bitfield (r .0), r .1)) (readOctets (drop at s) at at)
-          | false ↦
-              elim u as (λ x. Answer (Fields × ℕ)) [
-                | true ↦ map (λ r. (pairs (r .0), r .1)) (readPairs (suc (length s)) strict s at at)
-                | false ↦ map (λ r. (reserved kind (r .0), r .1)) (readOctet (drop at s) at)
-              ]
-        ]) ≡ gives r
-        → Stands s at (pairsIn (r .0))
-    go true u q = let m = map-gives _ (readOctets (drop at s) at at) r q in is _ _ (m .2) tt
-    go false true q =
-        let m = map-gives _ (readPairs (suc (length s)) strict s at at) r q in
-        is _ _ (m .2) (stands-pairs (suc (length s)) strict s at at (m .0) (m .1))
-    go false false q = let m = map-gives _ (readOctet (drop at s) at) r q in is _ _ (m .2) tt
+    stand : (f : Fields) (end : ℕ) → (f, end) ≡ r → Stands s at (pairsIn f) → Stands s at (pairsIn (r .0))
+    stand f end is = subst (λ (r : Fields × ℕ). Stands s at (pairsIn (r .0))) is
 
 -- the sizes of a pair that was read
 sizes : (s : List ℕ) (h at : ℕ) (x : PairAt) → PairIn s h at x
