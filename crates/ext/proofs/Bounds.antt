@@ -4,16 +4,15 @@ use mathlib.Core.Path.{_≡_, refl, sym, ap, subst}
 use mathlib.Core.List.{List, [], _∷_}
 use mathlib.Core.Bool.{Bool, true, false}
 use native.Mathlib.Omega.{arith}
-use borrow.Author.Tests.{leb-true, leb-false}
-use lib.Dec.{ltb, leb, eqb}
-use lib.ListN.{length, getD, drop, length-drop}
-use Rattle.error.specs.Answer.{Answer, gives, refuses, bind, map}
+use borrow.Author.Tests.{leb-false}
+use lib.Dec.{ltb, leb}
+use lib.ListN.{length, drop, length-drop}
+use Rattle.error.specs.Answer.{Answer, gives, refuses, map}
 use Rattle.laws.proofs.Tests.{zero-one}
-use Rattle.ext.specs.Kinds.{Pair, Fields, none, bitfield, reserved, pairs}
+use Rattle.ext.specs.Kinds.{Pair, Fields, none, pairs}
 use Rattle.ext.specs.Classes.{all, isAlphaDigit}
-use Rattle.ext.specs.Read.{PairAt, readOctets, readOctet, readPair, readPairs, readFields}
-use Rattle.ext.proofs.Answers.{map-gives, bind-gives}
-use Rattle.ext.proofs.Extent.{PairIn, pair-in}
+use Rattle.ext.specs.Read.{readOctets, readOctet, readPair, readPairs, readFields}
+use Rattle.ext.proofs.Answers.{map-gives}
 use Rattle.ext.proofs.Cases.{by-kind, PairsGiven, last, more, pairs-given}
 use Rattle.ext.proofs.Continuation.{pairCount}
 

@@ -1,21 +1,21 @@
 -- The direct definitions of reading and those in continuation form say the same.
-use Prim.Native.Nat.{ℕ, zero, suc, _+_, _%_, _<_, _≤_}
+use Prim.Native.Nat.{ℕ, zero, suc, _+_, _%_, _<_}
 use mathlib.Core.Path.{_≡_, _∙_, refl, ap}
 use mathlib.Core.List.{List, [], _∷_}
 use mathlib.Core.Bool.{Bool, true, false}
 use native.Mathlib.Nat.{zero-add}
 use native.Mathlib.Omega.{arith}
 use borrow.Author.Tests.{leb-true, leb-false, eq-eqb, ne-eqb}
-use lib.Dec.{ltb, leb, eqb}
+use lib.Dec.{ltb, leb}
 use lib.ListN.{length, drop}
 use Rattle.error.specs.Answer.{Answer, gives, refuses, bind, map}
 use Rattle.laws.proofs.Lists.{tail-drop}
-use Rattle.ext.specs.Kinds.{Pair, Fields, bitfield, reserved, pairs}
+use Rattle.ext.specs.Kinds.{Pair, Fields}
 use Rattle.ext.specs.Find.{pairsIn}
 use Rattle.ext.specs.Read.{PairAt, readOctets, readOctet, readPair, readPairs, readFields}
 use Rattle.ext.specs.Bytewise.{octets, octet, pairsFrom, fieldsFrom}
 use Rattle.ext.proofs.Answers.{bind-map}
-use Rattle.ext.proofs.Extent.{PairIn, pair-in}
+use Rattle.ext.proofs.Extent.{pair-in}
 use Rattle.ext.proofs.Cases.{by-kind}
 use Rattle.ext.proofs.Pairs.{afterPair, pairs-end, pairs-over, pairs-pair}
 

@@ -8,6 +8,7 @@ pub mod Pairs
 pub mod Continuation
 pub mod Bounds
 pub mod Prefix
+pub mod Corners
 pub mod Spans
 pub mod Same
 pub mod Walk

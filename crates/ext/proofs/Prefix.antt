@@ -4,14 +4,14 @@ use mathlib.Core.Path.{_≡_, _∙_, refl, sym, ap}
 use mathlib.Core.List.{List, [], _∷_, _++_}
 use mathlib.Core.Bool.{Bool, true, false, not}
 use native.Mathlib.Omega.{arith}
-use borrow.Author.Tests.{ltb-true, ltb-false, leb-true, leb-false, le-ltb, lt-leb}
+use borrow.Author.Tests.{ltb-false, leb-true, leb-false, le-ltb, lt-leb}
 use lib.Dec.{ltb, leb, eqb}
-use lib.ListN.{length, getD, take, drop, length-append, drop-of-length-le, List·getD-append}
+use lib.ListN.{length, getD, drop, length-append, drop-of-length-le, List·getD-append}
 use lib.Seq.{slice, take-append-le, drop-append-le}
 use Rattle.error.specs.Choice.{if}
 use Rattle.error.specs.Answer.{Answer, gives, refuses, bind, map, isEnd}
 use Rattle.laws.proofs.Tests.{zero-one}
-use Rattle.ext.specs.Kinds.{Pair, Fields, none, bitfield, reserved, pairs}
+use Rattle.ext.specs.Kinds.{Pair, Fields, bitfield, reserved, pairs}
 use Rattle.ext.specs.Read.{PairAt, readOctets, readOctet, readPair, readPairs, readFields, pairParts, classed}
 
 -- an answer that more bytes do not change

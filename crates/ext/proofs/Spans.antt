@@ -1,21 +1,19 @@
 -- From a span, as the code answers it, to what a reading goes on with.
-use Prim.Native.Nat.{ℕ, suc, _+_, _-_, _≤_}
+use Prim.Native.Nat.{ℕ, suc, _+_, _-_}
 use mathlib.Core.Path.{_≡_, _∙_, refl, sym, ap, subst}
 use mathlib.Core.List.{List}
 use mathlib.Core.Bool.{Bool, true, false}
 use native.Mathlib.Omega.{arith}
-use borrow.Author.Tests.{eqb-true}
-use lib.Dec.{eqb}
 use lib.ListN.{length, drop}
 use Rattle.error.specs.Answer.{Answer, gives, refuses, bind, map}
-use Rattle.ext.specs.Kinds.{Fields, bitfield, reserved, pairs, Span, absent, span, spanOf, meaning}
+use Rattle.ext.specs.Kinds.{Fields, Span, absent, span, spanOf, meaning}
 use Rattle.ext.specs.Read.{readOctets, readOctet, readPairs, readFields}
 use Rattle.ext.specs.Bytewise.{fieldsFrom}
 use Rattle.ext.specs.declared.ExtRead.{ExtRead}
 use Rattle.ext.proofs.Answers.{map-gives}
 use Rattle.ext.proofs.Cases.{by-kind}
 use Rattle.ext.proofs.Continuation.{pairCount, fields-in}
-use Rattle.ext.proofs.Bounds.{Bounds, fields-bound}
+use Rattle.ext.proofs.Bounds.{fields-bound}
 
 -- fields that were read are of the kind that was asked for
 pub span-is : (strict : Bool) (kind : ℕ) (s : List ℕ) (at : ℕ) (r : Fields × ℕ) → readFields strict true kind s at ≡ gives r

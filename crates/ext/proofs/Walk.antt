@@ -4,14 +4,13 @@ use mathlib.Core.Path.{_≡_, _∙_, refl, sym, ap, subst}
 use mathlib.Core.List.{List, [], _∷_}
 use mathlib.Core.Bool.{Bool, true, false}
 use native.Mathlib.Omega.{arith}
-use lib.Dec.{leb, eqb}
 use lib.ListN.{length, getD, drop}
 use lib.Seq.{slice, length-slice}
-use Rattle.error.specs.Answer.{Answer, gives, refuses, bind, map}
+use Rattle.error.specs.Answer.{Answer, gives, refuses, map}
 use Rattle.laws.proofs.Tests.{zero-one}
 use Rattle.ext.specs.Kinds.{Pair, Fields, none, bitfield, reserved, pairs, absent, spanOf, fieldsSpan, meaning}
-use Rattle.ext.specs.Read.{PairAt, readOctets, readOctet, readPair, readPairs, readFields}
-use Rattle.ext.specs.Find.{pairsIn, pairAt, pairSize, valueStart, Carries, Finds, Looked}
+use Rattle.ext.specs.Read.{PairAt, readOctets, readOctet, readPairs, readFields}
+use Rattle.ext.specs.Find.{pairsIn, pairAt, pairSize, valueStart, Finds, Looked}
 use Rattle.ext.specs.declared.ExtFields.{ExtFields}
 use Rattle.ext.specs.declared.ExtRead.{ExtRead}
 use Rattle.ext.specs.declared.ExtRead.the-variants.{Absent}
@@ -19,7 +18,7 @@ use Rattle.ext.specs.declared.Lookup.{Lookup}
 use Rattle.ext.specs.declared.Lookup.the-variants.{Nothing, Value}
 use Rattle.ext.proofs.Answers.{map-gives}
 use Rattle.ext.proofs.Cases.{by-kind, PairsGiven, last, more, pairs-given}
-use Rattle.ext.proofs.Extent.{identifierSize, valueSize, PairIn, pair-in}
+use Rattle.ext.proofs.Extent.{identifierSize, valueSize, PairIn}
 
 -- pairs stand in a file s from an offset on
 abbrev pub Stands : List ℕ → ℕ → List Pair → Type 0

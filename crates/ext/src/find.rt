@@ -15,7 +15,8 @@ ghost use Rattle.ext.specs.Find.{Looked};
 // Whether the bytes from one offset up to another are the identifier.
 fn is_identifier(bytes: &[u8], from: usize, to: usize, identifier: &[u8]) -> bool
     requires { ⌜ (from ≤ to) × (to ≤ length (now bytes)) ⌝ }
-    ensures { λ r. ⌜ (r ≡ true → slice from to (now (bytes .entry)) ≡ now (identifier .entry)) × (r ≡ false → slice from to (now (bytes .entry)) ≡ now (identifier .entry) → ⊥) ⌝ }
+    ensures { λ r. ⌜ (r ≡ true → slice from to (now (bytes .entry)) ≡ now (identifier .entry))
+        × (r ≡ false → slice from to (now (bytes .entry)) ≡ now (identifier .entry) → ⊥) ⌝ }
 {
     if identifier.len() != to - from {
         return false;
@@ -32,7 +33,9 @@ fn is_identifier(bytes: &[u8], from: usize, to: usize, identifier: &[u8]) -> boo
 
 // The first pair that carries the identifier.
 pub fn lookup(fix_header: FixHeaderField, bytes: &[u8], offset: usize, identifier: &[u8]) -> Lookup
-    ensures { λ r. ⌜ Looked (readFields false («fix_header» .«ext_fields_follow») (kindNumber («fix_header» .«ext_type»)) (now (bytes .entry)) offset) offset (now (identifier .entry)) r ⌝ }
+    ensures { λ r. ⌜ Looked
+        (readFields false («fix_header» .«ext_fields_follow») (kindNumber («fix_header» .«ext_type»)) (now (bytes .entry)) offset)
+        offset (now (identifier .entry)) r ⌝ }
 {
     match parse_ext_fields(fix_header, bytes, offset) {
         ExtRead::Absent => Lookup::Nothing,

@@ -139,7 +139,8 @@ fn parse_ext_fields_inner(
     offset: usize,
     strict: bool,
 ) -> ExtRead
-    ensures { λ r. ⌜ meaning r ≡ map (spanOf offset) (readFields strict («fix_header» .«ext_fields_follow») (kindNumber («fix_header» .«ext_type»)) (now (bytes .entry)) offset) ⌝ }
+    ensures { λ r. ⌜ meaning r ≡ map (spanOf offset)
+        (readFields strict («fix_header» .«ext_fields_follow») (kindNumber («fix_header» .«ext_type»)) (now (bytes .entry)) offset) ⌝ }
 {
     if !fix_header.ext_fields_follow {
         return ExtRead::Absent;
@@ -155,14 +156,16 @@ fn parse_ext_fields_inner(
 
 // The fields at an offset of an input, which stand behind the FixHeader byte.
 pub fn parse_ext_fields(fix_header: FixHeaderField, bytes: &[u8], offset: usize) -> ExtRead
-    ensures { λ r. ⌜ meaning r ≡ map (spanOf offset) (readFields false («fix_header» .«ext_fields_follow») (kindNumber («fix_header» .«ext_type»)) (now (bytes .entry)) offset) ⌝ }
+    ensures { λ r. ⌜ meaning r ≡ map (spanOf offset)
+        (readFields false («fix_header» .«ext_fields_follow») (kindNumber («fix_header» .«ext_type»)) (now (bytes .entry)) offset) ⌝ }
 {
     parse_ext_fields_inner(fix_header, bytes, offset, false)
 }
 
 // The same, and the strict classes.
 pub fn parse_ext_fields_strict(fix_header: FixHeaderField, bytes: &[u8], offset: usize) -> ExtRead
-    ensures { λ r. ⌜ meaning r ≡ map (spanOf offset) (readFields true («fix_header» .«ext_fields_follow») (kindNumber («fix_header» .«ext_type»)) (now (bytes .entry)) offset) ⌝ }
+    ensures { λ r. ⌜ meaning r ≡ map (spanOf offset)
+        (readFields true («fix_header» .«ext_fields_follow») (kindNumber («fix_header» .«ext_type»)) (now (bytes .entry)) offset) ⌝ }
 {
     parse_ext_fields_inner(fix_header, bytes, offset, true)
 }

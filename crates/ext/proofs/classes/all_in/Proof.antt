@@ -1,20 +1,16 @@
+use Prim.Native.Nat.{_-_, _≤_}
 use mathlib.Core.Bool.{true, false}
-use borrow.Author.Tests.{not-true, not-false}
-use Rattle.ext.proofs.ClassOf.{all-none, all-step}
-use Prim.Native.Nat.{_+_, _-_, _≤_}
-use mathlib.Core.Path.{_≡_, _∙_, refl, sym, ap}
+use mathlib.Core.Path.{_≡_, _∙_, refl, sym}
 use native.Mathlib.Omega.{arith}
+use borrow.Author.Tests.{not-true, not-false}
 use borrow.Author.Needs.{needs}
-use lib.Seq.{slice, slice-empty}
+use lib.Seq.{slice}
 use denote.Ref.{now}
-use Rattle.laws.proofs.Lists.{slice-at}
 use Rattle.ext.specs.Classes.{all}
 use Rattle.ext.specs.Steps.{classOf}
+use Rattle.ext.proofs.ClassOf.{all-none, all-step}
 use Rattle.ext.proofs.classes.all_in.Statement.{statement}
 use Rattle.ext.proofs.classes.all_in.Tie as tie
-use Rattle.ext.proofs.classes.all_in.Reads as reads
-use Rattle.ext.proofs.classes.all_in.Lts as lts
-use Rattle.ext.proofs.classes.is_in.Reads as is-in-reads
 
 abbrev Inv-loop : tie.InvT-loop
 Inv-loop class bytes from to i₀ i = (i ≤ to) × (all (classOf class) (slice from to bytes) ≡ all (classOf class) (slice i to bytes))

@@ -1,13 +1,9 @@
 use mathlib.Core.Path.{_∙_, sym, ap}
+use borrow.Author.Needs.{needs}
 use Rattle.ext.specs.Steps.{classOf}
 use Rattle.ext.specs.declared.Class.{Class}
-use borrow.Author.Needs.{needs}
 use Rattle.ext.proofs.classes.is_in.Statement.{statement}
 use Rattle.ext.proofs.classes.is_in.Tie as tie
-use Rattle.ext.proofs.classes.is_in.Reads as reads
-use Rattle.ext.proofs.classes.is_in.Lts as lts
-use Rattle.ext.proofs.classes.is_rfc2234_alpha_digit.Reads as is-rfc2234-alpha-digit-reads
-use Rattle.ext.proofs.classes.is_rfc2234_char.Reads as is-rfc2234-char-reads
 
 enum-told : tie.Need-enum-told
 enum-told c = search needs

@@ -1,8 +1,6 @@
 use borrow.Author.Tests.{le-leb, lt-leb}
 use Rattle.ext.proofs.classes.is_rfc2234_char.Statement.{statement}
 use Rattle.ext.proofs.classes.is_rfc2234_char.Tie as tie
-use Rattle.ext.proofs.classes.is_rfc2234_char.Reads as reads
-use Rattle.ext.proofs.classes.is_rfc2234_char.Lts as lts
 
 returns : tie.Need-returns
 returns c = simp (le-leb _ _ (c .if1 .taken))

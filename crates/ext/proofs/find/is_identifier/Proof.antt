@@ -1,18 +1,14 @@
-use mathlib.Core.Bool.{true, false}
 use Prim.Native.Nat.{ℕ, _+_, _-_, _≤_, _<_}
-use mathlib.Core.Path.{_≡_, _∙_, refl, sym, ap}
+use mathlib.Core.Path.{_≡_}
 use native.Mathlib.Omega.{arith}
 use borrow.Author.Needs.{needs}
 use borrow.Author.Count.{below-more}
 use lib.ListN.{length, getD}
-use lib.Seq.{slice}
 use denote.Ref.{now}
 use Rattle.laws.proofs.Tests.{zero-one}
 use Rattle.ext.proofs.Same.{same-list, same-length, same-get}
 use Rattle.ext.proofs.find.is_identifier.Statement.{statement}
 use Rattle.ext.proofs.find.is_identifier.Tie as tie
-use Rattle.ext.proofs.find.is_identifier.Reads as reads
-use Rattle.ext.proofs.find.is_identifier.Lts as lts
 
 abbrev Inv-loop : tie.InvT-loop
 Inv-loop bytes from to identifier i₀ i = (i ≤ length identifier) × (length identifier ≡ to - from) × ((k : ℕ) → k < i → getD bytes (from + k) 0 ≡ getD identifier k 0)

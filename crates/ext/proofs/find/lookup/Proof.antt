@@ -1,13 +1,12 @@
-use Prim.Native.Nat.{ℕ, _+_, _-_, _≤_, _<_}
-use mathlib.Core.Path.{_≡_, _∙_, sym, ap, subst}
-use mathlib.Core.Bool.{true, false}
+use Prim.Native.Nat.{ℕ, _+_, _-_}
+use mathlib.Core.Path.{_≡_, subst}
+use mathlib.Core.Bool.{false}
 use mathlib.Core.List.{List}
 use native.Mathlib.Omega.{arith}
 use borrow.Author.Needs.{needs}
 use lib.ListN.{getD}
 use denote.Ref.{now}
-use Rattle.error.specs.Answer.{Answer}
-use Rattle.ext.specs.Kinds.{Pair, Fields, kindNumber}
+use Rattle.ext.specs.Kinds.{Pair, kindNumber}
 use Rattle.ext.specs.Read.{readFields}
 use Rattle.ext.specs.Find.{Finds, Looked}
 use Rattle.ext.specs.declared.ExtRead.{ExtRead}
@@ -16,10 +15,6 @@ use Rattle.ext.proofs.Extent.{identifierSize, valueSize}
 use Rattle.ext.proofs.Walk.{Rest, Next, Begins, begins, stands-fields, walk-next, walk-end}
 use Rattle.ext.proofs.find.lookup.Statement.{statement}
 use Rattle.ext.proofs.find.lookup.Tie as tie
-use Rattle.ext.proofs.find.lookup.Reads as reads
-use Rattle.ext.proofs.find.lookup.Lts as lts
-use Rattle.ext.proofs.find.is_identifier.Reads as is-identifier-reads
-use Rattle.ext.proofs.read.parse_ext_fields.Reads as parse-ext-fields-reads
 
 abbrev Inv-loop : tie.InvT-loop
 Inv-loop bytes offset identifier at₀ left₀ at left = (ps : List Pair) → Rest bytes identifier offset ps at₀ left₀ → Rest bytes identifier offset ps at left

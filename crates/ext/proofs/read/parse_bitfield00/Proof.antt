@@ -1,5 +1,5 @@
-use Prim.Native.Nat.{_+_, _-_, _≤_}
-use mathlib.Core.Path.{_≡_, _∙_, refl, sym}
+use Prim.Native.Nat.{_-_, _≤_}
+use mathlib.Core.Path.{_≡_, _∙_, sym}
 use mathlib.Core.Bool.{true, false}
 use native.Mathlib.Omega.{arith}
 use borrow.Author.Needs.{needs}
@@ -13,10 +13,6 @@ use Rattle.ext.proofs.Octets.{octets-end, octets-over, octets-last, oct
 use Rattle.ext.proofs.Spans.{spanTo, spans}
 use Rattle.ext.proofs.read.parse_bitfield00.Statement.{statement}
 use Rattle.ext.proofs.read.parse_bitfield00.Tie as tie
-use Rattle.ext.proofs.read.parse_bitfield00.Reads as reads
-use Rattle.ext.proofs.read.parse_bitfield00.Lts as lts
-use Rattle.ext.proofs.read.found.Reads as found-reads
-use Rattle.ext.proofs.read.refused.Reads as refused-reads
 
 abbrev Inv-loop : tie.InvT-loop
 Inv-loop bytes offset at₀ at = (offset ≤ at) × (map (spanOf offset) (readFields false true 0 bytes offset) ≡ octets (drop at bytes) offset at (spanTo 0 offset))

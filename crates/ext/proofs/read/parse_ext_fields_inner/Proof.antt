@@ -1,21 +1,16 @@
 use Prim.Native.Nat.{ℕ}
 use mathlib.Core.Bool.{Bool, true, false, not}
 use mathlib.Core.List.{List}
+use mathlib.Core.Path.{_≡_, _∙_}
+use borrow.Author.Tests.{not-true, not-false}
+use borrow.Author.Needs.{needs}
 use denote.Ref.{now}
 use Rattle.error.specs.Answer.{map}
 use Rattle.ext.specs.Kinds.{kindNumber, spanOf}
 use Rattle.ext.specs.declared.ExtFieldType.{ExtFieldType}
-use mathlib.Core.Path.{_≡_, _∙_}
-use borrow.Author.Tests.{not-true, not-false}
 use Rattle.ext.specs.Read.{readFields}
-use borrow.Author.Needs.{needs}
 use Rattle.ext.proofs.read.parse_ext_fields_inner.Statement.{statement}
 use Rattle.ext.proofs.read.parse_ext_fields_inner.Tie as tie
-use Rattle.ext.proofs.read.parse_ext_fields_inner.Reads as reads
-use Rattle.ext.proofs.read.parse_ext_fields_inner.Lts as lts
-use Rattle.ext.proofs.read.parse_bitfield00.Reads as parse-bitfield00-reads
-use Rattle.ext.proofs.read.parse_parameter_pairs.Reads as parse-parameter-pairs-reads
-use Rattle.ext.proofs.read.read_single_octet.Reads as read-single-octet-reads
 
 -- fields that follow, of a kind
 read-as : (strict follow : Bool) (kind known : ExtFieldType) (s : List ℕ) (at : ℕ) → not follow ≡ false → kind ≡ known

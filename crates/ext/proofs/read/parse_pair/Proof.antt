@@ -1,15 +1,11 @@
 use mathlib.Core.Path.{_≡_, _∙_, sym}
-use denote.Ref.{now}
-use Rattle.ext.proofs.Extent.{wholePair, pair-whole}
 use borrow.Author.Tests.{lt-ltb, le-ltb, eq-eqb, ne-eqb, not-true, not-false}
-use Rattle.ext.specs.Read.{readPair, classed}
 use borrow.Author.Needs.{needs}
+use denote.Ref.{now}
+use Rattle.ext.specs.Read.{readPair, classed}
+use Rattle.ext.proofs.Extent.{wholePair, pair-whole}
 use Rattle.ext.proofs.read.parse_pair.Statement.{statement}
 use Rattle.ext.proofs.read.parse_pair.Tie as tie
-use Rattle.ext.proofs.read.parse_pair.Reads as reads
-use Rattle.ext.proofs.read.parse_pair.Lts as lts
-use Rattle.ext.proofs.classes.all_in.Reads as all-in-reads
-use Rattle.ext.proofs.read.pair_refused.Reads as pair-refused-reads
 
 -- past the tests of the lengths
 whole : (c : tie.Else4) → let a = c .before .before .before .before .before .before .args in

@@ -1,14 +1,14 @@
-use Prim.Native.Nat.{ℕ, _+_, _-_, _≤_, _<_}
-use mathlib.Core.Path.{_≡_, _∙_, refl, sym, ap}
-use mathlib.Core.Bool.{Bool, true, false}
+use Prim.Native.Nat.{ℕ, _-_, _≤_, _<_}
+use mathlib.Core.Path.{_≡_, _∙_, sym, ap}
+use mathlib.Core.Bool.{Bool, true}
 use native.Mathlib.Omega.{arith}
 use borrow.Author.Needs.{needs}
 use lib.ListN.{length, drop}
 use denote.Ref.{now}
 use Rattle.error.specs.Answer.{Answer, bind, map}
 use Rattle.ext.specs.Kinds.{spanOf, Span}
-use Rattle.ext.specs.Read.{readFields, readPair}
-use Rattle.ext.specs.Steps.{pairMeaning, pairStep}
+use Rattle.ext.specs.Read.{readFields}
+use Rattle.ext.specs.Steps.{pairMeaning}
 use Rattle.ext.specs.Bytewise.{pairsFrom, fieldsFrom}
 use Rattle.ext.specs.declared.PairRead.{PairRead}
 use Rattle.ext.proofs.Pairs.{afterPair, pairs-end, pairs-over, pairs-step}
@@ -16,11 +16,6 @@ use Rattle.ext.proofs.Extent.{step-after}
 use Rattle.ext.proofs.Spans.{spanTo, spans}
 use Rattle.ext.proofs.read.parse_parameter_pairs.Statement.{statement}
 use Rattle.ext.proofs.read.parse_parameter_pairs.Tie as tie
-use Rattle.ext.proofs.read.parse_parameter_pairs.Reads as reads
-use Rattle.ext.proofs.read.parse_parameter_pairs.Lts as lts
-use Rattle.ext.proofs.read.found.Reads as found-reads
-use Rattle.ext.proofs.read.parse_pair.Reads as parse-pair-reads
-use Rattle.ext.proofs.read.refused.Reads as refused-reads
 
 abbrev Inv-loop : tie.InvT-loop
 Inv-loop bytes offset strict at₀ pairs₀ at pairs = (offset ≤ at) × (pairs ≤ at) × (map (spanOf offset) (readFields strict true 3 bytes offset) ≡ pairsFrom (drop at bytes) strict offset at pairs (spanTo 3 offset))

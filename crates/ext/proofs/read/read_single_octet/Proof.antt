@@ -1,19 +1,15 @@
 use mathlib.Core.Path.{_∙_, sym}
 use native.Mathlib.Omega.{arith}
 use borrow.Author.Tests.{ne-eqb}
+use borrow.Author.Needs.{needs}
 use lib.ListN.{drop-of-length-le}
 use denote.Ref.{now}
 use Rattle.laws.proofs.Lists.{drop-at}
 use Rattle.ext.specs.Kinds.{kindNumber}
 use Rattle.ext.specs.Bytewise.{octet, fieldsFrom}
 use Rattle.ext.proofs.Spans.{spans}
-use borrow.Author.Needs.{needs}
 use Rattle.ext.proofs.read.read_single_octet.Statement.{statement}
 use Rattle.ext.proofs.read.read_single_octet.Tie as tie
-use Rattle.ext.proofs.read.read_single_octet.Reads as reads
-use Rattle.ext.proofs.read.read_single_octet.Lts as lts
-use Rattle.ext.proofs.read.found.Reads as found-reads
-use Rattle.ext.proofs.read.refused.Reads as refused-reads
 
 refused-requires : tie.Need-refused-requires
 refused-requires c κs = search needs
