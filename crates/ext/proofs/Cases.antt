@@ -62,7 +62,7 @@ pairs-given most strict s start at r e = go (leb (length s) at) (leb (start + 40
     go true u p q = zero-one (cc)
     go false true p q = zero-one (cc)
     go false false p q =
-        let b = bind-gives after (readPair strict s at) r q in
+        let b = bind-gives (readPair strict s at) after r q in
         one (b .0) (pair-in strict s at (b .0) (b .1)) (b .0 .more) (b .2)
       where
         one : (x : PairAt) → PairIn s (getD s at 0) at x → (t : Bool)

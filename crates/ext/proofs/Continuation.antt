@@ -14,10 +14,9 @@ use Rattle.ext.specs.Kinds.{Pair, Fields}
 use Rattle.ext.specs.Find.{pairsIn}
 use Rattle.ext.specs.Read.{PairAt, readOctets, readOctet, readPair, readPairs, readFields}
 use Rattle.ext.specs.Bytewise.{octets, octet, pairsFrom, fieldsFrom}
-use Rattle.ext.proofs.Answers.{bind-map}
 use Rattle.ext.proofs.Extent.{pair-in}
 use Rattle.ext.proofs.Cases.{by-kind}
-use Rattle.ext.proofs.Pairs.{afterPair, pairs-end, pairs-over, pairs-pair}
+use Rattle.ext.proofs.Pairs.{bind-map, afterPair, pairs-end, pairs-over, pairs-pair}
 
 -- how many pairs there are
 abbrev pub pairCount : Fields → ℕ

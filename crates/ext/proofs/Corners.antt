@@ -1,10 +1,9 @@
 -- Corners of reading fields, worked out by the definitions.
-use Prim.Native.Nat.{ℕ}
 use mathlib.Core.Path.{_≡_, refl}
-use mathlib.Core.List.{List, [], _∷_}
+use mathlib.Core.List.{[], _∷_}
 use mathlib.Core.Bool.{true, false}
-use Rattle.error.specs.Answer.{Answer, gives, refuses}
-use Rattle.ext.specs.Kinds.{Pair, pairs}
+use Rattle.error.specs.Answer.{gives, refuses}
+use Rattle.ext.specs.Kinds.{pairs}
 use Rattle.ext.specs.Classes.{all, isAlphaDigit}
 use Rattle.ext.specs.Read.{readOctets, readPair, readPairs, readFields}
 use Rattle.ext.specs.Bytewise.{pairsFrom}

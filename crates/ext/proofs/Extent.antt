@@ -13,7 +13,7 @@ use Rattle.error.specs.Answer.{gives, refuses, map}
 use Rattle.laws.proofs.Tests.{zero-one}
 use Rattle.ext.specs.Classes.{isChar, isAlphaDigit, inClass}
 use Rattle.ext.specs.Read.{PairAt, readPair, classed}
-use Rattle.ext.specs.Steps.{pairStep}
+use Rattle.ext.specs.Pairwise.{pairStep}
 use Rattle.ext.proofs.Answers.{map-gives}
 
 -- the lengths in a pair's header byte

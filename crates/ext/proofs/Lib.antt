@@ -1,9 +1,9 @@
 pub mod Answers
-pub mod ClassOf
+pub mod Alls
 pub mod Faults
 pub mod Extent
 pub mod Cases
-pub mod Octets
+pub mod Bitfield
 pub mod Pairs
 pub mod Continuation
 pub mod Bounds

@@ -14,9 +14,12 @@ use Rattle.laws.proofs.Lists.{drop-at, take-slice}
 use Rattle.ext.specs.Classes.{isChar, isAlphaDigit, inClass}
 use Rattle.ext.specs.Read.{PairAt, readPair, pairParts, classed}
 use Rattle.ext.specs.Bytewise.{pairsFrom, identifierFrom, valueFrom, identifierFault, valueFault}
-use Rattle.ext.specs.Steps.{pairStep}
-use Rattle.ext.proofs.Answers.{bind-map}
+use Rattle.ext.specs.Pairwise.{pairStep}
 use Rattle.ext.proofs.Faults.{identifierFaults, valueFaults, pair-fault}
+
+pub bind-map : {A B C : Type 0} (x : Answer A) (f : A → B) (g : B → Answer C) → bind (map f x) g ≡ bind x (λ a. g (f a))
+bind-map (gives a) f g = refl
+bind-map (refuses code offset) f g = refl
 
 module _ {A : Type 0} (strict : Bool) (start done : ℕ) (more : Bool) (k : ℕ → ℕ → List ℕ → Answer A) where
   identifier-short : (τ : List ℕ) (at begun left size fault : ℕ) → length τ < left
@@ -159,7 +162,7 @@ module _ {A : Type 0} (strict : Bool) (s : List ℕ) (start done : ℕ) (k : ℕ
           pos : (n : ℕ) → (n ≡ 0 → ⊥) → 1 ≤ n
           pos n f = omega arith
 
-  -- the same by what the code's step answers
+  -- the same by what `parse_pair` answers
   pub pairs-step : (at : ℕ) → at < length s → at < start + 4096
       → pairsFrom (drop at s) strict start at done k ≡ bind (map pairStep (readPair strict s at)) (λ p. afterPair (p .0) (p .1))
   pairs-step at h o = pairs-pair at h o ∙ sym (bind-map (readPair strict s at) pairStep (λ p. afterPair (p .0) (p .1)))

@@ -3,8 +3,9 @@ use Prim.Native.Nat.{ℕ, _+_, _-_, _<_, _≤_}
 use mathlib.Core.Path.{_≡_, _∙_, sym, ap}
 use mathlib.Core.List.{List}
 use native.Mathlib.Omega.{arith}
-use lib.ListN.{length, getD, take}
+use lib.ListN.{length, getD, take, drop}
 use lib.Seq.{slice, length-slice, getD-drop, getD-take, ext-getD}
+use Rattle.laws.proofs.Lists.{take-slice}
 
 module _ (s : List ℕ) (from to : ℕ) where
   slice-get : (i : ℕ) → from + i < to → getD (slice from to s) i 0 ≡ getD s (from + i) 0
@@ -21,3 +22,7 @@ module _ (s : List ℕ) (from to : ℕ) where
 
     pub same-get : slice from to s ≡ x → (i : ℕ) → from + i < to → getD s (from + i) 0 ≡ getD x i 0
     same-get e i h = sym (slice-get i h) ∙ ap (λ (l : List ℕ). getD l i 0) e
+
+-- the part from a to a + i, as the code lends it
+pub lent-part : (a i : ℕ) (s : List ℕ) → take (a + i - a) (drop a s) ≡ slice a (a + i) s
+lent-part a i s = let e : a + i - a ≡ i = omega arith in rw e (take-slice a i s)

@@ -2,6 +2,6 @@ pub mod Kinds
 pub mod Classes
 pub mod Read
 pub mod Bytewise
-pub mod Steps
+pub mod Pairwise
 pub mod Write
 pub mod Find

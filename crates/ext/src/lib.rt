@@ -3,7 +3,7 @@ ghost use mathlib.Core.Path.{_≡_};
 ghost use Prim.Native.Nat.{_<_};
 ghost use Rattle.ext.specs.Kinds.{kindNumber, SplitFix};
 
-mod classes;
+mod class;
 pub mod find;
 mod read;
 
@@ -72,12 +72,6 @@ pub enum ExtRead {
 enum PairRead {
     Pair { more: bool, end: usize },
     Refused(WbmpError),
-}
-
-// A strict class of WAP 4.4.3, from RFC 2234 6.1.
-enum Class {
-    Char,
-    AlphaDigit,
 }
 
 // The lengths of a pair to be written.

@@ -1,11 +1,11 @@
 // Reading extension fields.
-use crate::Class;
 use crate::ExtFieldType;
 use crate::ExtFields;
 use crate::ExtRead;
 use crate::FixHeaderField;
 use crate::PairRead;
-use crate::classes::all_in;
+use crate::class::identifier_in_class;
+use crate::class::value_in_class;
 use error::WbmpError;
 ghost use mathlib.Core.Path.{_≡_};
 ghost use mathlib.Core.Bool.{true, false};
@@ -14,7 +14,7 @@ ghost use lib.ListN.{length};
 ghost use Rattle.error.specs.Answer.{gives, refuses, map};
 ghost use Rattle.ext.specs.Kinds.{kindNumber, span, spanOf, meaning};
 ghost use Rattle.ext.specs.Read.{readPair, readFields};
-ghost use Rattle.ext.specs.Steps.{pairMeaning, pairStep};
+ghost use Rattle.ext.specs.Pairwise.{pairMeaning, pairStep};
 
 // An octet or a pair starts less than this far from the first one.
 pub const MAX_EXT_FIELD_BYTES: usize = 4096;
@@ -66,16 +66,16 @@ fn parse_pair(bytes: &[u8], at: usize, strict: bool) -> PairRead
     if bytes.len() < end {
         return pair_refused(error::PAIR_TRUNCATED, value);
     }
-    let more = 128 <= header;
-    if strict {
-        if !all_in(Class::Char, bytes, identifier, value) {
-            return pair_refused(error::IDENTIFIER_CLASS, end);
-        }
-        if !all_in(Class::AlphaDigit, bytes, value, end) {
-            return pair_refused(error::VALUE_CLASS, end);
-        }
+    if !identifier_in_class(&bytes[identifier..value], strict) {
+        return pair_refused(error::IDENTIFIER_CLASS, end);
     }
-    PairRead::Pair { more, end }
+    if !value_in_class(&bytes[value..end], strict) {
+        return pair_refused(error::VALUE_CLASS, end);
+    }
+    PairRead::Pair {
+        more: 128 <= header,
+        end,
+    }
 }
 
 // Kind 11.

@@ -9,7 +9,7 @@ use Rattle.error.specs.Answer.{map}
 use Rattle.ext.specs.Kinds.{spanOf}
 use Rattle.ext.specs.Read.{readFields}
 use Rattle.ext.specs.Bytewise.{octets, fieldsFrom}
-use Rattle.ext.proofs.Octets.{octets-end, octets-over, octets-last, octets-more}
+use Rattle.ext.proofs.Bitfield.{octets-end, octets-over, octets-last, octets-more}
 use Rattle.ext.proofs.Spans.{spanTo, spans}
 use Rattle.ext.proofs.read.parse_bitfield00.Statement.{statement}
 use Rattle.ext.proofs.read.parse_bitfield00.Tie as tie

@@ -1,9 +1,13 @@
-use mathlib.Core.Path.{_≡_, _∙_, sym}
+use Prim.Native.Nat.{_+_}
+use mathlib.Core.Path.{_≡_, _∙_, sym, ap}
 use borrow.Author.Tests.{lt-ltb, le-ltb, eq-eqb, ne-eqb, not-true, not-false}
 use borrow.Author.Needs.{needs}
+use lib.ListN.{getD}
 use denote.Ref.{now}
+use Rattle.ext.specs.Classes.{isChar, isAlphaDigit, inClass}
 use Rattle.ext.specs.Read.{readPair, classed}
-use Rattle.ext.proofs.Extent.{wholePair, pair-whole}
+use Rattle.ext.proofs.Extent.{identifierSize, valueSize, wholePair, pair-whole}
+use Rattle.ext.proofs.Same.{lent-part}
 use Rattle.ext.proofs.read.parse_pair.Statement.{statement}
 use Rattle.ext.proofs.read.parse_pair.Tie as tie
 
@@ -14,6 +18,23 @@ whole c =
     let o = c .before .before in
     let a = o .before .before .before .before .args in
     pair-whole (a .strict) (now (a .bytes)) (a .at) (o .before .if1 .left) (o .if2 .left) (c .if4 .left)
+
+-- what the tests of the classes say
+identifier-is : (c : tie.After-identifier-in-class) → let a = c .before .before .before .before .before .before .before .before .args in
+    inClass (a .strict) isChar (wholePair (now (a .bytes)) (a .at) .pair .identifier) ≡ c .identifier-in-class .result
+identifier-is c =
+    let a = c .before .before .before .before .before .before .before .before .args in
+    let s = now (a .bytes) in
+    sym (c .identifier-in-class .ensures
+    ∙ ap (inClass (a .strict) isChar) (lent-part (a .at + 1) (identifierSize (getD s (a .at) 0)) s))
+
+value-is : (c : tie.After-value-in-class) → let a = c .before .before .before .before .before .before .before .before .before .before .before .args in
+    inClass (a .strict) isAlphaDigit (wholePair (now (a .bytes)) (a .at) .pair .value) ≡ c .value-in-class .result
+value-is c =
+    let a = c .before .before .before .before .before .before .before .before .before .before .before .args in
+    let s = now (a .bytes) in
+    let h = getD s (a .at) 0 in
+    sym (c .value-in-class .ensures ∙ ap (inClass (a .strict) isAlphaDigit) (lent-part (a .at + 1 + identifierSize h) (valueSize h) s))
 
 shared-slice-read-header : tie.Need-shared-slice-read-header
 shared-slice-read-header c = search needs
@@ -66,48 +87,53 @@ returns-4 c =
     c .pair-refused4 .ensures
     ∙ simp (ne-eqb _ _ (o .before .before .if1 .left), ne-eqb _ _ (o .before .if2 .left), le-ltb _ _ (o .if3 .left), lt-ltb _ _ (c .before .if4 .taken))
 
-all-in-requires : tie.Need-all-in-requires
-all-in-requires c κs = search needs
+sub-identifier-in-class : tie.Need-sub-identifier-in-class
+sub-identifier-in-class c = search needs
+
+part-identifier-in-class-start : tie.Need-part-identifier-in-class-start
+part-identifier-in-class-start c = search needs
+
+part-identifier-in-class-end : tie.Need-part-identifier-in-class-end
+part-identifier-in-class-end c = search needs
+
+identifier-in-class-requires : tie.Need-identifier-in-class-requires
+identifier-in-class-requires c κs = search needs
 
 pair-refused-requires-5 : tie.Need-pair-refused-requires-5
 pair-refused-requires-5 c κs = search needs
 
 returns-5 : tie.Need-returns-5
 returns-5 c =
-    let t = c .before .before .before in
-    c .pair-refused5 .ensures
-    ∙ rw (whole (t .before)) (simp (t .if5 .taken, sym (c .before .before .all-in .ensures) ∙ not-true _ (c .before .if6 .taken)))
+    let i = c .before .before in
+    c .pair-refused5 .ensures ∙ rw (whole (i .before .before), identifier-is i ∙ not-true _ (c .before .if5 .taken))
 
-all-in-requires-2 : tie.Need-all-in-requires-2
-all-in-requires-2 c κs = search needs
+sub-value-in-class : tie.Need-sub-value-in-class
+sub-value-in-class c = search needs
+
+part-value-in-class-start : tie.Need-part-value-in-class-start
+part-value-in-class-start c = search needs
+
+part-value-in-class-end : tie.Need-part-value-in-class-end
+part-value-in-class-end c = search needs
+
+value-in-class-requires : tie.Need-value-in-class-requires
+value-in-class-requires c κs = search needs
 
 pair-refused-requires-6 : tie.Need-pair-refused-requires-6
 pair-refused-requires-6 c κs = search needs
 
 returns-6 : tie.Need-returns-6
 returns-6 c =
-    let u = c .before .before .before in
-    let t = u .before .before in
+    let v = c .before .before in
+    let i = v .before .before .before in
     c .pair-refused6 .ensures
-    ∙ rw (whole (t .before)) (simp (
-      t .if5 .taken,
-      sym (u .before .all-in .ensures) ∙ not-false _ (u .if6 .left),
-      sym (c .before .before .all-in2 .ensures) ∙ not-true _ (c .before .if7 .taken),
-    ))
+    ∙ rw (whole (i .before .before), identifier-is i ∙ not-false _ (v .before .before .if5 .left), value-is v ∙ not-true _ (c .before .if6 .taken))
 
 returns-7 : tie.Need-returns-7
 returns-7 c =
-    let u = c .before .before in
-    let t = u .before .before in
-    rw (whole (t .before)) (simp (
-      t .if5 .taken,
-      sym (u .before .all-in .ensures) ∙ not-false _ (u .if6 .left),
-      sym (c .before .all-in2 .ensures) ∙ not-false _ (c .if7 .left),
-    ))
-
-returns-8 : tie.Need-returns-8
-returns-8 c =
-    rw (whole (c .before)) (simp (c .if5 .left))
+    let v = c .before in
+    let i = v .before .before .before in
+    rw (whole (i .before .before), identifier-is i ∙ not-false _ (v .before .before .if5 .left), value-is v ∙ not-false _ (c .if6 .left))
 
 pub parse-pair-spec : {M : Type 1} → statement M
 parse-pair-spec =
@@ -127,11 +153,16 @@ parse-pair-spec =
     add-end
     pair-refused-requires-4
     returns-4
-    all-in-requires
+    sub-identifier-in-class
+    part-identifier-in-class-start
+    part-identifier-in-class-end
+    identifier-in-class-requires
     pair-refused-requires-5
     returns-5
-    all-in-requires-2
+    sub-value-in-class
+    part-value-in-class-start
+    part-value-in-class-end
+    value-in-class-requires
     pair-refused-requires-6
     returns-6
-    returns-7
-    returns-8)
+    returns-7)

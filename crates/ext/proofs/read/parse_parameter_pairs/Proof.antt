@@ -8,7 +8,7 @@ use denote.Ref.{now}
 use Rattle.error.specs.Answer.{Answer, bind, map}
 use Rattle.ext.specs.Kinds.{spanOf, Span}
 use Rattle.ext.specs.Read.{readFields}
-use Rattle.ext.specs.Steps.{pairMeaning}
+use Rattle.ext.specs.Pairwise.{pairMeaning}
 use Rattle.ext.specs.Bytewise.{pairsFrom, fieldsFrom}
 use Rattle.ext.specs.declared.PairRead.{PairRead}
 use Rattle.ext.proofs.Pairs.{afterPair, pairs-end, pairs-over, pairs-step}

@@ -1,16 +1,9 @@
--- What the steps of a reading answer: one pair, and one class of bytes.
+-- What reading one pair answers.
 use Prim.Native.Nat.{ℕ}
 use mathlib.Core.Bool.{Bool}
 use Rattle.error.specs.Answer.{Answer, gives, refusal}
-use Rattle.ext.specs.Classes.{isChar, isAlphaDigit}
 use Rattle.ext.specs.Read.{PairAt}
 use Rattle.ext.specs.declared.PairRead.{PairRead}
-use Rattle.ext.specs.declared.Class.{Class}
-use Rattle.ext.specs.declared.Class.the-variants.{Char, AlphaDigit}
-
-abbrev pub classOf : Class → ℕ → Bool
-classOf Char = isChar
-classOf AlphaDigit = isAlphaDigit
 
 -- whether one more pair follows, and the offset after this one
 abbrev pub pairStep : PairAt → Bool × ℕ

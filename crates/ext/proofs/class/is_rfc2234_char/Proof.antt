@@ -1,6 +1,7 @@
+use native.Mathlib.Omega.{arith}
 use borrow.Author.Tests.{le-leb, lt-leb}
-use Rattle.ext.proofs.classes.is_rfc2234_char.Statement.{statement}
-use Rattle.ext.proofs.classes.is_rfc2234_char.Tie as tie
+use Rattle.ext.proofs.class.is_rfc2234_char.Statement.{statement}
+use Rattle.ext.proofs.class.is_rfc2234_char.Tie as tie
 
 returns : tie.Need-returns
 returns c = simp (le-leb _ _ (c .if1 .taken))
