@@ -16,7 +16,7 @@ use Rattle.ext.specs.Read.{PairAt, readOctets, readOctet, readPair, read
 use Rattle.ext.specs.Bytewise.{octets, octet, pairsFrom, fieldsFrom}
 use Rattle.ext.proofs.Extent.{pair-in}
 use Rattle.ext.proofs.Cases.{by-kind}
-use Rattle.ext.proofs.Pairs.{bind-map, afterPair, pairs-end, pairs-over, pairs-pair}
+use Rattle.ext.proofs.PairChain.{bind-map, afterPair, pairs-end, pairs-over, pairs-pair}
 
 -- how many pairs there are
 abbrev pub pairCount : Fields → ℕ

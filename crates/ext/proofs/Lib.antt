@@ -4,7 +4,7 @@ pub mod Faults
 pub mod Extent
 pub mod Cases
 pub mod Bitfield
-pub mod Pairs
+pub mod PairChain
 pub mod Continuation
 pub mod Bounds
 pub mod Prefix
@@ -12,3 +12,15 @@ pub mod Corners
 pub mod Spans
 pub mod Same
 pub mod Walk
+pub mod CheckPair
+pub mod PairSteps
+pub mod Octets
+pub mod Laid
+pub mod Checks
+pub mod Puts
+pub mod Emitted
+pub mod Lent
+pub mod BackOctets
+pub mod BackPairs
+pub mod ReadBack
+pub mod WrittenBytes

@@ -1,7 +1,9 @@
 pub mod Kinds
 pub mod Classes
 pub mod Read
-pub mod Bytewise
 pub mod Pairwise
-pub mod Write
+pub mod Bytewise
 pub mod Find
+pub mod Write
+pub mod Steps
+pub mod Ceiling

@@ -5,11 +5,19 @@ ghost use Rattle.ext.specs.Kinds.{kindNumber, SplitFix};
 
 mod class;
 pub mod find;
+mod pairs;
 mod read;
+mod validate;
+mod write;
 
 use error::WbmpError;
+pub use pairs::check_pair;
+pub use pairs::put_pair;
 pub use read::parse_ext_fields;
 pub use read::parse_ext_fields_strict;
+pub use write::check_ext_fields_lengths;
+pub use write::write_ext_fields_lengths;
+pub use write::write_ext_fields_lengths_strict;
 
 // The kind of the fields: bits 6-5 of the FixHeader byte.
 pub enum ExtFieldType {
@@ -90,4 +98,22 @@ pub enum Lookup {
     Nothing,
     Value { start: usize, len: usize },
     Refused(WbmpError),
+}
+
+// What a check of fields to be written answers: how many bytes they are.
+pub enum FieldsCheck {
+    Length(usize),
+    Refused(WbmpError),
+}
+
+// A check of pairs on its way: where the next pair stands in the text, and the number of the first refusal, 0 for none.
+pub struct PairsCheck {
+    pub at: usize,
+    pub code: u8,
+}
+
+// Where the next pair to put stands in the text, and where it goes in the output.
+pub struct PairsPut {
+    pub at: usize,
+    pub to: usize,
 }

@@ -1,4 +1,3 @@
-use native.Mathlib.Omega.{arith}
 use borrow.Author.Tests.{le-leb, lt-leb}
 use Rattle.ext.proofs.class.is_rfc2234_char.Statement.{statement}
 use Rattle.ext.proofs.class.is_rfc2234_char.Tie as tie

@@ -11,7 +11,7 @@ use Rattle.ext.specs.Read.{readFields}
 use Rattle.ext.specs.Pairwise.{pairMeaning}
 use Rattle.ext.specs.Bytewise.{pairsFrom, fieldsFrom}
 use Rattle.ext.specs.declared.PairRead.{PairRead}
-use Rattle.ext.proofs.Pairs.{afterPair, pairs-end, pairs-over, pairs-step}
+use Rattle.ext.proofs.PairChain.{afterPair, pairs-end, pairs-over, pairs-step}
 use Rattle.ext.proofs.Extent.{step-after}
 use Rattle.ext.proofs.Spans.{spanTo, spans}
 use Rattle.ext.proofs.read.parse_parameter_pairs.Statement.{statement}
