@@ -18,7 +18,6 @@ pub mod Octets
 pub mod Laid
 pub mod Checks
 pub mod Puts
-pub mod Emitted
 pub mod Lent
 pub mod BackOctets
 pub mod BackPairs

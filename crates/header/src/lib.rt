@@ -17,6 +17,7 @@ pub use read::parse_header_mode;
 pub use reader::HeaderReader;
 pub use reader::HeaderStep;
 pub use write::write_header;
+pub use write::write_header_ext_lengths;
 
 // What a header reader demands and honours. Each reader of the Rust is one choice of these.
 pub struct HeaderMode {

@@ -1,16 +1,22 @@
 // Headers to be written into a lent output.
+use crate::ExtPresence;
 use error::OUTPUT_TOO_SHORT;
 use error::WbmpError;
 use error::Written;
+use error::ZERO_DIMENSION;
+use ext::ExtFieldType;
+use ext::FieldsCheck;
 ghost use mathlib.Core.Path.{_≡_};
 ghost use mathlib.Core.List.{_++_};
-ghost use Prim.Native.Nat.{_+_, _≤_};
+ghost use Prim.Native.Nat.{_+_, _*_, _≤_};
 ghost use lib.ListN.{length};
 ghost use lib.Seq.{sets};
 ghost use Rattle.error.specs.Answer.{written};
 ghost use Rattle.error.specs.Emits.{Emits};
 ghost use Rattle.mbi.specs.Bytes.{mbiBytes};
-ghost use Rattle.header.specs.Write.{plainHeader, sizeBytes};
+ghost use Rattle.header.specs.Write.{plainHeader, sizeBytes, lentHeader, extHeader, PutsAt2};
+ghost use Rattle.ext.specs.Kinds.{kindNumber};
+ghost use Rattle.ext.specs.Write.{lentBytes};
 
 // The bytes of both sizes.
 fn sizes_len(width: u32, height: u32) -> usize
@@ -37,19 +43,121 @@ fn put_sizes(width: u32, height: u32, out: &mut [u8], at: usize)
     put_integer(height, out, next);
 }
 
+fn too_short() -> Written
+    ensures { λ r. ⌜ r ≡ Written.Refused (record { code = 25; offset = 0 }) ⌝ }
+{
+    Written::Refused(WbmpError {
+        code: OUTPUT_TOO_SHORT,
+        offset: 0,
+    })
+}
+
 // A header without fields; sizes of 0 are written.
 pub fn write_header(width: u32, height: u32, out: &mut [u8]) -> Written
     ensures { λ r. ⌜ Emits (plainHeader width height) (written r) (now (out .entry)) (now (out .exit)) ⌝ }
 {
     let total = 2 + sizes_len(width, height);
     if out.len() < total {
-        return Written::Refused(WbmpError {
-            code: OUTPUT_TOO_SHORT,
-            offset: 0,
-        });
+        return too_short();
     }
     out[0] = 0;
     out[1] = 0;
     put_sizes(width, height, out, 2);
     Written::Bytes(total)
+}
+
+fn zero_dimension() -> Written
+    ensures { λ r. ⌜ r ≡ Written.Refused (record { code = 8; offset = 0 }) ⌝ }
+{
+    Written::Refused(WbmpError {
+        code: ZERO_DIMENSION,
+        offset: 0,
+    })
+}
+
+// The FixHeader byte of fields: bit 7 says that they follow, bits 6-5 their kind.
+fn fix_byte(ext_type: ExtFieldType) -> u8
+    ensures { λ r. ⌜ r ≡ 128 + kindNumber «ext_type» * 32 ⌝ }
+{
+    match ext_type {
+        ExtFieldType::Bitfield00 => 128,
+        ExtFieldType::Reserved01 => 160,
+        ExtFieldType::Reserved10 => 192,
+        ExtFieldType::ParameterPairs11 => 224,
+    }
+}
+
+// The fields, from index 2 on.
+fn put_fields(ext_type: ExtFieldType, text: &[u8], lengths: &[usize], strict: bool, out: &mut [u8])
+    requires { ⌜ 2 ≤ length (now out) ⌝ }
+    ensures { λ r. ⌜ PutsAt2 (lentBytes strict (kindNumber «ext_type») (now (text .entry)) (now (lengths .entry))) (now (out .entry)) (now (out .exit)) ⌝ }
+{
+    if strict {
+        ext::write_ext_fields_lengths_strict(ext_type, text, lengths, &mut out[2..]);
+    } else {
+        ext::write_ext_fields_lengths(ext_type, text, lengths, &mut out[2..]);
+    }
+}
+
+// A header with fields of a kind: all is checked before anything is written.
+fn write_fields_header(
+    width: u32,
+    height: u32,
+    ext_type: ExtFieldType,
+    text: &[u8],
+    lengths: &[usize],
+    strict: bool,
+    out: &mut [u8],
+) -> Written
+    ensures { λ r. ⌜ Emits (lentHeader strict width height (kindNumber «ext_type») (now (text .entry)) (now (lengths .entry))) (written r) (now (out .entry)) (now (out .exit)) ⌝ }
+{
+    match ext::check_ext_fields_lengths(ext_type, text, lengths, strict) {
+        FieldsCheck::Length(len) => {
+            let around = 2 + sizes_len(width, height);
+            if out.len() < around {
+                return too_short();
+            }
+            if out.len() - around < len {
+                return too_short();
+            }
+            out[0] = 0;
+            out[1] = fix_byte(ext_type);
+            put_fields(ext_type, text, lengths, strict, out);
+            put_sizes(width, height, out, 2 + len);
+            Written::Bytes(around + len)
+        }
+        FieldsCheck::Refused(e) => Written::Refused(e),
+    }
+}
+
+// A header of sizes that are not 0, with the lent fields or none.
+pub fn write_header_ext_lengths(
+    width: u32,
+    height: u32,
+    ext: ExtPresence,
+    text: &[u8],
+    lengths: &[usize],
+    strict: bool,
+    out: &mut [u8],
+) -> Written
+    ensures { λ r. ⌜ Emits (extHeader strict width height ext (now (text .entry)) (now (lengths .entry))) (written r) (now (out .entry)) (now (out .exit)) ⌝ }
+{
+    if width == 0 {
+        return zero_dimension();
+    }
+    if height == 0 {
+        return zero_dimension();
+    }
+    match ext {
+        ExtPresence::Absent => write_header(width, height, out),
+        ExtPresence::Present(ext_type) => write_fields_header(
+            width,
+            height,
+            ext_type,
+            text,
+            lengths,
+            strict,
+            out,
+        ),
+    }
 }

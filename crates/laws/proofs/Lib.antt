@@ -2,6 +2,7 @@ pub mod Lists
 pub mod Tests
 pub mod Digits
 pub mod Store
+pub mod Emitted
 pub mod Writers
 pub mod Octets
 pub mod Answers

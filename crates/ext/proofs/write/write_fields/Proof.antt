@@ -1,6 +1,6 @@
 use mathlib.Core.Path.{_∙_, sym, ap}
 use Rattle.ext.specs.Steps.{fieldsLength}
-use Rattle.ext.proofs.Emitted.{emits-short, emits-bytes, emits-refused}
+use Rattle.laws.proofs.Emitted.{emits-short, emits-bytes, emits-refused}
 use Rattle.ext.proofs.Lent.{roomy}
 use borrow.Author.Needs.{needs}
 use Rattle.ext.proofs.write.write_fields.Statement.{statement}

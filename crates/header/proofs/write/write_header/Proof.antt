@@ -1,5 +1,5 @@
-use mathlib.Core.List.{[]}
 use Prim.Native.Nat.{_+_}
+use mathlib.Core.List.{[]}
 use native.Mathlib.Omega.{arith}
 use denote.Ref.{now}
 use lib.ListN.{length-set}
@@ -18,11 +18,15 @@ add-total c =
     let s = c .before .before in
     omega (arith, c .sizes-len .ensures, sizes-ten (s .args .width) (s .args .height) (s .fits .width .fits) (s .fits .height .fits))
 
+too-short-requires : tie.Need-too-short-requires
+too-short-requires c κs = search needs
+
 returns : tie.Need-returns
 returns c =
-    let s = c .before .before .before in
-    emits-none (headerBytes 0 [] (s .args .width) (s .args .height)) (now (s .args .out))
-    (omega (arith, c .if1 .taken, c .before .sizes-len .ensures, header-length 0 [] (s .args .width) (s .args .height)))
+    let s = c .before .before .before .before in
+    rw (c .too-short .ensures)
+    (emits-none (headerBytes 0 [] (s .args .width) (s .args .height)) (now (s .args .out))
+    (omega (arith, c .before .if1 .taken, c .before .before .sizes-len .ensures, header-length 0 [] (s .args .width) (s .args .height))))
 
 slice-write-out : tie.Need-slice-write-out
 slice-write-out c = search needs
@@ -50,6 +54,7 @@ write-header-spec =
     (tie.spec
     sizes-len-requires
     add-total
+    too-short-requires
     returns
     slice-write-out
     slice-write-out-2
