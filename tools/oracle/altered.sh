@@ -1,0 +1,32 @@
+#!/bin/bash
+# Shows that the replay of a list with one altered answer fails and shows the case: a refusal's
+# number, a place and a written byte are altered, each in its own copy of the list.
+# Run after `rt check vectors`; ends with 0 only if every alteration is reported.
+set -eu
+cd "$(dirname "$0")/../.."
+program=target/bin/vectors
+list=crates/vectors/stdin
+copy=$(mktemp)
+trap 'rm -f "$copy"' EXIT
+
+# alter WHAT PATTERN INDEX BYTE: puts BYTE at INDEX of the list's first match of PATTERN.
+alter() {
+    local at
+    at=$(LC_ALL=C grep -obUaP "$2" "$list" | head -n 1 | cut -d : -f 1)
+    cp "$list" "$copy"
+    printf '%b' "$4" | dd of="$copy" bs=1 seek=$((at + $3)) conv=notrunc status=none
+    cmp -s "$list" "$copy" && { echo "$1: nothing was altered"; return 1; }
+    "$program" <"$copy" >"$copy.out" || true
+    local told
+    told=$(grep '^WRONG' "$copy.out" || true)
+    rm -f "$copy.out"
+    [ "$(grep -c . <<<"$told")" = 1 ] || { echo "$1: not reported as one case: $told"; return 1; }
+    echo "$1: $told"
+}
+
+# The answer to the empty integer: 1 at place 0, made 2.
+alter "number altered" '\x00\x01\x05\x7F\x80\x81\x8F\x90\xFF\x01\x01\x01\x01\x01\x00' 13 '\x02'
+# An answer of 1 at place 7, made place 6.
+alter "place altered" '\x01\x01\x02\x01\x07\x00' 4 '\x06'
+# The five bytes of 4,294,967,295, the last made 7E.
+alter "byte altered" '\x01\x01\x02\x00\x05\x01\x01\x05\x8F\xFF\xFF\xFF\x7F' 12 '\x7E'

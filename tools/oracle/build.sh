@@ -1,0 +1,14 @@
+#!/bin/sh
+# Builds the oracle into target/oracle/ with plain rustc: the unchanged Rust files as a
+# library with our own lib.rs around them, and the generator over it.
+# WBMP_RUST names the folder of the Rust files; they are linked to, never copied.
+set -eu
+cd "$(dirname "$0")/../.."
+rust=$(cd "${WBMP_RUST:-../shared/docs/src/src}" && pwd)
+out=target/oracle
+mkdir -p "$out"
+ln -sfn "$rust" "$out/rust"
+rustc --edition 2024 -O --crate-type rlib --crate-name oracle \
+    tools/oracle/src/lib.rs -o "$out/liboracle.rlib"
+rustc --edition 2024 -O --crate-name generate \
+    --extern oracle="$out/liboracle.rlib" tools/oracle/src/main.rs -o "$out/generate"

@@ -1,0 +1,157 @@
+//! Groups of cases: an operation and the inputs it is tried on.
+
+use oracle::answer::Answer;
+use oracle::{readers, replay, writers};
+
+#[derive(Clone, Copy)]
+pub enum Operation {
+    Integer { strict: bool },
+    Fields { strict: bool },
+    Header { ext: bool, strict: bool },
+    Lookup,
+    FromByte,
+    IntegerLen,
+    WriteInteger,
+    WriteHeader,
+}
+
+impl Operation {
+    /// Its number in the list; writers have 16 and above.
+    pub fn number(self) -> u8 {
+        match self {
+            Operation::Integer { strict } => u8::from(strict),
+            Operation::Fields { strict } => 2 + u8::from(strict),
+            Operation::Header { ext, strict } => 4 + 2 * u8::from(ext) + u8::from(strict),
+            Operation::Lookup => 8,
+            Operation::FromByte => 10,
+            Operation::IntegerLen => 11,
+            Operation::WriteInteger => 16,
+            Operation::WriteHeader => 19,
+        }
+    }
+
+    pub fn writes(self) -> bool {
+        self.number() >= 16
+    }
+
+    pub fn answer(self, input: &[u8]) -> Answer {
+        match self {
+            Operation::Integer { strict } => readers::integer(input, strict),
+            Operation::Fields { strict } => readers::fields(input, strict),
+            Operation::Header { ext, strict } => replay::header(input, ext, strict),
+            Operation::Lookup => readers::lookup(input),
+            Operation::FromByte => readers::from_byte(input),
+            Operation::IntegerLen => readers::integer_len(input),
+            Operation::WriteInteger => writers::integer(input),
+            Operation::WriteHeader => writers::plain_header(input),
+        }
+    }
+}
+
+#[derive(Clone)]
+pub struct Group {
+    pub name: &'static str,
+    pub operation: Operation,
+    pub sweeps: Vec<Sweep>,
+}
+
+/// The base text with every string of `digits` letters of the alphabet (all bytes where it is
+/// empty) put over it from `at` on.
+#[derive(Clone)]
+pub struct Sweep {
+    pub base: Vec<u8>,
+    pub at: usize,
+    pub digits: usize,
+    pub alphabet: Vec<u8>,
+}
+
+impl Sweep {
+    pub fn one(base: Vec<u8>) -> Sweep {
+        Sweep {
+            base,
+            at: 0,
+            digits: 0,
+            alphabet: vec![0],
+        }
+    }
+
+    /// Every byte at `at`.
+    pub fn byte(base: &[u8], at: usize) -> Sweep {
+        Sweep {
+            base: base.to_vec(),
+            at,
+            digits: 1,
+            alphabet: Vec::new(),
+        }
+    }
+
+    /// `front`, every string of `digits` letters, `back`.
+    pub fn between(front: &[u8], digits: usize, alphabet: &[u8], back: &[u8]) -> Sweep {
+        let base = [front, &vec![0; digits], back].concat();
+        Sweep {
+            base,
+            at: front.len(),
+            digits,
+            alphabet: alphabet.to_vec(),
+        }
+    }
+
+    /// The same cases as one sweep for each first letter.
+    pub fn by_first_letter(&self) -> Vec<Sweep> {
+        let letters = match &self.alphabet[..] {
+            [] => (0..=255).collect(),
+            letters => letters.to_vec(),
+        };
+        let part = |letter: u8| {
+            let mut part = self.clone();
+            part.base[self.at] = letter;
+            part.at += 1;
+            part.digits -= 1;
+            part
+        };
+        letters.into_iter().map(part).collect()
+    }
+
+    pub fn inputs(&self) -> impl Iterator<Item = Vec<u8>> + '_ {
+        let letter = |digit: usize| self.alphabet.get(digit).copied().unwrap_or(digit as u8);
+        let radix = if self.alphabet.is_empty() {
+            256
+        } else {
+            self.alphabet.len()
+        };
+        (0..radix.pow(self.digits as u32)).map(move |case| {
+            let mut input = self.base.clone();
+            let mut rest = case;
+            for place in (self.at..self.at + self.digits).rev() {
+                input[place] = letter(rest % radix);
+                rest /= radix;
+            }
+            input
+        })
+    }
+}
+
+/// `front` and every string over the alphabet of at most `longest` letters.
+pub fn strings(front: &[u8], longest: usize, alphabet: &[u8]) -> Vec<Sweep> {
+    (0..=longest)
+        .map(|digits| Sweep::between(front, digits, alphabet, &[]))
+        .collect()
+}
+
+/// `front` and every front part of `text`.
+pub fn cuts(front: &[u8], text: &[u8]) -> Vec<Sweep> {
+    (0..=text.len())
+        .map(|len| Sweep::one([front, &text[..len]].concat()))
+        .collect()
+}
+
+/// Damaged copies: every front part of `text` with every byte in every place, behind `front`.
+pub fn damaged(front: &[u8], text: &[u8]) -> Vec<Sweep> {
+    let cut = |len: usize| {
+        let base = [front, &text[..len]].concat();
+        (front.len()..base.len())
+            .map(move |at| Sweep::byte(&base, at))
+            .collect::<Vec<_>>()
+    };
+    (1..=text.len()).flat_map(cut).collect()
+}

@@ -1,0 +1,22 @@
+//! The Rust codec, built unchanged, and its answers as numbers.
+//!
+//! `build.sh` links `target/oracle/rust` to the folder of the Rust files.
+
+#[allow(dead_code)]
+#[path = "../../../target/oracle/rust/error.rs"]
+pub mod error;
+#[allow(dead_code)]
+#[path = "../../../target/oracle/rust/ext.rs"]
+pub mod ext;
+#[allow(dead_code)]
+#[path = "../../../target/oracle/rust/header.rs"]
+pub mod header;
+#[allow(dead_code)]
+#[path = "../../../target/oracle/rust/mbi.rs"]
+pub mod mbi;
+
+pub mod answer;
+pub mod numbers;
+pub mod readers;
+pub mod replay;
+pub mod writers;

@@ -1,0 +1,61 @@
+//! Writes the list of the Rust's answers, and what the program that replays it has to print.
+
+mod cases;
+mod ext_cases;
+mod header_cases;
+mod list;
+mod mbi_cases;
+mod writer_cases;
+
+use cases::Group;
+use list::List;
+
+/// The first line of each block.
+const LINE: &str = "Answers of the Rust crate oxideav-wbmp 8c7cef09ab, built unchanged, \
+    to fixed cases: short inputs exhaustively, lengths around each boundary, damaged copies. \
+    Made by tools/oracle/generate.sh; its form is told in tools/oracle/src/list.rs.\n";
+
+fn main() {
+    let [_, list_path, counts_path] = &std::env::args().collect::<Vec<_>>()[..] else {
+        panic!("usage: generate LIST COUNTS");
+    };
+    let groups = [
+        mbi_cases::groups(),
+        ext_cases::groups(),
+        header_cases::groups(),
+        writer_cases::groups(),
+    ]
+    .concat();
+    let mut list = List::new(LINE);
+    groups.iter().for_each(|group| list.put_group(group));
+    std::fs::write(list_path, list.ended()).expect("the list can be written");
+    std::fs::write(counts_path, counts(&groups)).expect("the counts can be written");
+}
+
+/// A line for each group, its name and its number of comparisons, and one for all.
+fn counts(groups: &[Group]) -> String {
+    let counted: Vec<(&str, usize)> = groups.iter().map(|g| (g.name, comparisons(g))).collect();
+    let all: usize = counted.iter().map(|(_, count)| count).sum();
+    let lines: String = counted
+        .iter()
+        .map(|(name, count)| format!("{name} {count}\n"))
+        .collect();
+    format!("{lines}all {all}\n")
+}
+
+/// One comparison for a reader's case; for a writer's, three where it accepts (the output
+/// exactly long enough, longer and too short) and two where it refuses (no output and some).
+fn comparisons(group: &Group) -> usize {
+    let answers = group
+        .sweeps
+        .iter()
+        .flat_map(|sweep| list::answers(group, sweep));
+    let each = answers.map(
+        |answer| match (group.operation.writes(), answer.output.is_empty()) {
+            (false, _) => 1,
+            (true, false) => 3,
+            (true, true) => 2,
+        },
+    );
+    each.sum()
+}
