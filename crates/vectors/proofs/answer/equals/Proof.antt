@@ -1,0 +1,58 @@
+-- `vectors::answer::equals` is safe and ends. The measure is the numbers left to compare.
+use borrow.Author.Needs.{needs}
+use Prim.Native.Nat.{_-_}
+use Rattle.vectors.proofs.answer.equals.Statement.{statement}
+use Rattle.vectors.proofs.answer.equals.Tie as tie
+
+abbrev Inv-loop : tie.InvT-loop
+Inv-loop list start got size next₀ same₀ i₀ next same i = Unit {0}
+
+abbrev μ-loop : tie.MeasureT-loop
+μ-loop list start got size next₀ same₀ i₀ next same i = 9 - i
+
+number-requires : tie.Need-number-requires Inv-loop μ-loop
+number-requires c κs = search needs
+
+loop-holds : tie.Need-loop-holds Inv-loop μ-loop
+loop-holds c = search needs
+
+number-if-requires : tie.Need-number-if-requires Inv-loop μ-loop
+number-if-requires c κs = search needs
+
+mul-both : tie.Need-mul-both Inv-loop μ-loop
+mul-both c = search needs
+
+element-copy-out-both : tie.Need-element-copy-out-both Inv-loop μ-loop
+element-copy-out-both c = search needs
+
+both-requires : tie.Need-both-requires Inv-loop μ-loop
+both-requires c κs = search needs
+
+add-i : tie.Need-add-i Inv-loop μ-loop
+add-i c = search needs
+
+loop-less : tie.Need-loop-less Inv-loop μ-loop
+loop-less c = search needs
+
+loop-again : tie.Need-loop-again Inv-loop μ-loop
+loop-again c = search needs
+
+returns : tie.Need-returns Inv-loop μ-loop
+returns c = search needs
+
+pub equals-spec : {M : Type 1} → statement M
+equals-spec =
+    tie.close
+    (tie.spec
+    Inv-loop
+    μ-loop
+    number-requires
+    loop-holds
+    number-if-requires
+    mul-both
+    element-copy-out-both
+    both-requires
+    add-i
+    loop-less
+    loop-again
+    returns)

@@ -1,0 +1,61 @@
+// Answers as numbers: a refusal is its number and place, an acceptance 0 and the values given.
+use crate::list::number;
+use crate::list::number_if;
+use error::WbmpError;
+use error::Written;
+
+// Whether an answer is as the list has it, and where the list's ends.
+pub struct Match {
+    pub same: bool,
+    pub next: usize,
+}
+
+pub fn refused(e: WbmpError) -> [usize; 9] {
+    [e.code as usize, e.offset, 0, 0, 0, 0, 0, 0, 0]
+}
+
+pub fn written(w: Written) -> [usize; 9] {
+    match w {
+        Written::Bytes(n) => [0, n, 0, 0, 0, 0, 0, 0, 0],
+        Written::Refused(e) => refused(e),
+    }
+}
+
+pub fn both(a: bool, b: bool) -> bool {
+    a && b
+}
+
+fn either(a: bool, b: bool) -> bool {
+    a || b
+}
+
+// Whether `got` is one of the answers that the list accepts.
+pub fn accepted(list: &[u8], start: usize, got: &[usize; 9]) -> Match {
+    let head = number(list, start);
+    let choices = head.value;
+    let mut next = head.next;
+    let mut same = false;
+    let mut i = 0;
+    while i < choices {
+        let one = equals(list, next, got);
+        same = either(same, one.same);
+        next = one.next;
+        i += 1;
+    }
+    Match { same, next }
+}
+
+fn equals(list: &[u8], start: usize, got: &[usize; 9]) -> Match {
+    let head = number(list, start);
+    let size = head.value;
+    let mut next = head.next;
+    let mut same = true;
+    let mut i = 0;
+    while i < 9 {
+        let n = number_if(i < size, list, next);
+        same = both(same, n.value == got[i]);
+        next = n.next;
+        i += 1;
+    }
+    Match { same, next }
+}

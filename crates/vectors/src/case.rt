@@ -1,0 +1,108 @@
+// Replaying one case: a reader's answer; a writer's with the bytes that it has to write and those
+// that it has to leave alone.
+use crate::answer::accepted;
+use crate::answer::both;
+use crate::input::least;
+use crate::list::TEXT;
+use crate::list::number;
+use crate::list::text;
+use crate::readers::answer;
+use crate::writers::write_within;
+
+// What the output holds before each call.
+const MARK: u8 = 165;
+
+// How many comparisons a case took, whether all were right, and where its answer ends.
+pub struct Replayed {
+    pub comparisons: usize,
+    pub same: bool,
+    pub next: usize,
+}
+
+// Operations from 16 on are writers.
+pub fn replay(list: &[u8], start: usize, operation: usize, input: &[u8]) -> Replayed {
+    if operation >= 16 {
+        return replay_writer(list, start, operation, input);
+    }
+    let got = answer(operation, input);
+    let right = accepted(list, start, &got);
+    let output = number(list, right.next);
+    Replayed {
+        comparisons: 1,
+        same: right.same,
+        next: output.next,
+    }
+}
+
+// A case that is accepted gets an output exactly long enough, one longer and one too short; a
+// refused one gets none and some.
+fn replay_writer(list: &[u8], start: usize, operation: usize, input: &[u8]) -> Replayed {
+    let mut want = [0u8; TEXT];
+    let answers = accepted(list, start, &[0; 9]);
+    let output = text(list, answers.next, &mut want);
+    let n = least(output.len, TEXT - 1);
+    if n == 0 {
+        let none = tried(list, start, operation, input, &want, 0, 0);
+        let some = tried(list, start, operation, input, &want, 0, 64);
+        return Replayed {
+            comparisons: 2,
+            same: both(none, some),
+            next: output.next,
+        };
+    }
+    let exact = tried(list, start, operation, input, &want, n, n);
+    let longer = tried(list, start, operation, input, &want, n, n + 1);
+    let shorter = tried(list, start, operation, input, &want, n, n - 1);
+    Replayed {
+        comparisons: 3,
+        same: both(exact, both(longer, shorter)),
+        next: output.next,
+    }
+}
+
+// One call with an output of `size` bytes, of which the writer needs `n`.
+fn tried(
+    list: &[u8],
+    start: usize,
+    operation: usize,
+    input: &[u8],
+    want: &[u8; TEXT],
+    n: usize,
+    size: usize,
+) -> bool {
+    let mut out = [MARK; TEXT];
+    let got = write_within(operation, input, &mut out, size);
+    if size < n {
+        return both(is_short(got), unaltered(&out, 0, size));
+    }
+    let right = accepted(list, start, &got);
+    let bytes = both(written_as(&out, want, n), unaltered(&out, n, size));
+    both(right.same, bytes)
+}
+
+// The refusal of an output that is too short.
+fn is_short(got: [usize; 9]) -> bool {
+    both(got[0] == 25, got[1] == 0)
+}
+
+fn written_as(out: &[u8; TEXT], want: &[u8; TEXT], n: usize) -> bool {
+    let end = least(n, TEXT);
+    let mut same = true;
+    let mut i = 0;
+    while i < end {
+        same = both(same, out[i] == want[i]);
+        i += 1;
+    }
+    same
+}
+
+fn unaltered(out: &[u8; TEXT], start: usize, size: usize) -> bool {
+    let end = least(size, TEXT);
+    let mut same = true;
+    let mut i = start;
+    while i < end {
+        same = both(same, out[i] == MARK);
+        i += 1;
+    }
+    same
+}

@@ -1,0 +1,31 @@
+// Replays the list on standard input, made by tools/oracle, and prints for each group how many
+// comparisons it made; a wrong answer prints its case.
+mod answer;
+mod case;
+mod group;
+mod input;
+mod list;
+mod readers;
+mod report;
+mod sweep;
+mod tally;
+mod writers;
+
+use tally::Tally;
+
+fn main() {
+    let mut tally = block(Tally::new());
+    let mut turns: usize = 65536;
+    while turns > 0 && tally.next > 0 {
+        tally = block(tally);
+        turns -= 1;
+    }
+    report::count(b"all", tally.all);
+}
+
+// Reads a block and replays it; after the last one `next` is 0.
+fn block(tally: Tally) -> Tally {
+    let mut space = io::large_buffer();
+    let n = io::read_full(0, &mut space);
+    group::replay_all(&space[..n], tally)
+}
