@@ -1,6 +1,7 @@
 // Answers as numbers: a refusal is its number and place, an acceptance 0 and the values given.
 use crate::list::number;
 use crate::list::number_if;
+use error::Checked;
 use error::WbmpError;
 use error::Written;
 
@@ -12,6 +13,13 @@ pub struct Match {
 
 pub fn refused(e: WbmpError) -> [usize; 9] {
     [e.code as usize, e.offset, 0, 0, 0, 0, 0, 0, 0]
+}
+
+pub fn checked(c: Checked) -> [usize; 9] {
+    match c {
+        Checked::Accepted => [0; 9],
+        Checked::Refused(e) => refused(e),
+    }
 }
 
 pub fn written(w: Written) -> [usize; 9] {

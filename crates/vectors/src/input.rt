@@ -35,3 +35,26 @@ pub fn behind(input: &[u8], n: usize) -> &[u8] {
     let start = least(n, input.len());
     &input[start..]
 }
+
+// The lengths, a byte each, and how many there are.
+pub fn put_lengths(bytes: &[u8], out: &mut [usize]) -> usize {
+    let count = least(bytes.len(), out.len());
+    let mut i = 0;
+    while i < count {
+        put_length(out, i, byte(bytes, i));
+        i += 1;
+    }
+    count
+}
+
+fn put_length(out: &mut [usize], at: usize, length: usize) {
+    if at < out.len() {
+        out[at] = length;
+    }
+}
+
+pub fn lengths(all: &[usize], n: usize) -> &[usize] {
+    let start = 0;
+    let end = least(n, all.len());
+    &all[start..end]
+}

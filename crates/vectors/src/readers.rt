@@ -1,4 +1,5 @@
 // The answers of the readers, the checks and the lookup.
+use crate::answer::checked;
 use crate::answer::refused;
 use crate::input::behind;
 use crate::input::byte;
@@ -11,6 +12,7 @@ use ext::ExtFields;
 use ext::ExtRead;
 use ext::FixHeaderField;
 use ext::Lookup;
+use ext::Parameter;
 use header::HeaderExt;
 use header::HeaderRead;
 use header::ParsedHeader;
@@ -27,6 +29,7 @@ pub fn answer(operation: usize, input: &[u8]) -> [usize; 9] {
         6 => header(header::parse_header_ext_inner(input, false)),
         7 => header(header::parse_header_ext_inner(input, true)),
         8 => lookup(input),
+        9 => validate(input),
         10 => from_byte(input),
         _ => [0, mbi::mbi_u32_len(long(input, 0)), 0, 0, 0, 0, 0, 0, 0],
     }
@@ -118,6 +121,13 @@ fn lookup(input: &[u8]) -> [usize; 9] {
         Lookup::Value { start, len } => [0, 0, 1, start, len, 0, 0, 0, 0],
         Lookup::Refused(e) => refused(e),
     }
+}
+
+fn validate(input: &[u8]) -> [usize; 9] {
+    let size = byte(input, 0);
+    let identifier = front(behind(input, 1), size);
+    let value = behind(behind(input, 1), size);
+    checked(Parameter::validate(identifier, value))
 }
 
 fn from_byte(input: &[u8]) -> [usize; 9] {

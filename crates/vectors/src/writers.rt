@@ -1,7 +1,18 @@
 // Calling a writer with the arguments that a case's input holds.
 use crate::answer::written;
+use crate::input::behind;
+use crate::input::byte;
+use crate::input::front;
 use crate::input::least;
+use crate::input::lengths;
 use crate::input::long;
+use crate::input::put_lengths;
+use crate::input::short;
+use error::Written;
+use ext::ExtFieldType;
+
+// The most lengths of pairs in one input.
+const LENGTHS: usize = 4096;
 
 // The answer where `size` bytes of the output are lent.
 pub fn write_within(operation: usize, input: &[u8], out: &mut [u8], size: usize) -> [usize; 9] {
@@ -13,6 +24,34 @@ pub fn write_within(operation: usize, input: &[u8], out: &mut [u8], size: usize)
 fn write(operation: usize, input: &[u8], out: &mut [u8]) -> [usize; 9] {
     match operation {
         16 => written(mbi::write_mbi_u32(long(input, 0), out)),
+        17 => written(fields(input, false, out)),
+        18 => written(fields(input, true, out)),
         _ => written(header::write_header(long(input, 0), long(input, 4), out)),
     }
+}
+
+fn kind_of(number: usize) -> ExtFieldType {
+    match number {
+        0 => ExtFieldType::Bitfield00,
+        1 => ExtFieldType::Reserved01,
+        2 => ExtFieldType::Reserved10,
+        _ => ExtFieldType::ParameterPairs11,
+    }
+}
+
+fn fields(input: &[u8], strict: bool, out: &mut [u8]) -> Written {
+    let mut space = [0usize; LENGTHS];
+    fields_in(&mut space, input, strict, out)
+}
+
+// The kind, how many lengths in two bytes, the lengths, the text.
+fn fields_in(space: &mut [usize], input: &[u8], strict: bool, out: &mut [u8]) -> Written {
+    let rest = behind(input, 3);
+    let n = put_lengths(front(rest, short(input, 1)), space);
+    let text = behind(rest, n);
+    let kind = kind_of(byte(input, 0));
+    if strict {
+        return ext::write_ext_fields_lengths_strict(kind, text, lengths(space, n), out);
+    }
+    ext::write_ext_fields_lengths(kind, text, lengths(space, n), out)
 }

@@ -9,9 +9,11 @@ pub enum Operation {
     Fields { strict: bool },
     Header { ext: bool, strict: bool },
     Lookup,
+    Validate,
     FromByte,
     IntegerLen,
     WriteInteger,
+    WriteFields { strict: bool },
     WriteHeader,
 }
 
@@ -23,9 +25,11 @@ impl Operation {
             Operation::Fields { strict } => 2 + u8::from(strict),
             Operation::Header { ext, strict } => 4 + 2 * u8::from(ext) + u8::from(strict),
             Operation::Lookup => 8,
+            Operation::Validate => 9,
             Operation::FromByte => 10,
             Operation::IntegerLen => 11,
             Operation::WriteInteger => 16,
+            Operation::WriteFields { strict } => 17 + u8::from(strict),
             Operation::WriteHeader => 19,
         }
     }
@@ -40,9 +44,11 @@ impl Operation {
             Operation::Fields { strict } => readers::fields(input, strict),
             Operation::Header { ext, strict } => replay::header(input, ext, strict),
             Operation::Lookup => readers::lookup(input),
+            Operation::Validate => readers::validate(input),
             Operation::FromByte => readers::from_byte(input),
             Operation::IntegerLen => readers::integer_len(input),
             Operation::WriteInteger => writers::integer(input),
+            Operation::WriteFields { strict } => writers::fields(input, strict),
             Operation::WriteHeader => writers::plain_header(input),
         }
     }

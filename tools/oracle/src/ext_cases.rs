@@ -53,6 +53,11 @@ pub fn groups() -> Vec<Group> {
             operation: Operation::Lookup,
             sweeps: lookups(),
         },
+        Group {
+            name: "validate",
+            operation: Operation::Validate,
+            sweeps: parameters(),
+        },
     ]
 }
 
@@ -153,5 +158,23 @@ fn lookups() -> Vec<Sweep> {
             sweeps.extend(cuts(&front, b"\x1Fz15letters123456"));
         }
     }
+    sweeps
+}
+
+/// Identifiers of up to 9 bytes with values of up to 17, and every byte in each class's place.
+fn parameters() -> Vec<Sweep> {
+    let case = |name: &[u8], value: &[u8]| [&[name.len() as u8], name, value].concat();
+    let mut sweeps = Vec::new();
+    for name in 0..=9 {
+        for value in 0..=17 {
+            let (names, values) = (vec![b'n'; name], vec![b'v'; value]);
+            sweeps.push(Sweep::one(case(&names, &values)));
+            sweeps.push(Sweep::one(case(&vec![0x80; name], &values)));
+            sweeps.push(Sweep::one(case(&names, &vec![b'-'; value])));
+            sweeps.push(Sweep::one(case(&vec![0; name], &vec![0x7F; value])));
+        }
+    }
+    let good = case(b"name", b"value");
+    sweeps.extend((1..good.len()).map(|at| Sweep::byte(&good, at)));
     sweeps
 }

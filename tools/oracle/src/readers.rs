@@ -63,6 +63,26 @@ fn values(pairs: &[Parameter], identifier: &[u8], start: usize) -> Vec<Vec<u64>>
     found
 }
 
+/// Input: an identifier behind its length, then the value.
+pub fn validate(input: &[u8]) -> Answer {
+    let (identifier, value) = text_first(input);
+    let made = Parameter::new(identifier, value).map(|_| ());
+    let pair = Parameter {
+        identifier: identifier.to_vec(),
+        value: value.to_vec(),
+    };
+    let told = |r: &Result<()>| r.as_ref().map_err(|e| e.to_string()).copied();
+    assert_eq!(
+        told(&made),
+        told(&pair.validate()),
+        "new and validate agree"
+    );
+    match made {
+        Ok(()) => Answer::of(&[]),
+        Err(error) => Answer::refused(&error, 0),
+    }
+}
+
 /// Input: the byte.
 pub fn from_byte(input: &[u8]) -> Answer {
     let fix = FixHeaderField::from_byte(input.first().copied().unwrap_or(0));

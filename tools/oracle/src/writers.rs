@@ -1,6 +1,7 @@
 //! The answers of the writers. A case's input holds all arguments.
 
 use crate::answer::Answer;
+use crate::ext::{self, ExtFields, Parameter};
 use crate::header;
 use crate::mbi;
 use crate::readers::u32_at;
@@ -17,4 +18,68 @@ pub fn plain_header(input: &[u8]) -> Answer {
     let mut out = Vec::new();
     header::write_header(u32_at(input, 0), u32_at(input, 4), &mut out);
     Answer::written(Ok(()), out)
+}
+
+/// Input: fields.
+pub fn fields(input: &[u8], strict: bool) -> Answer {
+    let Fields::Given(fields) = fields_at(input) else {
+        return fields_refused(input);
+    };
+    let write = if strict {
+        ext::write_ext_fields_strict
+    } else {
+        ext::write_ext_fields
+    };
+    let mut out = Vec::new();
+    let result = write(&fields, &mut out);
+    Answer::written(result, out)
+}
+
+/// Fields to write. The last two cannot be said to the Rust: document 01 gives their numbers.
+enum Fields {
+    Given(ExtFields),
+    NoOctet,
+    Unequal,
+}
+
+fn fields_refused(input: &[u8]) -> Answer {
+    match fields_at(input) {
+        Fields::NoOctet => Answer::of(&[23]),
+        Fields::Unequal => Answer::of(&[31]),
+        _ => unreachable!("the Rust answers"),
+    }
+}
+
+/// The kind, how many lengths in two bytes, the lengths, the text.
+fn fields_at(input: &[u8]) -> Fields {
+    let count = usize::from(input[1]) * 256 + usize::from(input[2]);
+    let (lengths, text) = input[3..].split_at(count);
+    match (input[0], text.first()) {
+        (0, _) => Fields::Given(ExtFields::Bitfield00(text.to_vec())),
+        (1, Some(&octet)) => Fields::Given(ExtFields::Reserved01(octet)),
+        (2, Some(&octet)) => Fields::Given(ExtFields::Reserved10(octet)),
+        (1 | 2, None) => Fields::NoOctet,
+        _ => pairs(lengths, text),
+    }
+}
+
+fn pairs(lengths: &[u8], text: &[u8]) -> Fields {
+    let sum: usize = lengths.iter().map(|&n| usize::from(n)).sum();
+    if sum != text.len() {
+        return Fields::Unequal;
+    }
+    let mut rest = text;
+    let mut part = |n: u8| {
+        let (front, back) = rest.split_at(n.into());
+        rest = back;
+        front.to_vec()
+    };
+    let pairs = lengths
+        .chunks_exact(2)
+        .map(|n| Parameter {
+            identifier: part(n[0]),
+            value: part(n[1]),
+        })
+        .collect();
+    Fields::Given(ExtFields::ParameterPairs11(pairs))
 }
