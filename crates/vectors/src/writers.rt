@@ -10,6 +10,7 @@ use crate::input::put_lengths;
 use crate::input::short;
 use error::Written;
 use ext::ExtFieldType;
+use header::ExtPresence;
 
 // The most lengths of pairs in one input.
 const LENGTHS: usize = 4096;
@@ -26,7 +27,9 @@ fn write(operation: usize, input: &[u8], out: &mut [u8]) -> [usize; 9] {
         16 => written(mbi::write_mbi_u32(long(input, 0), out)),
         17 => written(fields(input, false, out)),
         18 => written(fields(input, true, out)),
-        _ => written(header::write_header(long(input, 0), long(input, 4), out)),
+        19 => written(header::write_header(long(input, 0), long(input, 4), out)),
+        20 => written(with_fields(input, false, out)),
+        _ => written(with_fields(input, true, out)),
     }
 }
 
@@ -37,6 +40,13 @@ fn kind_of(number: usize) -> ExtFieldType {
         2 => ExtFieldType::Reserved10,
         _ => ExtFieldType::ParameterPairs11,
     }
+}
+
+fn presence_of(number: usize) -> ExtPresence {
+    if number == 4 {
+        return ExtPresence::Absent;
+    }
+    ExtPresence::Present(kind_of(number))
 }
 
 fn fields(input: &[u8], strict: bool, out: &mut [u8]) -> Written {
@@ -54,4 +64,20 @@ fn fields_in(space: &mut [usize], input: &[u8], strict: bool, out: &mut [u8]) ->
         return ext::write_ext_fields_lengths_strict(kind, text, lengths(space, n), out);
     }
     ext::write_ext_fields_lengths(kind, text, lengths(space, n), out)
+}
+
+fn with_fields(input: &[u8], strict: bool, out: &mut [u8]) -> Written {
+    let mut space = [0usize; LENGTHS];
+    with_fields_in(&mut space, input, strict, out)
+}
+
+// Width and height, then as for the fields alone, with a kind for none.
+fn with_fields_in(space: &mut [usize], input: &[u8], strict: bool, out: &mut [u8]) -> Written {
+    let width = long(input, 0);
+    let height = long(input, 4);
+    let ext = presence_of(byte(input, 8));
+    let rest = behind(input, 11);
+    let n = put_lengths(front(rest, short(input, 9)), space);
+    let text = behind(rest, n);
+    header::write_header_ext_lengths(width, height, ext, text, lengths(space, n), strict, out)
 }

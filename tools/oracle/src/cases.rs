@@ -15,6 +15,7 @@ pub enum Operation {
     WriteInteger,
     WriteFields { strict: bool },
     WriteHeader,
+    WriteHeaderExt { strict: bool },
 }
 
 impl Operation {
@@ -31,6 +32,7 @@ impl Operation {
             Operation::WriteInteger => 16,
             Operation::WriteFields { strict } => 17 + u8::from(strict),
             Operation::WriteHeader => 19,
+            Operation::WriteHeaderExt { strict } => 20 + u8::from(strict),
         }
     }
 
@@ -50,6 +52,7 @@ impl Operation {
             Operation::WriteInteger => writers::integer(input),
             Operation::WriteFields { strict } => writers::fields(input, strict),
             Operation::WriteHeader => writers::plain_header(input),
+            Operation::WriteHeaderExt { strict } => writers::header_with_fields(input, strict),
         }
     }
 }

@@ -4,6 +4,7 @@ use crate::cases::{Group, Operation, Sweep, strings};
 
 pub fn groups() -> Vec<Group> {
     let fields = |strict| Operation::WriteFields { strict };
+    let header = |strict| Operation::WriteHeaderExt { strict };
     vec![
         Group {
             name: "write_ext_fields",
@@ -19,6 +20,16 @@ pub fn groups() -> Vec<Group> {
             name: "write_header",
             operation: Operation::WriteHeader,
             sweeps: plain(),
+        },
+        Group {
+            name: "write_header_ext",
+            operation: header(false),
+            sweeps: with_fields(),
+        },
+        Group {
+            name: "write_header_ext strict",
+            operation: header(true),
+            sweeps: with_fields(),
         },
     ]
 }
@@ -112,4 +123,45 @@ fn plain() -> Vec<Sweep> {
         Sweep::byte(&[0, 0, 0, 0, 0, 0, 0, 0], 3),
         Sweep::byte(&[0, 0, 0, 0, 0xFF, 0xFF, 0xFF, 0xFF], 3),
     ]
+}
+
+/// No fields, good and bad fields of each kind, with sizes of which some are 0.
+fn with_fields() -> Vec<Sweep> {
+    let mut fields: Vec<Vec<u8>> = vec![
+        vec![4, 0, 0],
+        vec![0, 0, 0],
+        vec![0, 0, 0, 0x01, 0x7F],
+        vec![0, 0, 0, 0x01, 0x80],
+        vec![1, 0, 0],
+        vec![1, 0, 0, 0x91, 0x02],
+        vec![2, 0, 0, 0x12],
+        vec![3, 0, 2, 1, 1, b'k'],
+    ];
+    let bad: [(&[u8], &[u8]); 5] = [
+        (b"", b"v"),
+        (b"k", b""),
+        (b"\x80", b"v"),
+        (b"k", b"-"),
+        (b"k", b"v"),
+    ];
+    fields.push(pairs(&[]));
+    fields.extend(bad.iter().map(|&pair| pairs(&[(b"key", b"12"), pair])));
+    fields.push(repeated(b"k", b"v", 1367));
+    let sizes = |fields: &Vec<u8>| {
+        let sweep = |w: &[u8], h: &[u8]| {
+            let base = [w, h, fields].concat();
+            Sweep {
+                base,
+                at: 6,
+                digits: 2,
+                alphabet: vec![0x00, 0x01, 0x80],
+            }
+        };
+        [
+            sweep(&[0, 0, 0, 9], &[0; 4]),
+            sweep(&[0; 4], &[0; 4]),
+            sweep(&[0xFF; 4], &[0x10, 0, 0, 0]),
+        ]
+    };
+    fields.iter().flat_map(sizes).collect()
 }

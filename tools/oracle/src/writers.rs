@@ -35,8 +35,24 @@ pub fn fields(input: &[u8], strict: bool) -> Answer {
     Answer::written(result, out)
 }
 
+/// Input: width and height, four bytes each, then fields.
+pub fn header_with_fields(input: &[u8], strict: bool) -> Answer {
+    let (width, height) = (u32_at(input, 0), u32_at(input, 4));
+    let given = fields_at(&input[8..]);
+    let fields = match &given {
+        Fields::Given(fields) => Some(fields),
+        Fields::Absent => None,
+        _ if width == 0 || height == 0 => None,
+        _ => return fields_refused(&input[8..]),
+    };
+    let mut out = Vec::new();
+    let result = header::write_header_ext(width, height, fields, strict, &mut out);
+    Answer::written(result, out)
+}
+
 /// Fields to write. The last two cannot be said to the Rust: document 01 gives their numbers.
 enum Fields {
+    Absent,
     Given(ExtFields),
     NoOctet,
     Unequal,
@@ -50,7 +66,7 @@ fn fields_refused(input: &[u8]) -> Answer {
     }
 }
 
-/// The kind, how many lengths in two bytes, the lengths, the text.
+/// The kind (4 for none), how many lengths in two bytes, the lengths, the text.
 fn fields_at(input: &[u8]) -> Fields {
     let count = usize::from(input[1]) * 256 + usize::from(input[2]);
     let (lengths, text) = input[3..].split_at(count);
@@ -59,7 +75,8 @@ fn fields_at(input: &[u8]) -> Fields {
         (1, Some(&octet)) => Fields::Given(ExtFields::Reserved01(octet)),
         (2, Some(&octet)) => Fields::Given(ExtFields::Reserved10(octet)),
         (1 | 2, None) => Fields::NoOctet,
-        _ => pairs(lengths, text),
+        (3, _) => pairs(lengths, text),
+        _ => Fields::Absent,
     }
 }
 
