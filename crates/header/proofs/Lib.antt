@@ -10,3 +10,4 @@ pub mod Direct
 pub mod Put
 pub mod Descent
 pub mod Prefix
+pub mod RoundTrip
