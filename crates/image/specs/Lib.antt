@@ -1,0 +1,5 @@
+pub mod Format
+pub mod Geometry
+pub mod Dots
+pub mod Rows
+pub mod Parts

@@ -1,0 +1,17 @@
+-- What the private functions give.
+use Prim.Native.Nat.{ℕ, _+_, _-_, _*_}
+use mathlib.Core.List.{List}
+use lib.Bits.{bitAnd}
+use lib.Dec.{leb}
+use lib.ListN.{length, getD, set}
+use Rattle.error.specs.Choice.{if}
+use Rattle.image.specs.declared.RowStart.{RowStart}
+use Rattle.image.specs.declared.RowStart.the-variants.{At, Missing}
+
+-- where the first bytes of row y start, if they are all among the bytes of a plane
+abbrev pub rowStart : ℕ → ℕ → ℕ → ℕ → RowStart
+rowStart bytes stride y count = if (leb (y * stride + count) bytes) (At (y * stride)) Missing
+
+-- a row whose last byte is masked
+abbrev pub maskLast : ℕ → List ℕ → List ℕ
+maskLast mask row = set row (length row - 1) (bitAnd (getD row (length row - 1) 0) mask)

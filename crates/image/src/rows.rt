@@ -1,0 +1,35 @@
+// Work on the bytes of one row.
+ghost use mathlib.Core.Path.{_≡_};
+ghost use lib.ListN.{length, replicate};
+ghost use Rattle.image.specs.Parts.{maskLast};
+ghost use Rattle.image.specs.Rows.{invert};
+
+pub(crate) fn zero(row: &mut [u8])
+    ensures { λ r. ⌜ now (row .exit) ≡ replicate (length (now (row .entry))) 0 ⌝ }
+{
+    let mut i: usize = 0;
+    while i < row.len() {
+        row[i] = 0;
+        i += 1;
+    }
+}
+
+pub(crate) fn invert(row: &mut [u8])
+    ensures { λ r. ⌜ now (row .exit) ≡ invert (now (row .entry)) ⌝ }
+{
+    let mut i: usize = 0;
+    while i < row.len() {
+        row[i] = 255 - row[i];
+        i += 1;
+    }
+}
+
+// The last byte, if there is one, is masked.
+pub(crate) fn mask_last(row: &mut [u8], mask: u8)
+    ensures { λ r. ⌜ now (row .exit) ≡ maskLast mask (now (row .entry)) ⌝ }
+{
+    let n = row.len();
+    if n > 0 {
+        row[n - 1] = row[n - 1] & mask;
+    }
+}

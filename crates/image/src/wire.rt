@@ -1,0 +1,95 @@
+// A plane's bytes as a file has them.
+use crate::PixelFormat;
+use crate::PlaneLayout;
+use crate::RowStart;
+use crate::geometry::row_start;
+use crate::rows::invert;
+use crate::rows::mask_last;
+use crate::rows::zero;
+use error::OUTPUT_TOO_SHORT;
+use error::WbmpError;
+use error::Written;
+ghost use mathlib.Core.Path.{_≡_};
+ghost use lib.ListN.{length};
+ghost use Rattle.error.specs.Answer.{gives, written};
+ghost use Rattle.error.specs.Emits.{Emits};
+ghost use Rattle.image.specs.Parts.{maskLast};
+ghost use Rattle.image.specs.Rows.{sourceRow, toNative, wireBits};
+
+fn copy(from: &[u8], to: &mut [u8])
+    requires { ⌜ length (now from) ≡ length (now to) ⌝ }
+    ensures { λ r. ⌜ now (to .exit) ≡ now (from .entry) ⌝ }
+{
+    let mut i: usize = 0;
+    while i < to.len() {
+        to[i] = from[i];
+        i += 1;
+    }
+}
+
+// Row y of a plane, or zeros where it is not wholly there.
+fn take_row(plane: &[u8], stride: usize, y: usize, row: &mut [u8])
+    ensures { λ r. ⌜ now (row .exit) ≡ sourceRow (length (now (row .entry))) stride (now (plane .entry)) y ⌝ }
+{
+    let n = row.len();
+    match row_start(plane.len(), stride, y, n) {
+        RowStart::At(at) => {
+            let end = at + n;
+            copy(&plane[at..end], row);
+        }
+        RowStart::Missing => {
+            zero(row);
+        }
+    }
+}
+
+fn to_native(format: PixelFormat, row: &mut [u8])
+    ensures { λ r. ⌜ now (row .exit) ≡ toNative format (now (row .entry)) ⌝ }
+{
+    match format {
+        PixelFormat::MonoBlack => {}
+        PixelFormat::MonoWhite => {
+            invert(row);
+        }
+    }
+}
+
+fn wire_row(plane: &[u8], stride: usize, y: usize, format: PixelFormat, mask: u8, row: &mut [u8])
+    ensures { λ r. ⌜ now (row .exit) ≡ maskLast mask (toNative format (sourceRow (length (now (row .entry))) stride (now (plane .entry)) y)) ⌝ }
+{
+    take_row(plane, stride, y, row);
+    to_native(format, row);
+    mask_last(row, mask);
+}
+
+// Rows end to end without gaps, 1 for white and padding 0; nothing is written where they do not fit.
+pub fn wire_bits(
+    plane: &[u8],
+    width: u32,
+    height: u32,
+    stride: usize,
+    format: PixelFormat,
+    out: &mut [u8],
+) -> Written
+    ensures { λ r. ⌜ Emits (gives (wireBits format width height stride (now (plane .entry)))) (written r) (now (out .entry)) (now (out .exit)) ⌝ }
+{
+    let layout = PlaneLayout::new(width, height);
+    let row = layout.stride;
+    let mask = layout.last_byte_pad_mask;
+    let total = layout.total_bytes;
+    if out.len() < total {
+        return Written::Refused(WbmpError {
+            code: OUTPUT_TOO_SHORT,
+            offset: 0,
+        });
+    }
+    let mut at: usize = 0;
+    let mut y: u32 = 0;
+    while y < height {
+        let end = at + row;
+        wire_row(plane, stride, y as usize, format, mask, &mut out[at..end]);
+        at = end;
+        y += 1;
+    }
+    Written::Bytes(total)
+}

@@ -1,0 +1,52 @@
+-- The settings of reading and their limits (document 01, options.rs and limits.rs).
+use Prim.Native.Nat.{ℕ, _*_}
+use mathlib.Core.Bool.{Bool, true}
+use lib.Dec.{leb}
+use Rattle.error.specs.Choice.{if}
+use Rattle.error.specs.Answer.{Answer, gives, refuses}
+use Rattle.image.specs.declared.PixelFormat.{PixelFormat}
+use Rattle.options.specs.declared.Limit.{Limit}
+use Rattle.options.specs.declared.DecodeOptions.{DecodeOptions}
+
+-- A limit is absent, or the largest number that it admits.
+pub data Bound : Type 0 where
+  absent : Bound
+  atMost : ℕ → Bound
+
+abbrev pub admits : Bound → ℕ → Bool
+admits absent n = true
+admits (atMost most) n = leb n most
+
+pub record Decoding : Type 0 where
+  pub maxWidth : Bound
+  pub maxHeight : Bound
+  pub maxPixels : Bound
+  pub maxBytes : Bound
+  pub strict : Bool
+  pub format : PixelFormat
+
+-- "Tested in order: width, height, pixels, plane bytes"; "16, 17, 18, 19, body's start"
+unfoldable pub checkLimits : Decoding → ℕ → ℕ → ℕ → ℕ → Answer (Unit {0})
+checkLimits d width height bytes start =
+    if (admits (d .maxWidth) width)
+    (if (admits (d .maxHeight) height)
+    (if (admits (d .maxPixels) (width * height))
+    (if (admits (d .maxBytes) bytes) (gives tt) (refuses 19 start))
+    (refuses 18 start))
+    (refuses 17 start))
+    (refuses 16 start)
+
+-- what the code's values mean
+abbrev pub bound : Limit → Bound
+bound l = if (l .set) (atMost (l .most)) absent
+
+abbrev pub decoding : DecodeOptions → Decoding
+decoding o =
+    record {
+      maxWidth = bound (o .«max_width»);
+      maxHeight = bound (o .«max_height»);
+      maxPixels = bound (o .«max_pixels»);
+      maxBytes = bound (o .«max_bytes»);
+      strict = o .strict;
+      format = o .format;
+    }

@@ -1,0 +1,246 @@
+// Settings of reading and of making.
+use error::BYTE_LIMIT;
+use error::Checked;
+use error::HEIGHT_LIMIT;
+use error::PIXEL_LIMIT;
+use error::WIDTH_LIMIT;
+use error::WbmpError;
+use header::ExtPresence;
+use image::PixelFormat;
+ghost use mathlib.Core.Path.{_≡_};
+ghost use mathlib.Core.Bool.{false};
+ghost use Rattle.error.specs.Answer.{checked, refuses};
+ghost use Rattle.options.specs.Limits.{admits, checkLimits, absent, atMost, bound, decoding};
+ghost use Rattle.options.specs.Settings;
+
+pub mod limits;
+
+// A limit is absent, or the largest number that it admits.
+pub struct Limit {
+    pub set: bool,
+    pub most: u64,
+}
+
+impl Limit {
+    pub fn absent() -> Limit
+        ensures { λ r. ⌜ bound r ≡ absent ⌝ }
+    {
+        Limit {
+            set: false,
+            most: 0,
+        }
+    }
+
+    pub fn at_most(most: u64) -> Limit
+        ensures { λ r. ⌜ bound r ≡ atMost most ⌝ }
+    {
+        Limit { set: true, most }
+    }
+
+    fn admits(self, n: u64) -> bool
+        ensures { λ r. ⌜ r ≡ admits (bound self) n ⌝ }
+    {
+        if self.set { n <= self.most } else { true }
+    }
+}
+
+// The limits of reading, and how it goes.
+pub struct DecodeOptions {
+    pub max_width: Limit,
+    pub max_height: Limit,
+    pub max_pixels: Limit,
+    // Bytes of one plane.
+    pub max_bytes: Limit,
+    pub strict: bool,
+    // The format of the planes that are given.
+    pub format: PixelFormat,
+}
+
+impl DecodeOptions {
+    // 1,073,741,824 bytes at most, no other limit, lenient, MonoBlack.
+    pub fn new() -> DecodeOptions
+        ensures { λ r. ⌜ decoding r ≡ Settings.defaults ⌝ }
+    {
+        DecodeOptions {
+            max_width: Limit::absent(),
+            max_height: Limit::absent(),
+            max_pixels: Limit::absent(),
+            max_bytes: Limit::at_most(1073741824),
+            strict: false,
+            format: PixelFormat::MonoBlack,
+        }
+    }
+
+    pub fn with_max_width(mut self, max_width: Limit) -> DecodeOptions
+        ensures { λ r. ⌜ decoding r ≡ Settings.withMaxWidth (bound «max_width») (decoding self) ⌝ }
+    {
+        self.max_width = max_width;
+        self
+    }
+
+    pub fn with_max_height(mut self, max_height: Limit) -> DecodeOptions
+        ensures { λ r. ⌜ decoding r ≡ Settings.withMaxHeight (bound «max_height») (decoding self) ⌝ }
+    {
+        self.max_height = max_height;
+        self
+    }
+
+    pub fn with_max_pixels(mut self, max_pixels: Limit) -> DecodeOptions
+        ensures { λ r. ⌜ decoding r ≡ Settings.withMaxPixels (bound «max_pixels») (decoding self) ⌝ }
+    {
+        self.max_pixels = max_pixels;
+        self
+    }
+
+    pub fn with_max_bytes(mut self, max_bytes: Limit) -> DecodeOptions
+        ensures { λ r. ⌜ decoding r ≡ Settings.withMaxBytes (bound «max_bytes») (decoding self) ⌝ }
+    {
+        self.max_bytes = max_bytes;
+        self
+    }
+
+    pub fn with_strict(mut self, strict: bool) -> DecodeOptions
+        ensures { λ r. ⌜ decoding r ≡ Settings.withStrict strict (decoding self) ⌝ }
+    {
+        self.strict = strict;
+        self
+    }
+
+    pub fn with_format(mut self, format: PixelFormat) -> DecodeOptions
+        ensures { λ r. ⌜ decoding r ≡ Settings.withFormat format (decoding self) ⌝ }
+    {
+        let max_width = self.max_width;
+        let max_height = self.max_height;
+        let max_pixels = self.max_pixels;
+        let max_bytes = self.max_bytes;
+        self = DecodeOptions {
+            max_width,
+            max_height,
+            max_pixels,
+            max_bytes,
+            strict: self.strict,
+            format,
+        };
+        self
+    }
+
+    // Every limit is lifted.
+    pub fn unlimited(mut self) -> DecodeOptions
+        ensures { λ r. ⌜ decoding r ≡ Settings.unlimited (decoding self) ⌝ }
+    {
+        self.max_width = Limit::absent();
+        self.max_height = Limit::absent();
+        self.max_pixels = Limit::absent();
+        self.max_bytes = Limit::absent();
+        self
+    }
+
+    // Whether an image of this size, and of so many bytes a plane, is within the limits; a refusal has the offset that is given.
+    pub fn check(self, width: u32, height: u32, bytes: u64, offset: usize) -> Checked
+        ensures { λ r. ⌜ checked r ≡ checkLimits (decoding self) width height bytes offset ⌝ }
+    {
+        let w = width as u64;
+        let h = height as u64;
+        if !self.max_width.admits(w) {
+            return over(WIDTH_LIMIT, offset);
+        }
+        if !self.max_height.admits(h) {
+            return over(HEIGHT_LIMIT, offset);
+        }
+        if !self.max_pixels.admits(w * h) {
+            return over(PIXEL_LIMIT, offset);
+        }
+        if !self.max_bytes.admits(bytes) {
+            return over(BYTE_LIMIT, offset);
+        }
+        Checked::Accepted
+    }
+}
+
+fn over(code: u8, offset: usize) -> Checked
+    ensures { λ r. ⌜ checked r ≡ refuses code offset ⌝ }
+{
+    Checked::Refused(WbmpError { code, offset })
+}
+
+// The rule by which gray becomes black or white.
+pub enum Quantize {
+    // White from this gray on.
+    Threshold(u8),
+    // Floyd and Steinberg's dithering.
+    Dither,
+    // The ordered rule of this side.
+    Ordered(u8),
+}
+
+impl Quantize {
+    pub fn default() -> Quantize
+        ensures { λ r. ⌜ r ≡ Quantize.Threshold 128 ⌝ }
+    {
+        Quantize::Threshold(128)
+    }
+}
+
+// How an image is made.
+pub struct EncodeOptions {
+    pub quantize: Quantize,
+    // The fields that are written.
+    pub ext: ExtPresence,
+    // The classes of pairs are tested.
+    pub strict: bool,
+}
+
+impl EncodeOptions {
+    pub fn new() -> EncodeOptions
+        ensures { λ r. ⌜ r ≡ record { quantize = Quantize.Threshold 128; ext = ExtPresence.Absent; strict = false } ⌝ }
+    {
+        EncodeOptions {
+            quantize: Quantize::default(),
+            ext: ExtPresence::Absent,
+            strict: false,
+        }
+    }
+
+    pub fn with_quantize(mut self, quantize: Quantize) -> EncodeOptions
+        ensures { λ r. ⌜ r ≡ record { quantize = quantize; ext = self .ext; strict = self .strict } ⌝ }
+    {
+        let ext = self.ext;
+        self = EncodeOptions {
+            quantize,
+            ext,
+            strict: self.strict,
+        };
+        self
+    }
+
+    pub fn with_threshold(self, threshold: u8) -> EncodeOptions
+        ensures { λ r. ⌜ r ≡ record { quantize = Quantize.Threshold threshold; ext = self .ext; strict = self .strict } ⌝ }
+    {
+        self.with_quantize(Quantize::Threshold(threshold))
+    }
+
+    pub fn with_dither(self) -> EncodeOptions
+        ensures { λ r. ⌜ r ≡ record { quantize = Quantize.Dither; ext = self .ext; strict = self .strict } ⌝ }
+    {
+        self.with_quantize(Quantize::Dither)
+    }
+
+    pub fn with_ext_fields(mut self, ext: ExtPresence) -> EncodeOptions
+        ensures { λ r. ⌜ r ≡ record { quantize = self .quantize; ext = ext; strict = self .strict } ⌝ }
+    {
+        let quantize = self.quantize;
+        self = EncodeOptions {
+            quantize,
+            ext,
+            strict: self.strict,
+        };
+        self
+    }
+
+    pub fn with_strict(mut self, strict: bool) -> EncodeOptions
+        ensures { λ r. ⌜ r ≡ record { quantize = self .quantize; ext = self .ext; strict = strict } ⌝ }
+    {
+        self.strict = strict;
+        self
+    }
+}
