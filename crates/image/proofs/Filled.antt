@@ -35,16 +35,17 @@ module _ {target l₀ : List ℕ} where
 
     pub filled : (v : ℕ) → i < length l₀ → v ≡ getD target i 0 → Filled target l₀ (set l i v) (i + 1)
     filled v h e =
-        record
-        { same = f .same
-        ; within = omega arith
-        ; now-is =
-            ap (λ (r : List ℕ). set r i v) (split h)
-            ∙ set-at (take i target) (getD l₀ i 0) (drop (suc i) l₀) v i head-length
-            ∙ sym (append-snoc (take i target) v (drop (suc i) l₀))
-            ∙ ap (λ (b : ℕ). (take i target ++ (b ∷ [])) ++ drop (suc i) l₀) e
-            ∙ ap (λ (r : List ℕ). r ++ drop (suc i) l₀) (sym (take-suc target i 0 (omega (arith, f .same))))
-            ∙ ap (λ (k : ℕ). take k target ++ drop k l₀) (sym (add-one i)) }
+        record {
+          same = f .same;
+          within = omega arith;
+          now-is =
+              ap (λ (r : List ℕ). set r i v) (split h)
+              ∙ set-at (take i target) (getD l₀ i 0) (drop (suc i) l₀) v i head-length
+              ∙ sym (append-snoc (take i target) v (drop (suc i) l₀))
+              ∙ ap (λ (b : ℕ). (take i target ++ (b ∷ [])) ++ drop (suc i) l₀) e
+              ∙ ap (λ (r : List ℕ). r ++ drop (suc i) l₀) (sym (take-suc target i 0 (omega (arith, f .same))))
+              ∙ ap (λ (k : ℕ). take k target ++ drop k l₀) (sym (add-one i));
+        }
 
     pub done : length l₀ ≤ i → l ≡ target
     done h =

@@ -4,3 +4,6 @@ pub mod Starts
 pub mod Seen
 pub mod Filled
 pub mod Inverted
+pub mod Masked
+pub mod Converting
+pub mod Wiring

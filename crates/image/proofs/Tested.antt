@@ -31,13 +31,21 @@ module _ (w h s n : ℕ) where
           pub short : n < neededBytes w h s → checkGeometry w h s n ≡ refuses 20 0
           unfolding checkGeometry
           short p =
-              rw
-              (ne-eqb w 0 (λ z. omega arith), ne-eqb h 0 (λ z. omega arith), le-ltb s (rowBytes w) row, lt-leb (2 ^ 64) (neededBytes w h s) small
-              , lt-ltb n (neededBytes w h s) p)
+              rw (
+                ne-eqb w 0 (λ z. omega arith),
+                ne-eqb h 0 (λ z. omega arith),
+                le-ltb s (rowBytes w) row,
+                lt-leb (2 ^ 64) (neededBytes w h s) small,
+                lt-ltb n (neededBytes w h s) p,
+              )
 
           pub accepted : neededBytes w h s ≤ n → checkGeometry w h s n ≡ gives tt
           unfolding checkGeometry
           accepted p =
-              rw
-              (ne-eqb w 0 (λ z. omega arith), ne-eqb h 0 (λ z. omega arith), le-ltb s (rowBytes w) row, lt-leb (2 ^ 64) (neededBytes w h s) small
-              , le-ltb n (neededBytes w h s) p)
+              rw (
+                ne-eqb w 0 (λ z. omega arith),
+                ne-eqb h 0 (λ z. omega arith),
+                le-ltb s (rowBytes w) row,
+                lt-leb (2 ^ 64) (neededBytes w h s) small,
+                le-ltb n (neededBytes w h s) p,
+              )

@@ -1,3 +1,5 @@
+use mathlib.Core.Path.{_≡_, ap, _∙_}
+use Rattle.image.specs.Parts.{maskLast}
 use borrow.Author.Needs.{needs}
 use Rattle.image.proofs.convert.invert_row.Statement.{statement}
 use Rattle.image.proofs.convert.invert_row.Tie as tie
@@ -12,7 +14,7 @@ same-length : tie.Need-same-length
 same-length c = search needs
 
 returns : tie.Need-returns
-returns c = ?
+returns c = c .before .before .mask-last .ensures ∙ ap (maskLast (c .before .before .before .before .before .before .before .before .before .args .mask)) (c .before .before .before .before .before .before .invert .ensures)
 
 pub invert-row-spec : {M : Type 1} → statement M
 invert-row-spec = tie.close (tie.spec invert-requires mask-last-requires same-length returns)

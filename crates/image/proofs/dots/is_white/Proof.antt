@@ -37,7 +37,7 @@ enum-known-at c = search needs
 -- the byte is in the plane
 begun : (c : tie.After-at)
     → let a = c .before .before .before .before .before .before .before .args in
-      Started (length (now (a .plane))) (a .stride) (a .y) (a .x / 8 + 1) (c .at .given .0 .0)
+    Started (length (now (a .plane))) (a .stride) (a .y) (a .x / 8 + 1) (c .at .given .0 .0)
 begun c = started _ _ _ _ _ _ (c .before .before .row-start .ensures) (c .at .given .1)
 
 add-bit : tie.Need-add-bit
@@ -45,30 +45,6 @@ add-bit c = omega (arith, begun (c .before))
 
 shared-slice-read-bit : tie.Need-shared-slice-read-bit
 shared-slice-read-bit c = omega (arith, begun (c .before .before))
-
-bit-requires : tie.Need-white-bit-requires
-white-bit-requires c κs = search needs
-
-cast-column : tie.Need-cast-column
-cast-column c = search needs
-
-add-row-start : tie.Need-add-row-start
-add-row-start c = search needs
-
-row-start-requires : tie.Need-row-start-requires
-row-start-requires c κs = search needs
-
-enum-known-at : tie.Need-enum-known-at
-enum-known-at c = search needs
-
-add-bit : tie.Need-add-bit
-add-bit c =
-    let r = c .before .before .before in
-    let a = r .before .before .before .before .before .args in
-    omega (arith, started _ _ _ _ _ _ (r .row-start .ensures) (c .before .at .given .1))
-
-shared-slice-read-bit : tie.Need-shared-slice-read-bit
-shared-slice-read-bit c = ?
 
 bit-requires : tie.Need-bit-requires
 bit-requires c κs = search needs

@@ -1,3 +1,6 @@
+use mathlib.Core.Path.{_≡_, ap, _∙_}
+use Rattle.image.specs.Parts.{maskLast}
+use Rattle.image.specs.Rows.{toNative}
 use borrow.Author.Needs.{needs}
 use Rattle.image.proofs.wire.wire_row.Statement.{statement}
 use Rattle.image.proofs.wire.wire_row.Tie as tie
@@ -15,7 +18,12 @@ same-length : tie.Need-same-length
 same-length c = search needs
 
 returns : tie.Need-returns
-returns c = ?
+returns c =
+    let n = c .before .before .before .before .before .before in
+    let t = n .before .before .before .before in
+    let a = t .before .before .before .before .args in
+    c .before .before .mask-last .ensures
+    ∙ ap (maskLast (a .mask)) (n .to-native .ensures ∙ ap (toNative (a .format)) (t .take-row .ensures))
 
 pub wire-row-spec : {M : Type 1} → statement M
 wire-row-spec =
