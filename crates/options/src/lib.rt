@@ -113,12 +113,13 @@ impl DecodeOptions {
         let max_height = self.max_height;
         let max_pixels = self.max_pixels;
         let max_bytes = self.max_bytes;
+        let strict = self.strict;
         self = DecodeOptions {
             max_width,
             max_height,
             max_pixels,
             max_bytes,
-            strict: self.strict,
+            strict,
             format,
         };
         self
@@ -205,10 +206,11 @@ impl EncodeOptions {
         ensures { λ r. ⌜ r ≡ record { quantize = quantize; ext = self .ext; strict = self .strict } ⌝ }
     {
         let ext = self.ext;
+        let strict = self.strict;
         self = EncodeOptions {
             quantize,
             ext,
-            strict: self.strict,
+            strict,
         };
         self
     }
@@ -229,10 +231,11 @@ impl EncodeOptions {
         ensures { λ r. ⌜ r ≡ record { quantize = self .quantize; ext = ext; strict = self .strict } ⌝ }
     {
         let quantize = self.quantize;
+        let strict = self.strict;
         self = EncodeOptions {
             quantize,
             ext,
-            strict: self.strict,
+            strict,
         };
         self
     }

@@ -1,0 +1,23 @@
+use borrow.Author.Needs.{needs}
+use Rattle.options.proofs.DecodeOptions.new.Statement.{statement}
+use Rattle.options.proofs.DecodeOptions.new.Tie as tie
+
+absent-requires : tie.Need-absent-requires
+absent-requires c κs = search needs
+
+absent-requires-2 : tie.Need-absent-requires-2
+absent-requires-2 c κs = search needs
+
+absent-requires-3 : tie.Need-absent-requires-3
+absent-requires-3 c κs = search needs
+
+at-most-requires : tie.Need-at-most-requires
+at-most-requires c κs = search needs
+
+returns : tie.Need-returns
+returns c = ?
+
+pub new-spec : {M : Type 1} → statement M
+new-spec =
+    tie.close
+    (tie.spec absent-requires absent-requires-2 absent-requires-3 at-most-requires returns)

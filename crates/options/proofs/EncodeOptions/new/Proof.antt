@@ -1,0 +1,12 @@
+use borrow.Author.Needs.{needs}
+use Rattle.options.proofs.EncodeOptions.new.Statement.{statement}
+use Rattle.options.proofs.EncodeOptions.new.Tie as tie
+
+default-requires : tie.Need-default-requires
+default-requires c κs = search needs
+
+returns : tie.Need-returns
+returns c = ?
+
+pub new-spec : {M : Type 1} → statement M
+new-spec = tie.close (tie.spec default-requires returns)
