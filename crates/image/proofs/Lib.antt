@@ -7,3 +7,4 @@ pub mod Inverted
 pub mod Masked
 pub mod Converting
 pub mod Wiring
+pub mod Bits

@@ -6,7 +6,7 @@ default-requires : tie.Need-default-requires
 default-requires c κs = search needs
 
 returns : tie.Need-returns
-returns c = ?
+returns c = rw (c .default .ensures)
 
 pub new-spec : {M : Type 1} → statement M
 new-spec = tie.close (tie.spec default-requires returns)
