@@ -29,26 +29,26 @@ clear-below bits k b h =
     ∙ ap (λ (n : ℕ). n % 2) (sym (mul-assoc q (2 ^ (bits - suc k)) 2))
     ∙ mul-mod-left (q * 2 ^ (bits - suc k)) 2
 
+-- what holds of each number below eight
+below-eight : (P : ℕ → Type 0) → P 0 → P 1 → P 2 → P 3 → P 4 → P 5 → P 6 → P 7 → (k : ℕ) → k < 8 → P k
+below-eight P a b c d e f g i zero h = a
+below-eight P a b c d e f g i (suc zero) h = b
+below-eight P a b c d e f g i (suc (suc zero)) h = c
+below-eight P a b c d e f g i (suc (suc (suc zero))) h = d
+below-eight P a b c d e f g i (suc (suc (suc (suc zero)))) h = e
+below-eight P a b c d e f g i (suc (suc (suc (suc (suc zero))))) h = f
+below-eight P a b c d e f g i (suc (suc (suc (suc (suc (suc zero)))))) h = g
+below-eight P a b c d e f g i (suc (suc (suc (suc (suc (suc (suc zero))))))) h = i
+below-eight P a b c d e f g i (suc (suc (suc (suc (suc (suc (suc (suc k)))))))) h = let z : ⊥ = omega arith in absurd z
+
 -- each bit of an inverted byte is the other one
 pub invert-bit : (k b : ℕ) → k < 8 → b < 256 → (255 - b) / 2 ^ k % 2 ≡ 1 - b / 2 ^ k % 2
-invert-bit 0 b h l = omega arith
-invert-bit 1 b h l = omega arith
-invert-bit 2 b h l = omega arith
-invert-bit 3 b h l = omega arith
-invert-bit 4 b h l = omega arith
-invert-bit 5 b h l = omega arith
-invert-bit 6 b h l = omega arith
-invert-bit 7 b h l = omega arith
-invert-bit (suc (suc (suc (suc (suc (suc (suc (suc k)))))))) b h l = let f : ⊥ = omega arith in absurd f
+invert-bit k b h l =
+    below-eight (λ (k : ℕ). (255 - b) / 2 ^ k % 2 ≡ 1 - b / 2 ^ k % 2)
+    (omega arith) (omega arith) (omega arith) (omega arith) (omega arith) (omega arith) (omega arith) (omega arith) k h
 
 -- inverting twice only clears
 pub invert-twice : (bits b : ℕ) → bits < 8 → b < 256 → clearLow bits (255 - clearLow bits (255 - b)) ≡ clearLow bits b
-invert-twice 0 b h l = omega arith
-invert-twice 1 b h l = omega arith
-invert-twice 2 b h l = omega arith
-invert-twice 3 b h l = omega arith
-invert-twice 4 b h l = omega arith
-invert-twice 5 b h l = omega arith
-invert-twice 6 b h l = omega arith
-invert-twice 7 b h l = omega arith
-invert-twice (suc (suc (suc (suc (suc (suc (suc (suc k)))))))) b h l = let f : ⊥ = omega arith in absurd f
+invert-twice bits b h l =
+    below-eight (λ (bits : ℕ). clearLow bits (255 - clearLow bits (255 - b)) ≡ clearLow bits b)
+    (omega arith) (omega arith) (omega arith) (omega arith) (omega arith) (omega arith) (omega arith) (omega arith) bits h

@@ -8,3 +8,6 @@ pub mod Masked
 pub mod Converting
 pub mod Wiring
 pub mod Bits
+pub mod Fitting
+pub mod Cleared
+pub mod WireDots

@@ -36,7 +36,7 @@ module _ (n s : ℕ) (plane : List ℕ) (y : ℕ) where
   pub source-length : length (sourceRow n s plane y) ≡ n
   source-length = by-length (isPresent n s plane y) refl
 
-native-length : (f : PixelFormat) (l : List ℕ) → length (toNative f l) ≡ length l
+pub native-length : (f : PixelFormat) (l : List ℕ) → length (toNative f l) ≡ length l
 native-length MonoBlack l = refl
 native-length MonoWhite l = invert-length l
 
