@@ -38,12 +38,12 @@ begun plane w h s l e =
     }
 
 module _ (w s : ℕ) (plane : List ℕ) (y : ℕ) where
-  rows-next : (n : ℕ) → y * s + rowBytes w ≤ length plane
+  pub rows-next : (n : ℕ) → y * s + rowBytes w ≤ length plane
       → convertRows w s (suc n) y plane ≡ convertRows w s n (y + 1) (convertRow w s plane y)
   unfolding convertRows
   rows-next n h = rw (le-leb (y * s + rowBytes w) (length plane) h)
 
-  rows-stop : (n : ℕ) → length plane < y * s + rowBytes w → convertRows w s (suc n) y plane ≡ plane
+  pub rows-stop : (n : ℕ) → length plane < y * s + rowBytes w → convertRows w s (suc n) y plane ≡ plane
   unfolding convertRows
   rows-stop n h = rw (lt-leb (y * s + rowBytes w) (length plane) h)
 

@@ -11,3 +11,5 @@ pub mod Bits
 pub mod Fitting
 pub mod Cleared
 pub mod WireDots
+pub mod Converted
+pub mod ConvertDots
