@@ -47,10 +47,11 @@ back MonoWhite w h s plane = refl
 rows-converted : (w h s : ℕ) (plane : List ℕ) → Fitting w h s (length plane) → Converts w h s (inverted w) plane (convertRows w s h 0 plane)
 rows-converted w h s plane f =
     let all : AllThere w s (0 + h) plane = λ z l. row-there w h s (length plane) f z (omega arith) in
-    record
-    { same = rows-length w s h 0 plane all
-    ; row = λ y j l k. rows-inside w s (f .row) j k h 0 plane all y (omega arith) (omega arith)
-    ; gap = λ k out. rows-outside w s h 0 plane all k (λ z a b. out z (omega arith)) }
+    record {
+      same = rows-length w s h 0 plane all;
+      row = λ y j l k. rows-inside w s (f .row) j k h 0 plane all y (omega arith) (omega arith);
+      gap = λ k out. rows-outside w s h 0 plane all k (λ z a b. out z (omega arith));
+    }
 
 module _ (f : PixelFormat) (w h s : ℕ) (plane : List ℕ) (passed : checkGeometry w h s (length plane) ≡ gives tt) where
   pub converted : Converts w h s (inverted w) plane (convertFormat f (otherFormat f) w h s plane)
@@ -66,13 +67,14 @@ module _ (f : PixelFormat) (w h s : ℕ) (plane : List ℕ) (passed : checkGeome
       let g′ : Fitting w h s (length (convertRows w s h 0 plane)) = record { wide = g .wide; high = g .high; row = g .row; room = omega (arith, g .room) } in
       let q = rows-converted w h s (convertRows w s h 0 plane) g′ in
       rw (other f, back f)
-      (record
-      { same = q .same ∙ e
-      ; row = λ y j l k.
-          q .row y j l k
-          ∙ ap (inverted w j) (p .row y j l k)
-          ∙ invert-twice (paddingAt w j) (getD plane (y * s + j) 0) (omega arith) (bytes (y * s + j))
-      ; gap = λ k out. q .gap k out ∙ p .gap k out })
+      (record {
+        same = q .same ∙ e;
+        row = λ y j l k.
+            q .row y j l k
+            ∙ ap (inverted w j) (p .row y j l k)
+            ∙ invert-twice (paddingAt w j) (getD plane (y * s + j) 0) (omega arith) (bytes (y * s + j));
+        gap = λ k out. q .gap k out ∙ p .gap k out;
+      })
 
 other-white : (f : PixelFormat) (b : ℕ) → b < 2 → eqb (1 - b) (whiteBit (otherFormat f)) ≡ eqb b (whiteBit f)
 other-white MonoBlack zero h = refl

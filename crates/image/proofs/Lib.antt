@@ -13,3 +13,4 @@ pub mod Cleared
 pub mod WireDots
 pub mod Converted
 pub mod ConvertDots
+pub mod Examples

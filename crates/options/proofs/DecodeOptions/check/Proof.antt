@@ -16,7 +16,7 @@ over-requires : tie.Need-over-requires
 over-requires c κs = search needs
 
 returns : tie.Need-returns
-returns c = 
+returns c =
     let a = c .before .before .before .args in
     c .over .ensures
     ∙ sym
@@ -30,7 +30,7 @@ over-requires-2 : tie.Need-over-requires-2
 over-requires-2 c κs = search needs
 
 returns-2 : tie.Need-returns-2
-returns-2 c = 
+returns-2 c =
     let a = c .before .before .before .before .before .args in
     c .over2 .ensures
     ∙ sym
@@ -51,7 +51,7 @@ over-requires-3 : tie.Need-over-requires-3
 over-requires-3 c κs = search needs
 
 returns-3 : tie.Need-returns-3
-returns-3 c = 
+returns-3 c =
     let a = c .before .before .before .before .before .before .before .args in
     c .over3 .ensures
     ∙ sym
@@ -67,7 +67,7 @@ over-requires-4 : tie.Need-over-requires-4
 over-requires-4 c κs = search needs
 
 returns-4 : tie.Need-returns-4
-returns-4 c = 
+returns-4 c =
     let a = c .before .before .before .before .before .before .before .before .before .args in
     c .over4 .ensures
     ∙ sym
