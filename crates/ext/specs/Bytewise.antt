@@ -54,7 +54,7 @@ unfoldable mutual
         | false ↦ valueFrom τ strict start (at + 1) done (at + 1) size more (identifierFault strict fault b) next
       ]
 
-  -- a value, the same
+  -- a value begun at `begun`, of which `left` bytes are to come
   pub valueFrom : {A : Type 0} → List ℕ → Bool → ℕ → ℕ → ℕ → ℕ → ℕ → Bool → ℕ → (ℕ → ℕ → List ℕ → Answer A) → Answer A
   valueFrom [] strict start at done begun left more fault next = refuses 13 begun
   valueFrom (b ∷ τ) strict start at done begun left more fault next =

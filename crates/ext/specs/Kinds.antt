@@ -18,7 +18,7 @@ pub record Pair : Type 0 where
   pub identifier : List ℕ
   pub value : List ℕ
 
--- Fields of a header: none, octets of 7 bits (kind 00), one octet (kind 01 or 10, as a number), or pairs (kind 11).
+-- Fields of a header: none, octets of 7 bits (kind 00), one octet (its kind, 1 or 2 for 01 or 10, and the octet), or pairs (kind 11).
 pub data Fields : Type 0 where
   none : Fields
   bitfield : List ℕ → Fields

@@ -35,7 +35,7 @@ pub record PairAt : Type 0 where
   pub more : Bool
   pub end : ℕ
 
--- strict adds "identifier outside 0x01-0x7F (14), value not letter or digit (15)", with the offset after the pair
+-- strict adds "identifier outside 0x01-0x7F (14), value not letter or digit per RFC 2234 (15)", with the offset after the pair
 abbrev pub classed : Bool → PairAt → Answer PairAt
 classed strict p =
     if (inClass strict isChar (p .pair .identifier))

@@ -13,7 +13,7 @@ use Rattle.header.specs.Represents.{state, Represents, Answers, Stepped}
 use Rattle.header.specs.Pieces.{join, onward, Fed, nothing, byte, last, bad, Run, closed, piece, whole, met}
 use Rattle.header.specs.Phase.{moved}
 use Rattle.header.specs.declared.HeaderMode.{HeaderMode}
-use Rattle.header.specs.declared.HeaderExt.{HeaderExt}
+use Rattle.header.specs.declared.HeaderFields.{HeaderFields}
 use Rattle.header.specs.declared.ParsedHeader.{ParsedHeader}
 use Rattle.header.specs.declared.phase.Phase.{Phase}
 use Rattle.header.specs.declared.phase.PhaseStep.{PhaseStep}
@@ -86,7 +86,7 @@ abbrev reader : Phase → HeaderReader
 reader p = record { mode = lenient; phase = p }
 
 abbrev sized : ParsedHeader
-sized = record { width = 9; height = 2; «data_offset» = 4; «fix_header» = 0; «ext_fields» = HeaderExt.Absent }
+sized = record { width = 9; height = 2; «data_offset» = 4; «fix_header» = 0; «ext_fields» = HeaderFields.Absent }
 
 takes : (p : Phase) (b : ℕ) (x : PhaseStep) → moved x ≡ stepOf (settings lenient) (state p) b → Stepped (reader p) b (asReader lenient x)
 takes p b x e = stepped (reader p) b x x e refl
@@ -95,17 +95,17 @@ type : Stepped (reader (Phase.InType 0 0 0)) 0 (HeaderStep.More (reader (Phase.A
 unfolding stepOf readByte
 type = takes (Phase.InType 0 0 0) 0 (PhaseStep.More (Phase.AtFix 1)) refl
 
-fix : Stepped (reader (Phase.AtFix 1)) 0 (HeaderStep.More (reader (Phase.InWidth 0 HeaderExt.Absent 2 0 0)))
+fix : Stepped (reader (Phase.AtFix 1)) 0 (HeaderStep.More (reader (Phase.InWidth 0 HeaderFields.Absent 2 0 0)))
 unfolding stepOf
-fix = takes (Phase.AtFix 1) 0 (PhaseStep.More (Phase.InWidth 0 HeaderExt.Absent 2 0 0)) refl
+fix = takes (Phase.AtFix 1) 0 (PhaseStep.More (Phase.InWidth 0 HeaderFields.Absent 2 0 0)) refl
 
-width : Stepped (reader (Phase.InWidth 0 HeaderExt.Absent 2 0 0)) 9 (HeaderStep.More (reader (Phase.InHeight 0 HeaderExt.Absent 9 3 0 0)))
+width : Stepped (reader (Phase.InWidth 0 HeaderFields.Absent 2 0 0)) 9 (HeaderStep.More (reader (Phase.InHeight 0 HeaderFields.Absent 9 3 0 0)))
 unfolding stepOf readByte
-width = takes (Phase.InWidth 0 HeaderExt.Absent 2 0 0) 9 (PhaseStep.More (Phase.InHeight 0 HeaderExt.Absent 9 3 0 0)) refl
+width = takes (Phase.InWidth 0 HeaderFields.Absent 2 0 0) 9 (PhaseStep.More (Phase.InHeight 0 HeaderFields.Absent 9 3 0 0)) refl
 
-height : Stepped (reader (Phase.InHeight 0 HeaderExt.Absent 9 3 0 0)) 2 (HeaderStep.Done sized)
+height : Stepped (reader (Phase.InHeight 0 HeaderFields.Absent 9 3 0 0)) 2 (HeaderStep.Done sized)
 unfolding stepOf readByte
-height = takes (Phase.InHeight 0 HeaderExt.Absent 9 3 0 0) 2 (PhaseStep.Done sized) refl
+height = takes (Phase.InHeight 0 HeaderFields.Absent 9 3 0 0) 2 (PhaseStep.Done sized) refl
 
 opened : Represents (reader (Phase.InType 0 0 0)) (settings lenient) start
 opened = record { mode-is = refl; phase-is = refl; sound = sound-start }

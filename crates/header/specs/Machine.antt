@@ -50,7 +50,7 @@ afterWidth o fix f width at τ = integer (o .shortest) τ at 0 0 (afterHeight fi
 abbrev pub sizesFrom : Settings → ℕ → Span → ℕ → List ℕ → Answer Outline
 sizesFrom o fix f at τ = integer (o .shortest) τ at 0 0 (afterWidth o fix f)
 
--- after fields of a kind that follow
+-- what follows fields that were read
 abbrev pub afterFields : Settings → ℕ → ℕ → ℕ → ℕ → List ℕ → Answer Outline
 afterFields o fix start end pairs τ = sizesFrom o fix (found fix start end pairs) end τ
 

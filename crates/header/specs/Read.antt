@@ -11,8 +11,8 @@ use Rattle.ext.specs.Kinds.{Fields, Span, absent, span, spanOf, fieldsSpan, fie
 use Rattle.ext.specs.Read.{readFields}
 use Rattle.header.specs.Settings.{Settings}
 use Rattle.header.specs.declared.ParsedHeader.{ParsedHeader}
-use Rattle.header.specs.declared.HeaderExt.{HeaderExt}
-use Rattle.header.specs.declared.HeaderExt.the-variants.{Absent}
+use Rattle.header.specs.declared.HeaderFields.{HeaderFields}
+use Rattle.header.specs.declared.HeaderFields.the-variants.{Absent}
 use Rattle.header.specs.declared.HeaderRead.{HeaderRead}
 
 pub record Header : Type 0 where
@@ -76,9 +76,9 @@ abbrev pub outlineSizes : Bool → List ℕ → ℕ → Span → ℕ → Answer 
 outlineSizes shortest s fix f at = bind (readMbi shortest s at) (outlineHeight shortest s fix f)
 
 -- what the code's values mean
-abbrev pub extSpan : HeaderExt → Span
+abbrev pub extSpan : HeaderFields → Span
 extSpan Absent = absent
-extSpan (HeaderExt.Fields f) = fieldsSpan f
+extSpan (HeaderFields.Fields f) = fieldsSpan f
 
 abbrev pub parsed : ParsedHeader → Outline
 parsed h =

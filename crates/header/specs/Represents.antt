@@ -23,7 +23,8 @@ state (Phase.InValue fix start at pairs begun left again fault) = inValue fix st
 state (Phase.InWidth fix f at v n) = inWidth fix (extSpan f) at v n
 state (Phase.InHeight fix f w at v n) = inHeight fix (extSpan f) w at v n
 
--- how far a reading can have come; a waiting fault is no end of input
+-- How far a reading can have come: an integer has at most 7 bytes that are accepted, the FixHeader byte is one, and fields are at most
+-- 4,118 bytes, so the width starts at 4,128 or before and the height 8 bytes later or before. A waiting fault is no end of input.
 abbrev pub Sound : State → Type 0
 Sound (inType at v n) = (at ≤ n) × (n ≤ 7)
 Sound (atFix at) = at ≤ 8

@@ -7,7 +7,7 @@ pub record Settings : Type 0 where
   pub shortest : Bool
   -- the FixHeader byte is 0 (7)
   pub fixZero : Bool
-  -- fields are read where the FixHeader byte says that they follow; else that byte is skipped
+  -- fields are read where the FixHeader byte says that they follow; where this is false, that byte is skipped whatever it says
   pub honoured : Bool
   -- identifiers and values are in their classes (14, 15)
   pub classes : Bool

@@ -1,5 +1,5 @@
 // The FixHeader byte and the extension fields.
-use crate::HeaderExt;
+use crate::HeaderFields;
 use crate::HeaderMode;
 use crate::faults::identifier_fault;
 use crate::faults::value_fault;
@@ -31,7 +31,7 @@ fn after_fields(fix: u8, start: usize, end: usize, pairs: usize) -> PhaseStep
 {
     let fix_header = FixHeaderField::from_byte(fix);
     let ext_type = fix_header.ext_type;
-    let fields = HeaderExt::Fields(ExtFields {
+    let fields = HeaderFields::Fields(ExtFields {
         ext_type,
         start,
         len: end - start,
@@ -74,7 +74,7 @@ fn after_fix(honoured: bool, fix: u8, at: usize) -> PhaseStep
             return to_fields(fix, at);
         }
     }
-    let fields = HeaderExt::Absent;
+    let fields = HeaderFields::Absent;
     PhaseStep::More(Phase::InWidth {
         fix,
         fields,

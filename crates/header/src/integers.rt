@@ -1,5 +1,5 @@
 // The integers of a header: type, width and height.
-use crate::HeaderExt;
+use crate::HeaderFields;
 use crate::HeaderMode;
 use crate::ParsedHeader;
 use crate::phase::Phase;
@@ -42,7 +42,7 @@ pub(crate) fn in_type(mode: HeaderMode, at: usize, value: u32, count: u8, byte: 
 pub(crate) fn in_width(
     mode: HeaderMode,
     fix: u8,
-    fields: HeaderExt,
+    fields: HeaderFields,
     at: usize,
     value: u32,
     count: u8,
@@ -72,7 +72,7 @@ pub(crate) fn in_width(
 }
 
 // The header's end, after both sizes.
-fn sized(fix: u8, fields: HeaderExt, width: u32, height: u32, body: usize) -> PhaseStep
+fn sized(fix: u8, fields: HeaderFields, width: u32, height: u32, body: usize) -> PhaseStep
     ensures { λ r. ⌜ moved r ≡ afterSizes fix (extSpan fields) width height body ⌝ }
 {
     if width == 0 {
@@ -99,7 +99,7 @@ fn sized(fix: u8, fields: HeaderExt, width: u32, height: u32, body: usize) -> Ph
 pub(crate) fn in_height(
     mode: HeaderMode,
     fix: u8,
-    fields: HeaderExt,
+    fields: HeaderFields,
     width: u32,
     at: usize,
     value: u32,

@@ -25,14 +25,14 @@ pub struct HeaderMode {
     pub shortest: bool,
     // The FixHeader byte is 0.
     pub fix_zero: bool,
-    // Fields are read where bit 7 of the FixHeader byte says that they follow; else that byte is skipped.
+    // Fields are read where bit 7 of the FixHeader byte says that they follow; where this is false, that byte is skipped whatever it says.
     pub fields: bool,
     // Identifiers and values of pairs are in their classes.
     pub classes: bool,
 }
 
 // The fields of a header that was read.
-pub enum HeaderExt {
+pub enum HeaderFields {
     Absent,
     Fields(ExtFields),
 }
@@ -42,7 +42,7 @@ pub struct ParsedHeader {
     pub height: u32,
     pub data_offset: usize,
     pub fix_header: u8,
-    pub ext_fields: HeaderExt,
+    pub ext_fields: HeaderFields,
 }
 
 pub enum HeaderRead {

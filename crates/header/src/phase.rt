@@ -1,5 +1,5 @@
 // Where a reading of a header stands between two bytes, and what one byte more does.
-use crate::HeaderExt;
+use crate::HeaderFields;
 use crate::HeaderMode;
 use crate::ParsedHeader;
 use crate::fields::at_fix;
@@ -72,14 +72,14 @@ pub enum Phase {
     },
     InWidth {
         fix: u8,
-        fields: HeaderExt,
+        fields: HeaderFields,
         at: usize,
         value: u32,
         count: u8,
     },
     InHeight {
         fix: u8,
-        fields: HeaderExt,
+        fields: HeaderFields,
         width: u32,
         at: usize,
         value: u32,

@@ -1,5 +1,5 @@
 // Whole headers, by recursive descent as the Rust goes.
-use crate::HeaderExt;
+use crate::HeaderFields;
 use crate::HeaderMode;
 use crate::HeaderRead;
 use crate::ParsedHeader;
@@ -77,7 +77,7 @@ fn parse_height(
     bytes: &[u8],
     at: usize,
     fix: u8,
-    fields: HeaderExt,
+    fields: HeaderFields,
     width: u32,
     shortest: bool,
 ) -> HeaderRead
@@ -103,7 +103,7 @@ fn parse_height(
     }
 }
 
-fn parse_sizes(bytes: &[u8], at: usize, fix: u8, fields: HeaderExt, shortest: bool) -> HeaderRead
+fn parse_sizes(bytes: &[u8], at: usize, fix: u8, fields: HeaderFields, shortest: bool) -> HeaderRead
     ensures { λ r. ⌜ meaning r ≡ outlineSizes shortest (now (bytes .entry)) fix (extSpan fields) at ⌝ }
 {
     match read_integer(bytes, at, shortest) {
@@ -124,15 +124,15 @@ fn parse_after_fix(bytes: &[u8], at: usize, fix: u8, mode: HeaderMode) -> Header
 {
     if mode.fields {
         match read_fields(bytes, at, fix, mode.classes) {
-            ExtRead::Absent => parse_sizes(bytes, at, fix, HeaderExt::Absent, mode.shortest),
+            ExtRead::Absent => parse_sizes(bytes, at, fix, HeaderFields::Absent, mode.shortest),
             ExtRead::Fields(f) => {
                 let end = f.start + f.len;
-                parse_sizes(bytes, end, fix, HeaderExt::Fields(f), mode.shortest)
+                parse_sizes(bytes, end, fix, HeaderFields::Fields(f), mode.shortest)
             }
             ExtRead::Refused(e) => HeaderRead::Refused(e),
         }
     } else {
-        parse_sizes(bytes, at, fix, HeaderExt::Absent, mode.shortest)
+        parse_sizes(bytes, at, fix, HeaderFields::Absent, mode.shortest)
     }
 }
 

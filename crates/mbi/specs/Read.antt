@@ -17,8 +17,8 @@ pub data ByteRead : Type 0 where
   ends : ℕ → ByteRead
   wrong : ℕ → ℕ → ByteRead
 
--- the byte b at the offset `at`, where `count` bytes before it have given `value`. "`read_mbi_u32` tests, per byte: after taking the byte,
--- value above 4,294,967,295 (2); more than 7 bytes (3)"; strict "first refuses a leading 0x80 (4)", with the offset before that byte
+-- the byte b at the offset `at`, where `count` bytes before it have given `value`. "After taking the byte, value above 4,294,967,295 (2);
+-- more than 7 bytes (3)"; strict "first refuses a leading 0x80 (4)", with the offset before that byte
 unfoldable pub readByte : Bool → ℕ → ℕ → ℕ → ℕ → ByteRead
 readByte strict at value count b =
     if (strict && eqb count 0 && eqb b 128) (wrong 4 at)
@@ -27,7 +27,7 @@ readByte strict at value count b =
     (if (ltb b 128) (ends (value * 128 + b % 128))
     (goes (value * 128 + b % 128)))))
 
--- the rest of an integer: the bytes from `at` on; it gives the value and the offset after it, and 1 where the input ends
+-- the rest of an integer: the bytes from `at` on; it gives the value and the offset after it. "Tests, per byte: input ended (1)", then the byte
 unfoldable pub readRest : Bool → List ℕ → ℕ → ℕ → ℕ → Answer (ℕ × ℕ)
 readRest strict [] at value count = refuses 1 at
 readRest strict (b ∷ τ) at value count =

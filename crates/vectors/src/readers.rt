@@ -13,7 +13,7 @@ use ext::ExtRead;
 use ext::FixHeaderField;
 use ext::Lookup;
 use ext::Parameter;
-use header::HeaderExt;
+use header::HeaderFields;
 use header::HeaderRead;
 use header::ParsedHeader;
 use mbi::MbiRead;
@@ -91,8 +91,8 @@ fn sizes(h: ParsedHeader) -> [usize; 9] {
     let height = h.height as usize;
     let fix = h.fix_header as usize;
     match ext {
-        HeaderExt::Absent => [0, h.data_offset, width, height, fix, 0, 0, 0, 0],
-        HeaderExt::Fields(f) => {
+        HeaderFields::Absent => [0, h.data_offset, width, height, fix, 0, 0, 0, 0],
+        HeaderFields::Fields(f) => {
             let kind = f.ext_type;
             let kind = kind_of(kind);
             [
