@@ -1,12 +1,16 @@
--- Corners of reading fields, worked out by the definitions.
-use mathlib.Core.Path.{_≡_, refl}
-use mathlib.Core.List.{[], _∷_}
+-- Corners of reading fields and of lookup, worked out by the definitions.
+use Prim.Native.Nat.{ℕ, zero, suc, _<_}
+use mathlib.Core.Path.{_≡_, refl, ap}
+use mathlib.Core.List.{List, [], _∷_}
 use mathlib.Core.Bool.{true, false}
+use native.Mathlib.Omega.{arith}
+use lib.ListN.{getD}
 use Rattle.error.specs.Answer.{gives, refuses}
 use Rattle.ext.specs.Kinds.{pairs}
 use Rattle.ext.specs.Classes.{all, isAlphaDigit}
 use Rattle.ext.specs.Read.{readOctets, readPair, readPairs, readFields}
 use Rattle.ext.specs.Bytewise.{pairsFrom}
+use Rattle.ext.specs.Find.{pairAt, valueStart, nothing, valueAt, Looked}
 
 -- a pair past the ceiling is refused with 10, whatever its lengths
 over-first : pairsFrom (0 ∷ []) false 0 4096 0 (λ end count τ. gives end) ≡ refuses 10 4096
@@ -45,3 +49,26 @@ bad-value = refl
 lenient : readFields false true 3 (17 ∷ 128 ∷ 33 ∷ []) 0 ≡ gives (pairs (record { identifier = 128 ∷ []; value = 33 ∷ [] } ∷ []), 3)
 unfolding readFields readPairs readPair
 lenient = refl
+
+-- P5's file: its fields stand at 2, the pair k = 12
+abbrev p5 : List ℕ
+p5 = 0 ∷ 224 ∷ 18 ∷ 107 ∷ 49 ∷ 50 ∷ 9 ∷ 2 ∷ []
+
+-- k is found: its value stands at 4 and has 2 bytes
+found : Looked (readFields false true 3 p5 2) p5 2 (107 ∷ []) (gives (valueAt 4 2))
+unfolding readFields readPairs readPair valueStart
+found = (0, record { below = omega arith; same = refl; starts = refl; long = refl; bytes = refl })
+
+-- j is not
+not-found : Looked (readFields false true 3 p5 2) p5 2 (106 ∷ []) (gives nothing)
+unfolding readFields readPairs readPair
+not-found = other
+  where
+    other : (i : ℕ) → i < 1 → pairAt (record { identifier = 107 ∷ []; value = 49 ∷ 50 ∷ [] } ∷ []) i .identifier ≡ 106 ∷ [] → ⊥
+    other zero h e = let b : _≡_ {A = ℕ} 107 106 = ap (λ (l : List ℕ). getD l 0 0) e in omega arith
+    other (suc i) h e = omega arith
+
+-- fields that are refused, here at the file's end, refuse the lookup
+not-read : Looked (readFields false true 3 p5 8) p5 8 (107 ∷ []) (refuses 9 8)
+unfolding readFields readPairs
+not-read = (refl, refl)

@@ -6,16 +6,14 @@ use mathlib.Core.Bool.{Bool, true, false}
 use native.Mathlib.Omega.{arith}
 use lib.ListN.{length, getD, drop}
 use lib.Seq.{slice, length-slice}
-use Rattle.error.specs.Answer.{Answer, gives, refuses, map}
+use Rattle.error.specs.Answer.{Answer, gives, refuses, refusal, map}
 use Rattle.laws.proofs.Tests.{zero-one}
 use Rattle.ext.specs.Kinds.{Pair, Fields, none, bitfield, reserved, pairs, absent, spanOf, fieldsSpan, meaning}
 use Rattle.ext.specs.Read.{PairAt, readOctets, readOctet, readPairs, readFields}
-use Rattle.ext.specs.Find.{pairsIn, pairAt, pairSize, valueStart, Finds, Looked}
+use Rattle.ext.specs.Find.{pairsIn, pairAt, pairSize, valueStart, Found, nothing, valueAt, Finds, Looked}
 use Rattle.ext.specs.declared.ExtFields.{ExtFields}
 use Rattle.ext.specs.declared.ExtRead.{ExtRead}
 use Rattle.ext.specs.declared.ExtRead.the-variants.{Absent}
-use Rattle.ext.specs.declared.Lookup.{Lookup}
-use Rattle.ext.specs.declared.Lookup.the-variants.{Nothing, Value}
 use Rattle.ext.proofs.Answers.{map-gives}
 use Rattle.ext.proofs.Cases.{by-kind, PairsGiven, last, more, pairs-given}
 use Rattle.ext.proofs.Extent.{identifierSize, valueSize, PairIn}
@@ -65,20 +63,21 @@ sizes s h at x i =
     let b = ap length (i .value-is) ∙ length-slice (at + 1 + identifierSize h) (at + 1 + identifierSize h + valueSize h) s (omega arith) in
     (omega arith, omega arith)
 
-finds-here : (at : ℕ) (p : Pair) (ps : List Pair) (identifier : List ℕ) (from len : ℕ) → p .identifier ≡ identifier
-    → from ≡ at + 1 + length (p .identifier) → len ≡ length (p .value) → Finds at (p ∷ ps) identifier (Value from len)
+finds-here : (s : List ℕ) (at : ℕ) (p : Pair) (ps : List Pair) (identifier : List ℕ) (from len : ℕ) → p .identifier ≡ identifier
+    → from ≡ at + 1 + length (p .identifier) → len ≡ length (p .value) → slice from (from + len) s ≡ p .value
+    → Finds s at (p ∷ ps) identifier (valueAt from len)
 unfolding valueStart
-finds-here at p ps identifier from len e f n = (0, record { below = omega arith; same = e; starts = f; long = n })
+finds-here s at p ps identifier from len e f n v = (0, record { below = omega arith; same = e; starts = f; long = n; bytes = v })
 
-finds-next : (at end : ℕ) (p : Pair) (ps : List Pair) (identifier : List ℕ) (r : Lookup) → (p .identifier ≡ identifier → ⊥) → end ≡ at + pairSize p
-    → Finds end ps identifier r → Finds at (p ∷ ps) identifier r
+finds-next : (s : List ℕ) (at end : ℕ) (p : Pair) (ps : List Pair) (identifier : List ℕ) (r : Found) → (p .identifier ≡ identifier → ⊥)
+    → end ≡ at + pairSize p → Finds s end ps identifier r → Finds s at (p ∷ ps) identifier r
 unfolding valueStart
-finds-next at end p ps identifier Nothing other e f = none-more
+finds-next s at end p ps identifier nothing other e f = none-more
   where
     none-more : (i : ℕ) → i < length (p ∷ ps) → pairAt (p ∷ ps) i .identifier ≡ identifier → ⊥
     none-more zero h same = other same
     none-more (suc i) h same = f i (omega arith) same
-finds-next at end p ps identifier (Value from len) other e (i, c) =
+finds-next s at end p ps identifier (valueAt from len) other e (i, c) =
     let b = c .below in (
       suc i,
       record {
@@ -86,21 +85,21 @@ finds-next at end p ps identifier (Value from len) other e (i, c) =
         same = c .same;
         starts = c .starts ∙ ap (λ (n : ℕ). valueStart n ps i) e;
         long = c .long;
+        bytes = c .bytes;
       },
     )
-finds-next at end p ps identifier (Lookup.Refused e′) other e f = f
 
 -- The walk has come to an offset and has pairs left there; what it finds among them it finds among all of `ps`.
 pub record Rest (s identifier : List ℕ) (start : ℕ) (ps : List Pair) (at left : ℕ) : Type 0 where
   pub rest : List Pair
   pub count : length rest ≡ left
   pub stands : Stands s at rest
-  pub enough : (r : Lookup) → Finds at rest identifier r → Finds start ps identifier r
+  pub enough : (r : Found) → Finds s at rest identifier r → Finds s start ps identifier r
 
 -- the next pair of the walk, its header byte h
 pub record Next (s identifier : List ℕ) (start : ℕ) (ps : List Pair) (h at left : ℕ) : Type 0 where
   pub within : at + 1 + identifierSize h + valueSize h ≤ length s
-  pub found : slice (at + 1) (at + 1 + identifierSize h) s ≡ identifier → Finds start ps identifier (Value (at + 1 + identifierSize h) (valueSize h))
+  pub found : slice (at + 1) (at + 1 + identifierSize h) s ≡ identifier → Finds s start ps identifier (valueAt (at + 1 + identifierSize h) (valueSize h))
   pub other : (slice (at + 1) (at + 1 + identifierSize h) s ≡ identifier → ⊥)
       → Rest s identifier start ps (at + 1 + identifierSize h + valueSize h) (left - 1)
 
@@ -114,7 +113,7 @@ walk-next s identifier start ps at left h r = go (r .rest) (r .count) (r .stands
     value : ℕ
     value = at + 1 + identifierSize (getD s at 0)
 
-    go : (rest : List Pair) → length rest ≡ left → Stands s at rest → ((r : Lookup) → Finds at rest identifier r → Finds start ps identifier r)
+    go : (rest : List Pair) → length rest ≡ left → Stands s at rest → ((r : Found) → Finds s at rest identifier r → Finds s start ps identifier r)
         → Next s identifier start ps (getD s at 0) at left
     go [] n stands enough = let f : ⊥ = omega arith in absurd f
     go (p ∷ rest) n (x, i, e, stands) enough =
@@ -122,34 +121,36 @@ walk-next s identifier start ps at left h r = go (r .rest) (r .count) (r .stands
         let is : length (p .identifier) ≡ identifierSize b = ap (λ (p : Pair). length (p .identifier)) (sym e) ∙ z .0 in
         let vs : length (p .value) ≡ valueSize b = ap (λ (p : Pair). length (p .value)) (sym e) ∙ z .1 in
         let name : p .identifier ≡ slice (at + 1) (at + 1 + identifierSize b) s = ap (λ (p : Pair). p .identifier) (sym e) ∙ i .identifier-is in
+        let held : slice value (value + valueSize b) s ≡ p .value = sym (i .value-is) ∙ ap (λ (p : Pair). p .value) e in
         let m = i .end-is in
         let w = i .within in
         record {
           within = omega arith;
-          found = λ q. enough (Value value (valueSize b)) (finds-here at p rest identifier value (valueSize b) (name ∙ q) (omega arith) (omega arith));
+          found = λ q. enough (valueAt value (valueSize b))
+              (finds-here s at p rest identifier value (valueSize b) (name ∙ q) (omega arith) (omega arith) held);
           other = λ q. record {
             rest = rest;
             count = omega arith;
             stands = subst (λ (n : ℕ). Stands s n rest) m stands;
-            enough = λ r f. enough r (finds-next at (value + valueSize b) p rest identifier r (λ g. q (sym name ∙ g)) (omega arith) f);
+            enough = λ r f. enough r (finds-next s at (value + valueSize b) p rest identifier r (λ g. q (sym name ∙ g)) (omega arith) f);
           };
         }
 
 pub walk-end : (s identifier : List ℕ) (start : ℕ) (ps : List Pair) (at left : ℕ) → left ≤ 0 → Rest s identifier start ps at left
-    → Finds start ps identifier Nothing
+    → Finds s start ps identifier nothing
 walk-end s identifier start ps at left h r = go (r .rest) (r .count) (r .enough)
   where
-    go : (rest : List Pair) → length rest ≡ left → ((r : Lookup) → Finds at rest identifier r → Finds start ps identifier r)
-        → Finds start ps identifier Nothing
-    go [] n enough = enough Nothing (λ i b e. let f : ⊥ = omega arith in f)
+    go : (rest : List Pair) → length rest ≡ left → ((r : Found) → Finds s at rest identifier r → Finds s start ps identifier r)
+        → Finds s start ps identifier nothing
+    go [] n enough = enough nothing (λ i b e. let f : ⊥ = omega arith in f)
     go (p ∷ rest) n enough = let f : ⊥ = omega arith in absurd f
 
 -- What the code's reading of the fields says for the search: an answer at once, or the pairs to walk over.
 abbrev pub Begins : Answer (Fields × ℕ) → List ℕ → ℕ → List ℕ → ExtRead → Type 0
-Begins x s start identifier Absent = Looked x start identifier Nothing
-Begins x s start identifier (ExtRead.Refused e) = Looked x start identifier (Lookup.Refused e)
+Begins x s start identifier Absent = Looked x s start identifier (gives nothing)
+Begins x s start identifier (ExtRead.Refused e) = Looked x s start identifier (refusal e)
 Begins x s start identifier (ExtRead.Fields f) =
-    (ps : List Pair) × Rest s identifier start ps start (f .pairs) × ((r : Lookup) → Finds start ps identifier r → Looked x start identifier r)
+    (ps : List Pair) × Rest s identifier start ps start (f .pairs) × ((r : Found) → Finds s start ps identifier r → Looked x s start identifier (gives r))
 
 no-pairs : (start end : ℕ) (f : Fields) → gives absent ≡ gives (spanOf start (f, end)) → pairsIn f ≡ []
 no-pairs start end none e = refl
@@ -167,7 +168,7 @@ pub begins : (x : Answer (Fields × ℕ)) (s : List ℕ) (start : ℕ) (identifi
     → ((f : Fields × ℕ) → x ≡ gives f → Stands s start (pairsIn (f .0)))
     → meaning r ≡ map (spanOf start) x → Begins x s start identifier r
 begins (gives f) s start identifier Absent stands e =
-    subst (λ (ps : List Pair). Finds start ps identifier Nothing) (sym (no-pairs start (f .1) (f .0) e)) (λ i b q. let f : ⊥ = omega arith in f)
+    subst (λ (ps : List Pair). Finds s start ps identifier nothing) (sym (no-pairs start (f .1) (f .0) e)) (λ i b q. let f : ⊥ = omega arith in f)
 begins (gives f) s start identifier (ExtRead.Refused e′) stands e = zero-one (cc)
 begins (gives f) s start identifier (ExtRead.Fields x) stands e = (
   pairsIn (f .0),
@@ -178,5 +179,5 @@ begins (refuses code offset) s start identifier Absent stands e = zero-one (cc)
 begins (refuses code offset) s start identifier (ExtRead.Refused e′) stands e =
     let c : e′ .code ≡ code = cc in
     let o : e′ .offset ≡ offset = cc in
-    rw (c, o)
+    (c, o)
 begins (refuses code offset) s start identifier (ExtRead.Fields x) stands e = zero-one (cc)

@@ -4,6 +4,7 @@ use Prim.Native.Nat.{ℕ, zero, suc, _+_, _<_}
 use mathlib.Core.Path.{_≡_}
 use mathlib.Core.List.{List, [], _∷_}
 use lib.ListN.{length, getD}
+use lib.Seq.{slice}
 use Rattle.error.specs.Answer.{Answer, gives, refuses, refusal}
 use Rattle.ext.specs.Kinds.{Pair, Fields, none, bitfield, reserved, pairs}
 use Rattle.ext.specs.declared.Lookup.{Lookup}
@@ -32,22 +33,33 @@ valueStart start [] i = start
 valueStart start (p ∷ ps) zero = start + 1 + length (p .identifier)
 valueStart start (p ∷ ps) (suc i) = valueStart (start + pairSize p) ps i
 
--- the value at an offset and of a length is that of pair i, which carries the identifier
-pub record Carries (start : ℕ) (ps : List Pair) (identifier : List ℕ) (from len i : ℕ) : Type 0 where
+-- What is found: nothing, or a value's start and length in the file.
+pub data Found : Type 0 where
+  nothing : Found
+  valueAt : ℕ → ℕ → Found
+
+-- what the code's values mean
+abbrev pub looking : Lookup → Answer Found
+looking Nothing = gives nothing
+looking (Value from len) = gives (valueAt from len)
+looking (Lookup.Refused e) = refusal e
+
+-- the value at an offset of the file s and of a length is that of pair i, which carries the identifier
+pub record Carries (s : List ℕ) (start : ℕ) (ps : List Pair) (identifier : List ℕ) (from len i : ℕ) : Type 0 where
   pub below : i < length ps
   pub same : pairAt ps i .identifier ≡ identifier
   pub starts : from ≡ valueStart start ps i
   pub long : len ≡ length (pairAt ps i .value)
+  pub bytes : slice from (from + len) s ≡ pairAt ps i .value
 
 -- the fields start at `start`
-abbrev pub Finds : ℕ → List Pair → List ℕ → Lookup → Type 0
-Finds start ps identifier Nothing = (i : ℕ) → i < length ps → pairAt ps i .identifier ≡ identifier → ⊥
-Finds start ps identifier (Value from len) = (i : ℕ) × Carries start ps identifier from len i
-Finds start ps identifier (Lookup.Refused e) = ⊥
+abbrev pub Finds : List ℕ → ℕ → List Pair → List ℕ → Found → Type 0
+Finds s start ps identifier nothing = (i : ℕ) → i < length ps → pairAt ps i .identifier ≡ identifier → ⊥
+Finds s start ps identifier (valueAt from len) = (i : ℕ) × Carries s start ps identifier from len i
 
--- the fields' own refusal comes first
-abbrev pub Looked : Answer (Fields × ℕ) → ℕ → List ℕ → Lookup → Type 0
-Looked (gives f) start identifier r = Finds start (pairsIn (f .0)) identifier r
-Looked (refuses code offset) start identifier Nothing = ⊥
-Looked (refuses code offset) start identifier (Value from len) = ⊥
-Looked (refuses code offset) start identifier (Lookup.Refused e) = _≡_ {A = Answer ℕ} (refusal e) (refuses code offset)
+-- the answer to a lookup in a file s; the fields' own refusal comes first
+abbrev pub Looked : Answer (Fields × ℕ) → List ℕ → ℕ → List ℕ → Answer Found → Type 0
+Looked (gives f) s start identifier (gives r) = Finds s start (pairsIn (f .0)) identifier r
+Looked (gives f) s start identifier (refuses code offset) = ⊥
+Looked (refuses code offset) s start identifier (gives r) = ⊥
+Looked (refuses code offset) s start identifier (refuses code′ offset′) = (code′ ≡ code) × (offset′ ≡ offset)

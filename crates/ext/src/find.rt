@@ -10,7 +10,7 @@ ghost use lib.ListN.{length};
 ghost use lib.Seq.{slice};
 ghost use Rattle.ext.specs.Kinds.{kindNumber};
 ghost use Rattle.ext.specs.Read.{readFields};
-ghost use Rattle.ext.specs.Find.{Looked};
+ghost use Rattle.ext.specs.Find.{Looked, looking};
 
 // Whether the bytes from one offset up to another are the identifier.
 fn is_identifier(bytes: &[u8], from: usize, to: usize, identifier: &[u8]) -> bool
@@ -35,7 +35,7 @@ fn is_identifier(bytes: &[u8], from: usize, to: usize, identifier: &[u8]) -> boo
 pub fn lookup(fix_header: FixHeaderField, bytes: &[u8], offset: usize, identifier: &[u8]) -> Lookup
     ensures { λ r. ⌜ Looked
         (readFields false («fix_header» .«ext_fields_follow») (kindNumber («fix_header» .«ext_type»)) (now (bytes .entry)) offset)
-        offset (now (identifier .entry)) r ⌝ }
+        (now (bytes .entry)) offset (now (identifier .entry)) (looking r) ⌝ }
 {
     match parse_ext_fields(fix_header, bytes, offset) {
         ExtRead::Absent => Lookup::Nothing,

@@ -6,11 +6,11 @@ use native.Mathlib.Omega.{arith}
 use borrow.Author.Needs.{needs}
 use lib.ListN.{getD}
 use denote.Ref.{now}
+use Rattle.error.specs.Answer.{gives}
 use Rattle.ext.specs.Kinds.{Pair, kindNumber}
 use Rattle.ext.specs.Read.{readFields}
-use Rattle.ext.specs.Find.{Finds, Looked}
+use Rattle.ext.specs.Find.{Found, valueAt, Finds, Looked}
 use Rattle.ext.specs.declared.ExtRead.{ExtRead}
-use Rattle.ext.specs.declared.Lookup.{Lookup}
 use Rattle.ext.proofs.Extent.{identifierSize, valueSize}
 use Rattle.ext.proofs.Walk.{Rest, Next, Begins, begins, stands-fields, walk-next, walk-end}
 use Rattle.ext.proofs.find.lookup.Statement.{statement}
@@ -37,9 +37,9 @@ begun c x e =
 abbrev walked : (c : tie.At-loop Inv-loop μ-loop) → let a = c .before .before .before .before .before .before .before .args in
     (ps : List Pair)
     × Rest (now (a .bytes)) (now (a .identifier)) (a .offset) ps (a .offset) (c .before .before .f .given .0 .0 .pairs)
-    × ((r : Lookup) → Finds (a .offset) ps (now (a .identifier)) r
+    × ((r : Found) → Finds (now (a .bytes)) (a .offset) ps (now (a .identifier)) r
     → Looked (readFields false (a .fix-header .«ext_fields_follow») (kindNumber (a .fix-header .«ext_type»)) (now (a .bytes)) (a .offset))
-    (a .offset) (now (a .identifier)) r)
+    (now (a .bytes)) (a .offset) (now (a .identifier)) (gives r))
 walked c = begun (c .before .before .before .before) _ (c .before .before .f .given .1)
 
 -- the next of them
@@ -101,7 +101,7 @@ returns c =
     let size = valueSize (getD (now (a .bytes)) (i .before .loop .at) 0) in
     let len : size ≡ value + size - value = omega arith in
     walked (i .before) .2 _
-    (subst (λ (n : ℕ). Finds (a .offset) (walked (i .before) .0) (now (a .identifier)) (Lookup.Value value n)) len
+    (subst (λ (n : ℕ). Finds (now (a .bytes)) (a .offset) (walked (i .before) .0) (now (a .identifier)) (valueAt value n)) len
     (next i .found (c .before .is-identifier .ensures .0 (c .if1 .taken))))
 
 sub-left : tie.Need-sub-left Inv-loop μ-loop
