@@ -1,6 +1,6 @@
 -- The bits of a byte: cleared low bits, and inverted bits.
 use Prim.Native.Nat.{ℕ, zero, suc, _+_, _-_, _*_, _/_, _%_, _^_, _≤_, _<_}
-use mathlib.Core.Path.{_≡_, refl, ap, sym, _∙_}
+use mathlib.Core.Path.{_≡_, ap, sym, _∙_}
 use native.Mathlib.Nat.{mul-mod-left, mul-assoc, pow-suc}
 use native.Mathlib.Omega.{arith}
 use lib.Pow.{pow-add, shl-shr, shr-shr}

@@ -1,13 +1,12 @@
 -- Planes that pass the geometry test, in the other format and back.
-use Prim.Native.Nat.{ℕ, zero, suc, _+_, _-_, _*_, _/_, _%_, _^_, _≤_, _<_}
-use mathlib.Core.Path.{_≡_, refl, ap, sym, _∙_}
-use mathlib.Core.Bool.{Bool, true, false}
+use Prim.Native.Nat.{ℕ, _+_, _-_, _*_, _/_, _%_, _^_, _<_}
+use mathlib.Core.Path.{_≡_, refl, ap, _∙_}
 use mathlib.Core.List.{List}
 use native.Mathlib.Omega.{arith}
-use borrow.Author.Tests.{ltb-true, ltb-false}
-use lib.Dec.{ltb, eqb}
+use lib.Dec.{eqb}
 use lib.ListN.{length, getD}
 use Rattle.error.specs.Answer.{gives}
+use Rattle.laws.proofs.Octets.{Octets}
 use Rattle.image.specs.Dots.{bitAt, isWhite}
 use Rattle.image.specs.Format.{whiteBit, otherFormat}
 use Rattle.image.specs.Geometry.{rowBytes, checkGeometry}
@@ -18,8 +17,7 @@ use Rattle.image.proofs.Bits.{invert-bit, invert-twice}
 use Rattle.image.proofs.Cleared.{paddingAt, bit-kept}
 use Rattle.image.proofs.Converted.{Outside, AllThere, rows-length, rows-outside, rows-inside}
 use Rattle.image.proofs.Fitting.{Fitting, fits, row-there}
-use Rattle.image.proofs.Masked.{Bytes}
-use Rattle.image.proofs.Seen.{right-of, below, inside}
+use Rattle.image.proofs.Seen.{same-dot, other-bit, bit-lt}
 
 -- every byte of a plane that was converted: those of the rows are `new`, the others as they were
 pub record Converts (w h s : ℕ) (new : ℕ → ℕ → ℕ) (plane plane′ : List ℕ) : Type 0 where
@@ -58,7 +56,7 @@ module _ (f : PixelFormat) (w h s : ℕ) (plane : List ℕ) (passed : checkGeome
   converted = rw other (rows-converted w h s plane (fits w h s (length plane) passed))
 
   -- inverting twice gives the bytes with padding clear
-  pub converted-twice : Bytes plane
+  pub converted-twice : Octets plane
       → Converts w h s (cleared w) plane (convertFormat (otherFormat f) f w h s (convertFormat f (otherFormat f) w h s plane))
   converted-twice bytes =
       let g = fits w h s (length plane) passed in
@@ -76,33 +74,17 @@ module _ (f : PixelFormat) (w h s : ℕ) (plane : List ℕ) (passed : checkGeome
         gap = λ k out. q .gap k out ∙ p .gap k out;
       })
 
-other-white : (f : PixelFormat) (b : ℕ) → b < 2 → eqb (1 - b) (whiteBit (otherFormat f)) ≡ eqb b (whiteBit f)
-other-white MonoBlack zero h = refl
-other-white MonoWhite zero h = refl
-other-white MonoBlack (suc zero) h = refl
-other-white MonoWhite (suc zero) h = refl
-other-white f (suc (suc b)) h = let z : ⊥ = omega arith in absurd z
-
--- The dots are the same in the other format.
-module _ (f : PixelFormat) (w h s : ℕ) (plane : List ℕ) (passed : checkGeometry w h s (length plane) ≡ gives tt) (bytes : Bytes plane) (x y : ℕ) where
-  abbrev plane′ : List ℕ
-  plane′ = convertFormat f (otherFormat f) w h s plane
-
-  dots-inside : x < w → y < h → isWhite (otherFormat f) w h s plane′ x y ≡ isWhite f w h s plane x y
+-- the dots are the same in the other format
+module _ (f : PixelFormat) (w h s : ℕ) (plane : List ℕ) (passed : checkGeometry w h s (length plane) ≡ gives tt) (bytes : Octets plane) (x y : ℕ) where
+  converted-bit : x < w → y < h → bitAt s (convertFormat f (otherFormat f) w h s plane) x y ≡ 1 - bitAt s plane x y
   unfolding bitAt
-  dots-inside k l =
+  converted-bit k l =
       let b = getD plane (y * s + x / 8) 0 in
-      inside (otherFormat f) w h s plane′ x y k l
-      ∙ ap (λ (b : ℕ). eqb (b / 2 ^ (7 - x % 8) % 2) (whiteBit (otherFormat f))) (converted f w h s plane passed .row y (x / 8) l (omega arith))
-      ∙ ap (λ (b : ℕ). eqb b (whiteBit (otherFormat f))) (bit-kept w x (255 - b) k ∙ invert-bit (7 - x % 8) b (omega arith) (bytes (y * s + x / 8)))
-      ∙ other-white f (b / 2 ^ (7 - x % 8) % 2) (omega arith)
-      ∙ sym (inside f w h s plane x y k l)
-
-  by-place : (t u : Bool) → ltb x w ≡ t → ltb y h ≡ u → isWhite (otherFormat f) w h s plane′ x y ≡ isWhite f w h s plane x y
-  by-place true true p q = dots-inside (ltb-true x w p) (ltb-true y h q)
-  by-place true false p q =
-      below (otherFormat f) w h s plane′ x y (ltb-true x w p) (ltb-false y h q) ∙ sym (below f w h s plane x y (ltb-true x w p) (ltb-false y h q))
-  by-place false u p q = right-of (otherFormat f) w h s plane′ x y (ltb-false x w p) ∙ sym (right-of f w h s plane x y (ltb-false x w p))
+      ap (λ (b : ℕ). b / 2 ^ (7 - x % 8) % 2) (converted f w h s plane passed .row y (x / 8) l (omega arith))
+      ∙ bit-kept w x (255 - b) k
+      ∙ invert-bit (7 - x % 8) b (omega arith) (bytes (y * s + x / 8))
 
   pub converted-dots : isWhite (otherFormat f) w h s (convertFormat f (otherFormat f) w h s plane) x y ≡ isWhite f w h s plane x y
-  converted-dots = by-place (ltb x w) (ltb y h) refl refl
+  converted-dots =
+      same-dot (otherFormat f) f w h s s (convertFormat f (otherFormat f) w h s plane) plane x y
+      (λ k l. ap (λ (b : ℕ). eqb b (whiteBit (otherFormat f))) (converted-bit k l) ∙ other-bit f (bitAt s plane x y) (bit-lt s plane x y))

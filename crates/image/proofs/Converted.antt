@@ -6,15 +6,15 @@ use mathlib.Core.List.{List, _++_}
 use mathlib.Core.Logic.{_⊎_, inl, inr}
 use native.Mathlib.Nat.{mul-le-mul-right}
 use native.Mathlib.Omega.{arith}
-use borrow.Author.Tests.{leb-true, leb-false, eqb-true, eqb-false}
+use borrow.Author.Tests.{eqb-true, eqb-false}
 use lib.Arith.{lt-of-le-ne}
 use lib.Dec.{eqb}
 use lib.ListN.{length, getD, take, drop, length-append, length-drop, length-set, List·getD-append}
 use lib.Seq.{length-take-le, getD-append-add, getD-take, getD-drop}
 use Rattle.image.specs.Geometry.{rowBytes}
-use Rattle.image.specs.Rows.{clearLow, clearPadding, invert, rowAt, isPresent, convertRow, convertRows}
+use Rattle.image.specs.Rows.{clearLow, clearPadding, invert, rowAt, convertRow, convertRows}
 use Rattle.image.proofs.Cleared.{paddingAt, cleared-at}
-use Rattle.image.proofs.Converting.{rows-next, rows-stop}
+use Rattle.image.proofs.Converting.{rows-next}
 use Rattle.image.proofs.Inverted.{invert-length, invert-at}
 
 -- an index that is not in row y

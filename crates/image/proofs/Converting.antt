@@ -1,13 +1,11 @@
 -- The loop of `convert_format`.
-use Prim.Native.Nat.{ℕ, zero, suc, _+_, _-_, _*_, _≤_, _<_}
+use Prim.Native.Nat.{ℕ, suc, _+_, _-_, _*_, _≤_, _<_}
 use mathlib.Core.Path.{_≡_, refl, sym, ap, _∙_}
-use mathlib.Core.Bool.{Bool, true, false}
-use mathlib.Core.List.{List, _++_}
-use native.Mathlib.Nat.{zero-mul}
+use mathlib.Core.List.{List}
 use native.Mathlib.Omega.{arith}
 use borrow.Author.Tests.{le-leb, lt-leb, eq-eqb, ne-eqb}
-use borrow.Rule.Slice.PartMut.{midOf, putMid, post-is, mid-len, same-len-mid}
-use lib.ListN.{length, take, drop, length-set}
+use borrow.Rule.Slice.PartMut.{midOf, putMid, post-is, same-len-mid}
+use lib.ListN.{length, length-set}
 use Rattle.image.specs.Format.{whiteBit}
 use Rattle.image.specs.Geometry.{rowBytes, paddingMask, layoutOf}
 use Rattle.image.specs.Parts.{maskLast}

@@ -1,16 +1,16 @@
 -- A plane of 9 by 2 dots with a byte between its rows and dirty padding: the laws on planes hold of something.
-use Prim.Native.Nat.{ℕ, zero, suc}
+use Prim.Native.Nat.{ℕ}
 use mathlib.Core.Path.{_≡_, refl}
 use mathlib.Core.List.{List, [], _∷_}
 use native.Mathlib.Omega.{arith}
 use lib.ListN.{length}
 use Rattle.error.specs.Answer.{gives, refuses}
+use Rattle.laws.proofs.Octets.{Octets, octets-by}
 use Rattle.image.specs.Dots.{bitAt, isWhite}
 use Rattle.image.specs.Geometry.{checkGeometry}
 use Rattle.image.specs.Rows.{clearPadding, convertRow, convertRows, convertFormat, wireRow, wireBits}
 use Rattle.image.specs.declared.PixelFormat.the-variants.{MonoBlack, MonoWhite}
-use Rattle.image.proofs.ConvertDots.{Converts, inverted, cleared, converted, converted-twice, converted-dots}
-use Rattle.image.proofs.Masked.{Bytes}
+use Rattle.image.proofs.ConvertDots.{Converts, cleared, converted-twice, converted-dots}
 use Rattle.image.proofs.WireDots.{wire-dots, wire-padding}
 
 abbrev plane : List ℕ
@@ -29,13 +29,8 @@ narrow : checkGeometry 9 1 1 5 ≡ refuses 26 0
 unfolding checkGeometry
 narrow = refl
 
-bytes : Bytes plane
-bytes zero = omega arith
-bytes (suc zero) = omega arith
-bytes (suc (suc zero)) = omega arith
-bytes (suc (suc (suc zero))) = omega arith
-bytes (suc (suc (suc (suc zero)))) = omega arith
-bytes (suc (suc (suc (suc (suc i))))) = omega arith
+bytes : Octets plane
+bytes = octets-by plane refl
 
 -- the other format: padding is cleared, and the byte between the rows is as it was
 other : convertFormat MonoBlack MonoWhite 9 2 3 plane ≡ 0 ∷ 0 ∷ 77 ∷ 255 ∷ 128 ∷ []

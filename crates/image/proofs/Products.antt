@@ -1,6 +1,6 @@
 -- A product that may pass 64 bits, compared by a quotient.
-use Prim.Native.Nat.{ℕ, zero, _*_, _/_, _≤_, _<_}
-use mathlib.Core.Path.{_≡_, refl, sym, ap}
+use Prim.Native.Nat.{ℕ, _*_, _/_, _<_}
+use mathlib.Core.Path.{_≡_, refl, sym}
 use mathlib.Core.Bool.{Bool, true, false}
 use native.Mathlib.Nat.{le-div-iff-mul-le, div-lt-iff-lt-mul, mul-zero}
 use native.Mathlib.Omega.{arith}

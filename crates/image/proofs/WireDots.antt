@@ -2,7 +2,7 @@
 use Prim.Native.Nat.{ℕ, zero, suc, _+_, _-_, _*_, _/_, _%_, _^_, _≤_, _<_}
 use mathlib.Core.Path.{_≡_, refl, ap, sym, _∙_}
 use mathlib.Core.Bool.{Bool, true, false}
-use mathlib.Core.List.{List, [], _∷_, _++_}
+use mathlib.Core.List.{List}
 use native.Mathlib.Nat.{mul-le-mul-right}
 use native.Mathlib.Omega.{arith}
 use borrow.Author.Tests.{ltb-true, ltb-false}
@@ -10,18 +10,18 @@ use lib.Dec.{ltb, eqb}
 use lib.ListN.{length, getD, drop, List·getD-append}
 use lib.Seq.{getD-append-add, getD-take, getD-drop}
 use Rattle.error.specs.Answer.{gives}
+use Rattle.laws.proofs.Octets.{Octets}
 use Rattle.image.specs.Dots.{bitAt, isWhite}
 use Rattle.image.specs.Format.{whiteBit}
 use Rattle.image.specs.Geometry.{rowBytes, checkGeometry}
-use Rattle.image.specs.Rows.{clearLow, rowAt, sourceRow, toNative, wireRow, wireBits}
+use Rattle.image.specs.Rows.{clearLow, sourceRow, toNative, wireRow, wireBits}
 use Rattle.image.specs.declared.PixelFormat.{PixelFormat}
 use Rattle.image.specs.declared.PixelFormat.the-variants.{MonoBlack, MonoWhite}
 use Rattle.image.proofs.Bits.{invert-bit}
 use Rattle.image.proofs.Cleared.{paddingAt, cleared-at, bit-kept, bit-cleared}
-use Rattle.image.proofs.Fitting.{Fitting, fits, row-there}
+use Rattle.image.proofs.Fitting.{fits, row-there}
 use Rattle.image.proofs.Inverted.{invert-at}
-use Rattle.image.proofs.Masked.{Bytes}
-use Rattle.image.proofs.Seen.{right-of, below, inside}
+use Rattle.image.proofs.Seen.{same-dot, other-bit, bit-lt}
 use Rattle.image.proofs.Wiring.{source-there, source-length, native-length, wire-length}
 
 -- a byte of row y
@@ -60,13 +60,20 @@ wire-padding f w h s plane x y p q l =
     ap (λ (b : ℕ). b / 2 ^ (7 - x % 8) % 2) (wire-byte f w s plane (x / 8) (omega arith) h y l)
     ∙ bit-cleared w x (getD (toNative f (sourceRow (rowBytes w) s plane y)) (x / 8) 0) p
 
--- bits and what they mean in either format
-other-bit : (b : ℕ) → b < 2 → eqb (1 - b) 1 ≡ eqb b 0
-other-bit zero h = refl
-other-bit (suc zero) h = refl
-other-bit (suc (suc b)) h = let z : ⊥ = omega arith in absurd z
+-- a bit as it stands in the native format
+abbrev nativeBit : PixelFormat → ℕ → ℕ
+nativeBit MonoBlack b = b
+nativeBit MonoWhite b = 1 - b
 
-module _ (w s : ℕ) (plane : List ℕ) (bytes : Bytes plane) (x y : ℕ) (k : x < w) (there : y * s + rowBytes w ≤ length plane) where
+native-white : (f : PixelFormat) (b : ℕ) → b < 2 → eqb (nativeBit f b) 1 ≡ eqb b (whiteBit f)
+native-white MonoBlack b h = refl
+native-white MonoWhite b h = other-bit MonoWhite b h
+
+format-white : (f : PixelFormat) (b : ℕ) → b < 2 → eqb (nativeBit f b) (whiteBit f) ≡ eqb b 1
+format-white MonoBlack b h = refl
+format-white MonoWhite b h = other-bit MonoBlack b h
+
+module _ (w s : ℕ) (plane : List ℕ) (bytes : Octets plane) (x y : ℕ) (k : x < w) (there : y * s + rowBytes w ≤ length plane) where
   -- the byte of a row that is there
   source-byte : getD (sourceRow (rowBytes w) s plane y) (x / 8) 0 ≡ getD plane (y * s + x / 8) 0
   source-byte =
@@ -74,37 +81,33 @@ module _ (w s : ℕ) (plane : List ℕ) (bytes : Bytes plane) (x y : ℕ) (k : x
       ∙ getD-take (rowBytes w) (drop (y * s) plane) (x / 8) 0 (omega arith)
       ∙ getD-drop (y * s) plane (x / 8) 0
 
-  pub native-bit : (f : PixelFormat)
-      → eqb (getD (toNative f (sourceRow (rowBytes w) s plane y)) (x / 8) 0 / 2 ^ (7 - x % 8) % 2) 1 ≡ eqb (bitAt s plane x y) (whiteBit f)
+  native-bit : (f : PixelFormat)
+      → getD (toNative f (sourceRow (rowBytes w) s plane y)) (x / 8) 0 / 2 ^ (7 - x % 8) % 2 ≡ nativeBit f (bitAt s plane x y)
   unfolding bitAt
-  native-bit MonoBlack = ap (λ (b : ℕ). eqb (b / 2 ^ (7 - x % 8) % 2) 1) source-byte
+  native-bit MonoBlack = ap (λ (b : ℕ). b / 2 ^ (7 - x % 8) % 2) source-byte
   native-bit MonoWhite =
-      let b = getD plane (y * s + x / 8) 0 in
-      ap (λ (b : ℕ). eqb (b / 2 ^ (7 - x % 8) % 2) 1)
+      ap (λ (b : ℕ). b / 2 ^ (7 - x % 8) % 2)
       (invert-at (sourceRow (rowBytes w) s plane y) (x / 8) (omega (arith, source-length (rowBytes w) s plane y))
       ∙ ap (λ (b : ℕ). 255 - b) source-byte)
-      ∙ ap (λ (c : ℕ). eqb c 1) (invert-bit (7 - x % 8) b (omega arith) (bytes (y * s + x / 8)))
-      ∙ other-bit (b / 2 ^ (7 - x % 8) % 2) (omega arith)
+      ∙ invert-bit (7 - x % 8) (getD plane (y * s + x / 8) 0) (omega arith) (bytes (y * s + x / 8))
 
--- The dots of the wire bits are those of the plane.
-module _ (f : PixelFormat) (w h s : ℕ) (plane : List ℕ) (passed : checkGeometry w h s (length plane) ≡ gives tt) (bytes : Bytes plane) (x y : ℕ) where
-  dots-inside : x < w → y < h → isWhite MonoBlack w h (rowBytes w) (wireBits f w h s plane) x y ≡ isWhite f w h s plane x y
+-- Planes that pass the geometry test.
+module _ (f : PixelFormat) (w h s : ℕ) (plane : List ℕ) (passed : checkGeometry w h s (length plane) ≡ gives tt) (bytes : Octets plane) (x y : ℕ) where
+  wire-bit : x < w → y < h → bitAt (rowBytes w) (wireBits f w h s plane) x y ≡ nativeBit f (bitAt s plane x y)
   unfolding bitAt
-  dots-inside k l =
-      let there = row-there w h s (length plane) (fits w h s (length plane) passed) y l in
-      inside MonoBlack w h (rowBytes w) (wireBits f w h s plane) x y k l
-      ∙ ap (λ (b : ℕ). eqb (b / 2 ^ (7 - x % 8) % 2) 1) (wire-byte f w s plane (x / 8) (omega arith) h y l)
-      ∙ ap (λ (b : ℕ). eqb b 1) (bit-kept w x (getD (toNative f (sourceRow (rowBytes w) s plane y)) (x / 8) 0) k)
-      ∙ native-bit w s plane bytes x y k there f
-      ∙ sym (inside f w h s plane x y k l)
+  wire-bit k l =
+      ap (λ (b : ℕ). b / 2 ^ (7 - x % 8) % 2) (wire-byte f w s plane (x / 8) (omega arith) h y l)
+      ∙ bit-kept w x (getD (toNative f (sourceRow (rowBytes w) s plane y)) (x / 8) 0) k
+      ∙ native-bit w s plane bytes x y k (row-there w h s (length plane) (fits w h s (length plane) passed) y l) f
 
-  by-place : (t u : Bool) → ltb x w ≡ t → ltb y h ≡ u → isWhite MonoBlack w h (rowBytes w) (wireBits f w h s plane) x y ≡ isWhite f w h s plane x y
-  by-place true true p q = dots-inside (ltb-true x w p) (ltb-true y h q)
-  by-place true false p q =
-      below MonoBlack w h (rowBytes w) (wireBits f w h s plane) x y (ltb-true x w p) (ltb-false y h q)
-      ∙ sym (below f w h s plane x y (ltb-true x w p) (ltb-false y h q))
-  by-place false u p q =
-      right-of MonoBlack w h (rowBytes w) (wireBits f w h s plane) x y (ltb-false x w p) ∙ sym (right-of f w h s plane x y (ltb-false x w p))
-
+  -- the dots of the wire bits are those of the plane
   pub wire-dots : isWhite MonoBlack w h (rowBytes w) (wireBits f w h s plane) x y ≡ isWhite f w h s plane x y
-  wire-dots = by-place (ltb x w) (ltb y h) refl refl
+  wire-dots =
+      same-dot MonoBlack f w h (rowBytes w) s (wireBits f w h s plane) plane x y
+      (λ k l. ap (λ (b : ℕ). eqb b 1) (wire-bit k l) ∙ native-white f (bitAt s plane x y) (bit-lt s plane x y))
+
+  -- the wire bits of a native plane, taken to be of a format, show it in that format
+  pub shown-dots : isWhite f w h (rowBytes w) (wireBits f w h s plane) x y ≡ isWhite MonoBlack w h s plane x y
+  shown-dots =
+      same-dot f MonoBlack w h (rowBytes w) s (wireBits f w h s plane) plane x y
+      (λ k l. ap (λ (b : ℕ). eqb b (whiteBit f)) (wire-bit k l) ∙ format-white f (bitAt s plane x y) (bit-lt s plane x y))

@@ -8,18 +8,18 @@ use native.Mathlib.Numerals.{add-one}
 use native.Mathlib.Omega.{arith}
 use borrow.Author.Tests.{leb-true, le-leb, lt-leb}
 use borrow.Rule.Slice.PartMut.{midOf, putMid, post-is, mid-len}
-use lib.Dec.{leb}
-use lib.ListN.{length, take, drop, length-set, replicate, length-append, length-replicate, length-drop}
+use lib.ListN.{length, drop, length-set, replicate, length-append, length-replicate, length-drop}
 use lib.Seq.{take-at, drop-drop, drop-append-add, length-take-le}
 use Rattle.error.specs.Choice.{if}
-use Rattle.image.specs.Geometry.{rowBytes, planeBytes, paddingMask, layoutOf}
+use Rattle.laws.proofs.Octets.{Octets}
+use Rattle.image.specs.Geometry.{rowBytes, paddingMask, layoutOf}
 use Rattle.image.specs.Parts.{maskLast}
 use Rattle.image.specs.Rows.{clearPadding, rowAt, isPresent, sourceRow, toNative, wireRow, wireBits}
 use Rattle.image.specs.declared.PixelFormat.{PixelFormat}
 use Rattle.image.specs.declared.PixelFormat.the-variants.{MonoBlack, MonoWhite}
 use Rattle.image.specs.declared.PlaneLayout.{PlaneLayout}
 use Rattle.image.proofs.Inverted.{invert-length}
-use Rattle.image.proofs.Masked.{Bytes, bytes-source, bytes-native, mask-clears}
+use Rattle.image.proofs.Masked.{bytes-source, bytes-native, mask-clears}
 
 module _ (n s : ℕ) (plane : List ℕ) (y : ℕ) where
   pub source-there : y * s + n ≤ length plane → sourceRow n s plane y ≡ rowAt n s plane y
@@ -96,7 +96,7 @@ module _ {plane : List ℕ} {w h s : ℕ} {f : PixelFormat} {out₀ : List ℕ} 
       ∙ drop-append-add (wireBits f w y s plane) (drop at out₀) row
       ∙ drop-drop row at out₀
 
-  pub wired : (new : List ℕ) → Bytes plane → y < h
+  pub wired : (new : List ℕ) → Octets plane → y < h
       → new ≡ maskLast mask (toNative f (sourceRow (length (midOf at (at + row - at) out)) s plane y))
       → Wiring plane w h s f out₀ row mask (putMid at (at + row - at) out new) (at + row) (y + 1)
   unfolding wireBits wireRow

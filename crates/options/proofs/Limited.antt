@@ -5,7 +5,7 @@ use mathlib.Core.Bool.{Bool, true, false}
 use lib.Dec.{leb}
 use Rattle.error.specs.Answer.{gives, refuses}
 use Rattle.error.specs.Choice.{if}
-use Rattle.options.specs.Limits.{Bound, absent, atMost, admits, Decoding, checkLimits}
+use Rattle.options.specs.Limits.{absent, atMost, admits, Decoding, checkLimits}
 
 module _ (t : Bool) (most n : ℕ) where
   pub limited : t ≡ true → admits (if t (atMost most) absent) n ≡ leb n most

@@ -1,6 +1,5 @@
 -- The defaults, and what each setting changes (document 01, options.rs and limits.rs): "each with_ setting takes the limits and hands
 -- back changed limits".
-use Prim.Native.Nat.{ℕ}
 use mathlib.Core.Bool.{Bool, false}
 use Rattle.image.specs.declared.PixelFormat.{PixelFormat}
 use Rattle.image.specs.declared.PixelFormat.the-variants.{MonoBlack}

@@ -4,7 +4,6 @@ use native.Mathlib.Omega.{arith}
 use borrow.Author.Needs.{needs}
 use denote.Ref.{now}
 use lib.ListN.{length}
-use Rattle.image.specs.Format.{whiteBit}
 use Rattle.image.specs.Rows.{convertRows, convertFormat}
 use Rattle.image.proofs.Converting.{Converting, begun, converted, stopped, ended, unchanged, changed}
 use Rattle.image.proofs.Starts.{Started, started, missed}

@@ -2,7 +2,7 @@ use Prim.Native.Nat.{_-_}
 use mathlib.Core.Path.{ap, sym, _∙_}
 use native.Mathlib.Omega.{arith}
 use denote.Ref.{now}
-use lib.ListN.{length, getD, length-map}
+use lib.ListN.{length}
 use Rattle.image.specs.Rows.{invert}
 use Rattle.image.proofs.Inverted.{invert-length, invert-at}
 use Rattle.image.proofs.Filled.{Filled, begun, kept-length, next-is, filled, done}

@@ -1,4 +1,4 @@
-use mathlib.Core.Path.{_≡_, ap, _∙_}
+use mathlib.Core.Path.{ap, _∙_}
 use Rattle.image.specs.Parts.{maskLast}
 use Rattle.image.specs.Rows.{toNative}
 use borrow.Author.Needs.{needs}
