@@ -1,2 +1,3 @@
 pub mod Limited
 pub mod Settled
+pub mod Examples

@@ -14,7 +14,9 @@ same-length : tie.Need-same-length
 same-length c = search needs
 
 returns : tie.Need-returns
-returns c = c .before .before .mask-last .ensures ∙ ap (maskLast (c .before .before .before .before .before .before .before .before .before .args .mask)) (c .before .before .before .before .before .before .invert .ensures)
+returns c =
+    let i = c .before .before .before .before .before .before in
+    c .before .before .mask-last .ensures ∙ ap (maskLast (i .before .before .before .args .mask)) (i .invert .ensures)
 
 pub invert-row-spec : {M : Type 1} → statement M
 invert-row-spec = tie.close (tie.spec invert-requires mask-last-requires same-length returns)

@@ -52,20 +52,22 @@ refused-requires-4 c κs = search needs
 returns-4 : tie.Need-returns-4
 returns-4 c =
     let a = c .before .before .before .before .before .before .before .args in
-    let p : 18446744073709551615 - c .before .before .before .before .row-stride .result < a .stride * (a .height - 1) = leb-false _ _ (sym (c .before .before .product-within .ensures) ∙ not-true _ (c .before .if4 .taken)) in
-    c .refused4 .ensures ∙ sym (large (a .width) (a .height) (a .stride) (a .bytes) (omega arith) (omega arith) (omega arith) (omega arith))
+    let p : 18446744073709551615 - c .before .before .before .before .row-stride .result < a .stride * (a .height - 1) =
+    leb-false _ _ (sym (c .before .before .product-within .ensures) ∙ not-true _ (c .before .if4 .taken)) in
+    c .refused4 .ensures
+    ∙ sym (large (a .width) (a .height) (a .stride) (a .bytes) (omega arith) (omega arith) (omega arith) (omega arith))
+
+-- the bytes needed fit 64 bits
+sized : (c : tie.Else4)
+    → let a = c .before .before .before .before .before .before .args in
+    a .stride * (a .height - 1) ≤ 18446744073709551615 - c .before .before .before .row-stride .result
+sized c = leb-true _ _ (sym (c .before .product-within .ensures) ∙ not-false _ (c .if4 .left))
 
 mul-if5 : tie.Need-mul-if5
-mul-if5 c =
-    let a = c .before .before .before .before .before .before .args in
-    let p : a .stride * (a .height - 1) ≤ 18446744073709551615 - c .before .before .before .row-stride .result = leb-true _ _ (sym (c .before .product-within .ensures) ∙ not-false _ (c .if4 .left)) in
-    omega arith
+mul-if5 c = omega (arith, sized c)
 
 add-if5 : tie.Need-add-if5
-add-if5 c =
-    let a = c .before .before .before .before .before .before .args in
-    let p : a .stride * (a .height - 1) ≤ 18446744073709551615 - c .before .before .before .row-stride .result = leb-true _ _ (sym (c .before .product-within .ensures) ∙ not-false _ (c .if4 .left)) in
-    omega arith
+add-if5 c = omega (arith, sized c)
 
 refused-requires-5 : tie.Need-refused-requires-5
 refused-requires-5 c κs = search needs
@@ -73,14 +75,14 @@ refused-requires-5 c κs = search needs
 returns-5 : tie.Need-returns-5
 returns-5 c =
     let a = c .before .before .before .before .before .before .before .before .args in
-    let p : a .stride * (a .height - 1) ≤ 18446744073709551615 - c .before .before .before .before .before .row-stride .result = leb-true _ _ (sym (c .before .before .before .product-within .ensures) ∙ not-false _ (c .before .before .if4 .left)) in
+    let p = sized (c .before .before) in
     c .refused5 .ensures
     ∙ sym (short (a .width) (a .height) (a .stride) (a .bytes) (omega arith) (omega arith) (omega arith) (omega arith) (omega arith))
 
 returns-6 : tie.Need-returns-6
 returns-6 c =
     let a = c .before .before .before .before .before .before .before .args in
-    let p : a .stride * (a .height - 1) ≤ 18446744073709551615 - c .before .before .before .before .row-stride .result = leb-true _ _ (sym (c .before .before .product-within .ensures) ∙ not-false _ (c .before .if4 .left)) in
+    let p = sized (c .before) in
     sym (accepted (a .width) (a .height) (a .stride) (a .bytes) (omega arith) (omega arith) (omega arith) (omega arith) (omega arith))
 
 pub check-geometry-spec : {M : Type 1} → statement M

@@ -61,7 +61,10 @@ returns-2 : tie.Need-returns-2
 returns-2 c =
     let r = c .before .before .before .before .before .before in
     let a = r .before .before .before .args in
-    c .before .before .zero .ensures ∙ sym (source-missing (length (now (a .row))) (a .stride) (now (a .plane)) (a .y) (missed _ _ _ _ _ (r .row-start .ensures) (c .before .before .before .before .enum-told .given .1)))
+    c .before .before .zero .ensures
+    ∙ sym
+    (source-missing (length (now (a .row))) (a .stride) (now (a .plane)) (a .y)
+    (missed _ _ _ _ _ (r .row-start .ensures) (c .before .before .before .before .enum-told .given .1)))
 
 pub take-row-spec : {M : Type 1} → statement M
 take-row-spec =
