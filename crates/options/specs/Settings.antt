@@ -1,5 +1,6 @@
 -- The defaults, and what each setting changes (document 01, options.rs and limits.rs): "each with_ setting takes the limits and hands
 -- back changed limits".
+use Prim.Native.Nat.{_-_, _^_}
 use mathlib.Core.Bool.{Bool, false}
 use Rattle.image.specs.declared.PixelFormat.{PixelFormat}
 use Rattle.image.specs.declared.PixelFormat.the-variants.{MonoBlack}
@@ -47,7 +48,15 @@ abbrev pub unlimited : Decoding → Decoding
 unlimited d =
     record { maxWidth = absent; maxHeight = absent; maxPixels = absent; maxBytes = absent; strict = d .strict; format = d .format }
 
--- "`WbmpLimits` default: 16,384, 16,384, bytes 8,388,608, pixels absent": the limits as settings of reading, lenient and native
+-- "`WbmpLimits` default: 16,384, 16,384, bytes 8,388,608"
+abbrev pub limitsDefault : WbmpLimits
+limitsDefault = record { «max_width» = 16384; «max_height» = 16384; «max_pixel_bytes» = 8388608 }
+
+-- limits that admit everything: the largest numbers of their types
+abbrev pub limitsUnbounded : WbmpLimits
+limitsUnbounded = record { «max_width» = 2 ^ 32 - 1; «max_height» = 2 ^ 32 - 1; «max_pixel_bytes» = 2 ^ 64 - 1 }
+
+-- "pixels absent": the limits as settings of reading, lenient and native
 abbrev pub fromLimits : WbmpLimits → Decoding
 fromLimits l =
     record {

@@ -17,8 +17,8 @@ pub mod limits;
 
 // A limit is absent, or the largest number that it admits.
 pub struct Limit {
-    pub set: bool,
-    pub most: u64,
+    set: bool,
+    most: u64,
 }
 
 impl Limit {

@@ -2,9 +2,8 @@
 use crate::DecodeOptions;
 use crate::Limit;
 ghost use mathlib.Core.Path.{_≡_};
-ghost use Prim.Native.Nat.{_-_, _^_};
 ghost use Rattle.options.specs.Limits.{decoding};
-ghost use Rattle.options.specs.Settings.{fromLimits};
+ghost use Rattle.options.specs.Settings.{fromLimits, limitsDefault, limitsUnbounded};
 
 pub struct WbmpLimits {
     pub max_width: u32,
@@ -15,7 +14,7 @@ pub struct WbmpLimits {
 
 impl WbmpLimits {
     pub fn default() -> WbmpLimits
-        ensures { λ r. ⌜ r ≡ record { «max_width» = 16384; «max_height» = 16384; «max_pixel_bytes» = 8388608 } ⌝ }
+        ensures { λ r. ⌜ r ≡ limitsDefault ⌝ }
     {
         WbmpLimits {
             max_width: 16384,
@@ -26,7 +25,7 @@ impl WbmpLimits {
 
     // Limits that admit everything.
     pub fn unbounded() -> WbmpLimits
-        ensures { λ r. ⌜ r ≡ record { «max_width» = 2 ^ 32 - 1; «max_height» = 2 ^ 32 - 1; «max_pixel_bytes» = 2 ^ 64 - 1 } ⌝ }
+        ensures { λ r. ⌜ r ≡ limitsUnbounded ⌝ }
     {
         WbmpLimits {
             max_width: u32::MAX,
