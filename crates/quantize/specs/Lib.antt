@@ -1,0 +1,12 @@
+-- What quantising is, and what the crate's functions promise.
+pub mod Bits
+pub mod Diffusion
+pub mod Ordered
+pub mod Rule
+pub mod Finished
+pub mod Machine
+pub mod Place
+pub mod Steps
+pub mod Engine
+pub mod Whole
+pub mod Examples

@@ -1,0 +1,154 @@
+-- What the crate's own functions ask and promise. A residual r is held as the number r + 128.
+use Prim.Native.Nat.{ℕ, zero, suc, _+_, _-_, _*_, _/_, _%_, _^_, _≤_, _<_}
+use mathlib.Core.Path.{_≡_}
+use mathlib.Core.Bool.{Bool, true, false}
+use mathlib.Core.Logic.{_⊎_}
+use mathlib.Core.List.{List}
+use lib.Dec.{leb}
+use lib.IntN.{ℤ, subℕ}
+use lib.ListN.{length, getD, take}
+use Rattle.quantize.specs.declared.Quantize.{Quantize}
+use Rattle.quantize.specs.declared.Quantize.the-variants.{Threshold, Dither, Ordered}
+use Rattle.quantize.specs.declared.dither.Dithered.{Dithered}
+use Rattle.quantize.specs.declared.engine.Part.{Part}
+use Rattle.quantize.specs.declared.engine.Next.{Next}
+use Rattle.quantize.specs.Bits.{bit, appended}
+use Rattle.quantize.specs.Diffusion.{part, white, residual}
+use Rattle.quantize.specs.Ordered.{number, numbers, bound, cell}
+use Rattle.quantize.specs.Rule.{Rule, threshold, dither, ordered}
+use Rattle.quantize.specs.Finished.{Setting, count, byteAt}
+use Rattle.quantize.specs.Machine.{Carry, machineDot, next}
+use Rattle.quantize.specs.Place.{At, begunBy, Begun}
+
+-- r holds z, which is within -128 .. 128
+pub record Biased (z : ℤ) (r : ℕ) : Type 0 where
+  pub is : z ≡ subℕ r 128
+  pub small : r ≤ 256
+
+-- r - 8 k is k sixteenths of b - 128
+pub record Parted (k b r : ℕ) : Type 0 where
+  pub is : part k (subℕ b 128) ≡ subℕ r (8 * k)
+  pub small : r ≤ 16 * k
+
+-- the dot and the residual of the value v
+pub record Stepped (v : ℤ) (dot rest : ℕ) : Type 0 where
+  pub dotIs : dot ≡ bit (white v)
+  pub restIs : Biased (residual v) rest
+
+-- ---- samples of one row, from a column on
+
+-- what the machine keeps after i of these samples of row y, from column x on, and the dot of sample i
+unfoldable pub rowCarry : Rule → ℕ → ℕ → ℕ → List ℕ → Carry → ℕ → Carry
+rowCarry rule w y x gray c zero = c
+rowCarry rule w y x gray c (suc i) = next rule w y (x + i) (getD gray i 0) (rowCarry rule w y x gray c i)
+
+unfoldable pub rowBit : Rule → ℕ → ℕ → ℕ → List ℕ → Carry → ℕ → ℕ
+rowBit rule w y x gray c i = bit (machineDot rule w y (x + i) (getD gray i 0) (rowCarry rule w y x gray c i))
+
+-- there is room for n digits more
+abbrev pub Packs : ℕ → ℕ → Type 0
+Packs begun n = (n ≤ 8) × (begun < 256)
+
+abbrev pub thresholdBit : ℕ → List ℕ → ℕ → ℕ
+thresholdBit t gray i = bit (leb t (getD gray i 0))
+
+abbrev pub orderedBit : ℕ → List ℕ → ℕ → ℕ → List ℕ → ℕ → ℕ
+orderedBit side table y x gray i = bit (leb (bound side (cell side table (x + i) y)) (getD gray i 0))
+
+-- the sides of document 01
+abbrev pub Known : ℕ → Type 0
+Known side = (side ≡ 2) ⊎ ((side ≡ 4) ⊎ (side ≡ 8))
+
+-- r is the number for this side
+pub record Cell (side x y r : ℕ) : Type 0 where
+  pub small : r < side * side
+  pub is : (k : ℕ) → side ≡ 2 ^ k → r ≡ number k x y
+
+-- the numbers for this side stand at the table's front
+pub record Table (side : ℕ) (table : List ℕ) : Type 0 where
+  pub is : (k : ℕ) → side ≡ 2 ^ k → Known side → take (side * side) table ≡ numbers k
+
+pub record Diffusing (w x n begun corner work : ℕ) : Type 0 where
+  pub some : 0 < n
+  pub packs : Packs begun n
+  pub within : x + n ≤ w
+  pub room : w ≤ work
+  pub small : corner ≤ 256
+
+-- the machine's state, from the numbers that the code keeps
+abbrev pub carryOf : ℕ → List ℤ → Carry
+carryOf corner work = record { corner = subℕ corner 128; kept = work }
+
+pub record Diffuses (w y x : ℕ) (gray : List ℕ) (begun corner : ℕ) (work : List ℤ) (r : Dithered) (work′ : List ℤ) : Type 0 where
+  pub digits : r .digits ≡ appended begun (rowBit dither w y x gray (carryOf corner work)) (length gray)
+  pub carry : rowCarry dither w y x gray (carryOf corner work) (length gray) ≡ carryOf (r .corner) work′
+  pub small : r .corner ≤ 256
+
+-- ---- the engine's steps
+
+-- the rule that the code's values stand for
+abbrev pub ruleOf : Quantize → List ℕ → Rule
+ruleOf (Threshold t) table = threshold t
+ruleOf Dither table = dither
+ruleOf (Ordered side) table = ordered side (take (side * side) table)
+
+-- the rule's side is known, and its work buffer long enough
+abbrev pub Served : Quantize → ℕ → ℕ → Type 0
+Served (Threshold t) w work = Unit {0}
+Served Dither w work = 2 * w ≤ work
+Served (Ordered side) w work = Known side
+
+pub record Sound (rule : Quantize) (w h row column begun corner work : ℕ) : Type 0 where
+  pub inRow : column < w
+  pub inFrame : row < h
+  pub cornerSmall : corner ≤ 256
+  pub begunSmall : begun < 2 ^ (column % 8)
+  pub served : Served rule w work
+
+pub record Able (rule : Quantize) (w h row column begun corner work : ℕ) (r : Bool) : Type 0 where
+  pub yes : r ≡ true → Sound rule w h row column begun corner work
+  pub no : r ≡ false → Sound rule w h row column begun corner work → ⊥
+
+-- r samples go into the begun byte
+pub record Shares (w column samples room r : ℕ) : Type 0 where
+  pub there : r ≤ samples
+  pub inRow : column + r ≤ w
+  pub inByte : column % 8 + r ≤ 8
+  pub fits : room ≡ 0 → (column + r < w) × (column % 8 + r < 8)
+  pub all : r ≡ 0 → (samples ≡ 0) ⊎ ((room ≡ 0) × ((column + 1 ≡ w) ⊎ (column % 8 ≡ 7)))
+
+pub record Dotting (rule : Quantize) (w column n begun corner work : ℕ) : Type 0 where
+  pub some : 0 < n
+  pub within : column + n ≤ w
+  pub packs : Packs begun n
+  pub small : corner ≤ 256
+  pub fits : w < 2 ^ 64
+  pub served : Served rule w work
+
+pub record Dotted (rule : Quantize) (table : List ℕ) (w y x : ℕ) (gray : List ℕ) (begun corner : ℕ) (work : List ℤ) (r : Part) (work′ : List ℤ) : Type 0 where
+  pub digits : r .digits ≡ appended begun (rowBit (ruleOf rule table) w y x gray (carryOf corner work)) (length gray)
+  pub carry : rowCarry (ruleOf rule table) w y x gray (carryOf corner work) (length gray) ≡ carryOf (r .corner) work′
+  pub small : r .corner ≤ 256
+
+-- m samples more, after which the begun byte has these digits
+pub record Advancing (w h frames row column m digits : ℕ) : Type 0 where
+  pub some : 0 < m
+  pub left : 0 < frames
+  pub inRow : column + m ≤ w
+  pub inByte : column % 8 + m ≤ 8
+  pub inFrame : row < h
+  pub high : h < 2 ^ 64
+  pub digitsSmall : digits < 2 ^ (column % 8 + m)
+
+-- the place after them, where n were taken before: a byte more is finished where `whole` says so
+pub record Moves (s : Setting) (n m : ℕ) (r : Next) : Type 0 where
+  pub at : At s (n + m) (r .frames) (r .row) (r .column)
+  pub counted : count s (n + m) ≡ count s n + bit (r .whole)
+
+pub record Advances (w h frames row column m digits : ℕ) (r : Next) : Type 0 where
+  pub inRow : r .column < w
+  pub inFrame : r .row < h
+  pub begunSmall : r .begun < 2 ^ (r .column % 8)
+  pub moves : (s : Setting) (n : ℕ) → s .width ≡ w → s .height ≡ h → At s n frames row column → Moves s n m r
+  pub byteIs : (s : Setting) (n : ℕ) (d : ℕ → ℕ) → s .width ≡ w → s .height ≡ h → At s n frames row column → digits ≡ begunBy w d n (n % w % 8 + m) → r .whole ≡ true → r .byte ≡ byteAt w d (count s n)
+  pub begunIs : (s : Setting) (n : ℕ) (d : ℕ → ℕ) → s .width ≡ w → s .height ≡ h → At s n frames row column → digits ≡ begunBy w d n (n % w % 8 + m) → Begun w d (n + m) (r .begun)

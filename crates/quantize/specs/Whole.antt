@@ -1,0 +1,40 @@
+-- Whole planes: `quantize_gray8` and its like (document 01: 8, 29, 28, 22, and then 25, place 0).
+use Prim.Native.Nat.{ℕ, _+_, _*_}
+use mathlib.Core.Path.{_≡_}
+use mathlib.Core.Bool.{Bool, true, false, _||_}
+use mathlib.Core.List.{List}
+use lib.Dec.{leb, eqb}
+use lib.IntN.{ℤ}
+use lib.ListN.{length, take, drop}
+use Rattle.error.specs.Choice.{if}
+use Rattle.error.specs.Answer.{Answer, gives, refuses}
+use Rattle.error.specs.Emits.{Emits}
+use Rattle.quantize.specs.declared.Quantize.{Quantize}
+use Rattle.quantize.specs.declared.Quantize.the-variants.{Threshold, Dither, Ordered}
+use Rattle.quantize.specs.Finished.{finished}
+use Rattle.quantize.specs.Engine.{meaning, roomy, setting}
+
+abbrev pub knownSide : ℕ → Bool
+knownSide side = eqb side 2 || eqb side 4 || eqb side 8
+
+abbrev pub knownRule : Quantize → Bool
+knownRule (Threshold t) = true
+knownRule Dither = true
+knownRule (Ordered side) = knownSide side
+
+-- the plane of a scan of width × height samples; surplus gray is ignored
+unfoldable pub quantized : Quantize → ℕ → ℕ → List ℕ → ℕ → Answer (List ℕ)
+quantized rule w h gray work =
+    if (eqb w 0 || eqb h 0) (refuses 8 0)
+    (if (knownRule rule)
+    (if (roomy (meaning rule) w work)
+    (if (leb (w * h) (length gray)) (gives (finished (setting rule w h 1) (take (w * h) gray))) (refuses 22 0))
+    (refuses 28 0))
+    (refuses 29 0))
+
+-- the plane or the refusal; of the work buffer only dithering alters anything, and only the first 2 × width numbers
+pub record Quantizes (rule : Quantize) (w h : ℕ) (gray : List ℕ) (work work′ : List ℤ) (r : Answer ℕ) (out out′ : List ℕ) : Type 0 where
+  pub emits : Emits (quantized rule w h gray (length work)) r out out′
+  pub beyond : drop (2 * w) work′ ≡ drop (2 * w) work
+  pub spared : (rule ≡ Dither → ⊥) → work′ ≡ work
+  pub refused : (code place : ℕ) → r ≡ refuses code place → work′ ≡ work
