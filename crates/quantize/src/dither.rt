@@ -1,7 +1,130 @@
 // Floyd and Steinberg's dithering. A residual r is held as r + 128.
+ghost use mathlib.Core.Path.{_≡_};
+ghost use Prim.Native.Nat.{_+_, _≤_, _<_};
+ghost use lib.IntN.{pos, subℕ};
+ghost use lib.ListN.{length, getD};
+ghost use Rattle.quantize.specs.Diffusion.{value};
+ghost use Rattle.quantize.specs.Machine.{clamp, leftOf, cornerOf, overOf};
+ghost use Rattle.quantize.specs.Steps.{Biased, Parted, Stepped, Diffusing, Diffuses};
+
+// A number of the work buffer, clamped to -128 ..= 128, plus 128.
+fn lift(x: i16) -> u32
+    ensures { λ r. ⌜ Biased (clamp x) r ⌝ }
+{
+    if x < -128 {
+        0
+    } else if 128 < x {
+        256
+    } else {
+        (x + 128) as u32
+    }
+}
+
+// The residual that is held as b.
+fn lower(b: u32) -> i16
+    requires { ⌜ b ≤ 256 ⌝ }
+    ensures { λ r. ⌜ r ≡ subℕ b 128 ⌝ }
+{
+    b as i16 - 128
+}
+
+// k sixteenths of the residual b - 128, rounded, plus 8 k.
+fn part(k: u32, b: u32) -> u32
+    requires { ⌜ (k ≤ 7) × (b ≤ 256) ⌝ }
+    ensures { λ r. ⌜ Parted k b r ⌝ }
+{
+    if b >= 128 {
+        (k * b + 8) / 16
+    } else {
+        (k * b + 7) / 16
+    }
+}
+
+// A dot, 1 where it is white, and its residual, plus 128.
+struct Dot {
+    bit: u32,
+    rest: u32,
+}
+
+// The dot with this gray, from the residuals, plus 128, of the dots on its left, above left, above and above right.
+fn step(gray: u8, left: u32, corner: u32, above: u32, ahead: u32) -> Dot
+    requires { ⌜ (left ≤ 256) × (corner ≤ 256) × (above ≤ 256) × (ahead ≤ 256) ⌝ }
+    ensures { λ r. ⌜ Stepped (value gray (subℕ left 128) (subℕ corner 128) (subℕ above 128) (subℕ ahead 128)) (r .bit) (r .rest) ⌝ }
+{
+    let v = gray as u32 + part(7, left) + part(1, corner) + part(5, above) + part(3, ahead);
+    if v >= 256 {
+        Dot {
+            bit: 1,
+            rest: v - 255,
+        }
+    } else {
+        Dot { bit: 0, rest: v }
+    }
+}
+
+// The residual on the left of column x, plus 128.
+fn left_of(work: &[i16], x: usize) -> u32
+    requires { ⌜ x ≤ length (now work) ⌝ }
+    ensures { λ r. ⌜ Biased (leftOf (now (work .entry)) x) r ⌝ }
+{
+    if x == 0 {
+        return 128;
+    }
+    let i = x - 1;
+    lift(work[i])
+}
+
+// The residual above column x of row y, plus 128.
+fn over(work: &[i16], width: usize, y: usize, x: usize) -> u32
+    requires { ⌜ width ≤ length (now work) ⌝ }
+    ensures { λ r. ⌜ Biased (overOf width y (now (work .entry)) x) r ⌝ }
+{
+    if 0 < y {
+        if x < width { lift(work[x]) } else { 128 }
+    } else {
+        128
+    }
+}
 
 // The digits of the begun byte, and the residual above the last dot, plus 128.
 pub struct Dithered {
     pub digits: u32,
     pub corner: u32,
+}
+
+// The digits of `begun`, and then a dot for each sample, from a column of a row on. `work` keeps a residual for each column.
+pub fn dither_dots(
+    width: usize,
+    y: usize,
+    column: usize,
+    gray: &[u8],
+    begun: u32,
+    corner: u32,
+    work: &mut [i16],
+) -> Dithered
+    requires { ⌜ Diffusing width column (length (now gray)) begun corner (length (now work)) ⌝ }
+    ensures { λ r. ⌜ Diffuses width y column (now (gray .entry)) begun corner (now (work .entry)) r (now (work .exit)) ⌝ }
+{
+    let mut left = left_of(work, column);
+    let mut digits = begun;
+    let mut above_left: u32 = 128;
+    if 0 < column {
+        above_left = corner;
+    }
+    let mut i: usize = 0;
+    while i < gray.len() {
+        let x = column + i;
+        let above = over(work, width, y, x);
+        let ahead = over(work, width, y, x + 1);
+        let d = step(gray[i], left, above_left, above, ahead);
+        left = d.rest;
+        above_left = above;
+        work[x] = lower(left);
+        digits = digits * 2 + d.bit;
+        i += 1;
+    }
+    Dithered {
+        digits: digits,
+        corner: above_left,
+    }
 }

@@ -1,0 +1,96 @@
+-- The invariant of `dither_dots`, that a turn keeps it, and what it says at the end.
+-- Assumes nothing.
+use Prim.Native.Nat.{ℕ, zero, suc, _+_, _-_, _*_, _≤_, _<_}
+use mathlib.Core.Path.{_≡_, refl, sym, ap, _∙_, subst}
+use mathlib.Core.List.{List}
+use native.Mathlib.Nat.{add-zero, add-assoc}
+use native.Mathlib.Numerals.{add-one}
+use native.Mathlib.Omega.{arith}
+use lib.IntN.{ℤ, pos, subℕ}
+use lib.ListN.{length, getD, set, length-set}
+use lib.Seq.{getD-set-same}
+use Rattle.quantize.specs.declared.dither.Dithered.{Dithered}
+use Rattle.quantize.specs.Bits.{bit, appended}
+use Rattle.quantize.specs.Diffusion.{value, white, residual}
+use Rattle.quantize.specs.Rule.{dither}
+use Rattle.quantize.specs.Machine.{Carry, clamp, leftOf, cornerOf, overOf, valueOf, diffused, machineDot, next}
+use Rattle.quantize.specs.Steps.{Biased, Stepped, rowCarry, rowBit, carryOf, Diffuses}
+use Rattle.quantize.proofs.Range.{Held, within, clamp-same}
+use Rattle.quantize.proofs.Reading.{left-at, corner-at}
+use Rattle.quantize.proofs.Appending.{bit-le, one-more}
+
+pub biased-zero : Biased (pos 0) 128
+biased-zero = record { is = refl; small = omega arith }
+
+pub biased-clamp : (z : ℤ) (r : ℕ) → Biased z r → Biased (clamp z) r
+biased-clamp z r b = rw (clamp-same z (within z (record { n = r; holds = b }))) b
+
+-- the residual above the dot on the left where a row goes on, and at its start
+pub corner-on : (corner x r : ℕ) → corner ≤ 256 → 0 < x → r ≡ corner → Biased (cornerOf (subℕ corner 128) x) r
+corner-on corner x r h k e = rw (corner-at (subℕ corner 128) x k, e) (record { is = refl; small = h })
+
+pub corner-none : (z : ℤ) (x r : ℕ) → x ≤ 0 → r ≡ 128 → Biased (cornerOf z x) r
+corner-none z x r k e = let o : x ≡ 0 = omega arith in rw (o, e) biased-zero
+
+pub dot-le : {v : ℤ} {dot rest : ℕ} → Stepped v dot rest → dot ≤ 1
+dot-le {v} s = subst (λ (n : ℕ). n ≤ 1) (sym (s .dotIs)) (bit-le (white v))
+
+pub row-bit-le : (w y x : ℕ) (gray : List ℕ) (c : Carry) (i : ℕ) → rowBit dither w y x gray c i ≤ 1
+unfolding rowBit
+row-bit-le w y x gray c i = bit-le (machineDot dither w y (x + i) (getD gray i 0) (rowCarry dither w y x gray c i))
+
+module _ (w y x : ℕ) (gray : List ℕ) (begun corner : ℕ) (work₀ : List ℤ) where
+  abbrev at : ℕ → Carry
+  at i = rowCarry dither w y x gray (carryOf corner work₀) i
+
+  -- after i samples
+  pub record Inv (work : List ℤ) (left digits aboveLeft i : ℕ) : Type 0 where
+    pub bound : i ≤ length gray
+    pub long : length work ≡ length work₀
+    pub keptIs : at i .kept ≡ work
+    pub leftIs : Biased (leftOf work (x + i)) left
+    pub cornerIs : Biased (cornerOf (at i .corner) (x + i)) aboveLeft
+    pub digitsIs : digits ≡ appended begun (rowBit dither w y x gray (carryOf corner work₀)) i
+
+  pub inv-start : (left aboveLeft : ℕ) → Biased (leftOf work₀ x) left → Biased (cornerOf (subℕ corner 128) x) aboveLeft → Inv work₀ left begun aboveLeft 0
+  unfolding rowCarry appended
+  inv-start left aboveLeft hl hc =
+      record { bound = omega arith; long = refl; keptIs = refl; leftIs = rw add-zero hl; cornerIs = rw add-zero hc; digitsIs = refl }
+
+  module _ (work : List ℤ) (left digits aboveLeft i : ℕ) (I : Inv work left digits aboveLeft i)
+      (above ahead dot rest : ℕ) (ha : Biased (overOf w y work (x + i)) above) (hr : Biased (overOf w y work (x + i + 1)) ahead)
+      (st : Stepped (value (getD gray i 0) (subℕ left 128) (subℕ aboveLeft 128) (subℕ above 128) (subℕ ahead 128)) dot rest) where
+    value-is : valueOf w y (x + i) (getD gray i 0) (at i) ≡ value (getD gray i 0) (subℕ left 128) (subℕ aboveLeft 128) (subℕ above 128) (subℕ ahead 128)
+    unfolding valueOf
+    value-is = rw (I .keptIs, I .leftIs .is, I .cornerIs .is, ha .is, hr .is)
+
+    dot-is : dot ≡ rowBit dither w y x gray (carryOf corner work₀) i
+    unfolding rowBit machineDot
+    dot-is = st .dotIs ∙ ap (λ (v : ℤ). bit (white v)) (sym value-is)
+
+    pub inv-more : (z : ℤ) → z ≡ subℕ rest 128 → i < length gray → x + i < length work → Inv (set work (x + i) z) rest (digits * 2 + dot) above (i + 1)
+    unfolding rowCarry next diffused
+    inv-more z ez h k =
+        let zr : residual (valueOf w y (x + i) (getD gray i 0) (at i)) ≡ z = ap residual value-is ∙ st .restIs .is ∙ sym ez in
+        let e : x + (i + 1) ≡ x + i + 1 = omega arith in
+        let b : Biased z rest = record { is = ez; small = st .restIs .small } in
+        record {
+          bound = omega arith;
+          long = length-set work (x + i) z ∙ I .long;
+          keptIs = rw (add-one i, zr, I .keptIs);
+          leftIs = rw (left-at (set work (x + i) z) (x + (i + 1)) (x + i) e, getD-set-same work (x + i) z (pos 0) k) (biased-clamp z rest b);
+          cornerIs = rw (add-one i, corner-at (overOf w y (at i .kept) (x + i)) (x + suc i) (omega arith), I .keptIs) ha;
+          digitsIs = one-more begun (rowBit dither w y x gray (carryOf corner work₀)) i digits dot (I .digitsIs) dot-is;
+        }
+
+  pub inv-end : (work : List ℤ) (left digits aboveLeft i : ℕ) → Inv work left digits aboveLeft i → length gray ≤ i → 0 < length gray
+      → Diffuses w y x gray begun corner work₀ (record { digits = digits; corner = aboveLeft }) work
+  inv-end work left digits aboveLeft i I h k =
+      let b = I .bound in
+      let e : i ≡ length gray = omega arith in
+      let p : at i .corner ≡ subℕ aboveLeft 128 = sym (corner-at (at i .corner) (x + i) (omega arith)) ∙ I .cornerIs .is in
+      record {
+        digits = I .digitsIs ∙ ap (appended begun (rowBit dither w y x gray (carryOf corner work₀))) e;
+        carry = ap at (sym e) ∙ (λ j. record { corner = p j; kept = I .keptIs j });
+        small = I .cornerIs .small;
+      }

@@ -1,0 +1,51 @@
+-- Signed arithmetic at 16 bits: what `lift` and `lower` compute, by the sign of their argument.
+-- Assumes nothing.
+use mathlib.Core.Path.{_≡_, refl, sym, ap, _∙_, subst}
+use mathlib.Core.Bool.{Bool, true, false}
+use Prim.Native.Nat.{ℕ, zero, suc, _+_, _*_, _-_, _/_, _≤_, _<_, _^_, min}
+use native.Mathlib.Omega.{arith}
+use native.Mathlib.Nat.{zero-add}
+use lib.Dec.{T, ltb, leb}
+use lib.IntN.{ℤ, pos, negsuc, negℤ, subℕ, natAbs, _+ℤ_, _-ℤ_, _*ℤ_, +ℤ-idl}
+use lib.Signed.{leZ, ltZ, mag, quotZ, nonNeg}
+use mir.Syntax.{w16, w32}
+use mir.Val.{Fits, SFits, toZ, ofZ}
+use borrow.Author.Tests.{lt-ltb, le-ltb, le-leb, lt-leb, ltb-true, ltb-false}
+use Rattle.quantize.specs.Machine.{clamp}
+use Rattle.quantize.specs.Steps.{Biased}
+use mathlib.Core.Logic.{⊎-elim}
+use Rattle.quantize.proofs.Differences.{sub-neg, sub-pos, lt-or-le}
+
+pub never : {X : Type 0} → false ≡ true → X
+never e = absurd (subst T (sym e) tt)
+
+-- `lift`: below the range, above it, and within
+pub lift-low : (z : ℤ) → ltZ z (negsuc 127) ≡ true → Biased (clamp z) 0
+lift-low (pos n) t = never t
+lift-low (negsuc n) t = let h = ltb-true 127 n t in record { is = ap negsuc (omega arith); small = omega arith }
+
+pub lift-high : (z : ℤ) → ltZ (pos 128) z ≡ true → Biased (clamp z) 256
+lift-high (pos n) t = let h = ltb-true 128 n t in record { is = ap pos (omega arith); small = omega arith }
+lift-high (negsuc n) t = never t
+
+pub lift-add : (z : ℤ) → ltZ z (negsuc 127) ≡ false → ltZ (pos 128) z ≡ false → SFits w16 (z +ℤ pos 128)
+lift-add (pos n) t u = let h = ltb-false 128 n u in record { sfits = omega arith }
+lift-add (negsuc n) t u = let h = ltb-false 127 n t in rw (sub-pos 128 (suc n) (omega arith)) (record { sfits = omega arith })
+
+pub lift-cast : (z : ℤ) → ltZ z (negsuc 127) ≡ false → ltZ (pos 128) z ≡ false → T (nonNeg (z +ℤ pos 128)) × Fits w32 (natAbs (z +ℤ pos 128))
+lift-cast (pos n) t u = let h = ltb-false 128 n u in (tt, record { fits = omega arith })
+lift-cast (negsuc n) t u = let h = ltb-false 127 n t in rw (sub-pos 128 (suc n) (omega arith)) (tt, record { fits = omega arith })
+
+pub lift-mid : (z : ℤ) → ltZ z (negsuc 127) ≡ false → ltZ (pos 128) z ≡ false → Biased (clamp z) (natAbs (z +ℤ pos 128))
+lift-mid (pos n) t u = let h = ltb-false 128 n u in record { is = sym (sub-pos (n + 128) 128 (omega arith) ∙ ap pos (omega arith)); small = omega arith }
+lift-mid (negsuc n) t u =
+    let h = ltb-false 127 n t in
+    rw (sub-pos 128 (suc n) (omega arith)) (record { is = sym (sub-neg (128 - suc n) 128 (omega arith) ∙ ap negsuc (omega arith)); small = omega arith })
+
+-- `lower`
+pub lower-fits : (b : ℕ) → b ≤ 256 → SFits w16 (subℕ b 128)
+lower-fits b h =
+    ⊎-elim
+    (λ k. rw (sub-neg b 128 k) (record { sfits = omega arith }))
+    (λ k. rw (sub-pos b 128 k) (record { sfits = omega arith }))
+    (lt-or-le b 128)
