@@ -5,3 +5,4 @@ pub mod Range
 pub mod Appending
 pub mod Reading
 pub mod Rowing
+pub mod Cells

@@ -3,7 +3,7 @@ use Prim.Native.Nat.{ℕ, _+_, _-_, _*_, _/_, _%_, _^_, _≤_, _<_}
 use mathlib.Core.Path.{_≡_}
 use mathlib.Core.Bool.{Bool, true}
 use mathlib.Core.List.{List, [], _++_}
-use lib.Dec.{leb, eqb}
+use lib.Dec.{leb}
 use lib.IntN.{ℤ, pos}
 use lib.ListN.{length, getD, take, drop}
 use Rattle.error.specs.Choice.{if}
@@ -13,7 +13,7 @@ use Rattle.quantize.specs.declared.engine.Quantizer.{Quantizer}
 use Rattle.quantize.specs.declared.engine.Ran.{Ran}
 use Rattle.quantize.specs.Bits.{upto}
 use Rattle.quantize.specs.Diffusion.{Scan, onLeft, above, residualAt}
-use Rattle.quantize.specs.Ordered.{numbers}
+use Rattle.quantize.specs.Ordered.{numbers, exponent}
 use Rattle.quantize.specs.Rule.{Rule, threshold, dither, ordered, rightwards}
 use Rattle.quantize.specs.Finished.{Setting, count, frame, dotOf, byteAt, finished, newly, takes}
 use Rattle.quantize.specs.Machine.{Carry, clamp, carried, machineBit}
@@ -21,10 +21,6 @@ use Rattle.quantize.specs.Place.{At, Begun}
 use Rattle.quantize.specs.Steps.{Known, carryOf, ruleOf}
 
 -- ---- the rules of document 01
-
--- the side is 2 ^ k
-abbrev pub exponent : ℕ → ℕ
-exponent side = if (eqb side 2) 1 (if (eqb side 4) 2 3)
 
 -- the rule that a setting names
 abbrev pub meaning : Quantize → Rule

@@ -1,9 +1,9 @@
 -- The ordered rule (document 01: Ordered rule).
 use Prim.Native.Nat.{ℕ, zero, suc, _+_, _*_, _/_, _%_, _^_}
-use mathlib.Core.Bool.{Bool}
 use mathlib.Core.List.{List}
-use lib.Dec.{leb}
+use lib.Dec.{eqb}
 use lib.ListN.{getD}
+use Rattle.error.specs.Choice.{if}
 use Rattle.quantize.specs.Bits.{upto}
 
 -- what is added to 4 n in the quarter at column i and row j: upper left 0, upper right 2, lower left 3, lower right 1
@@ -21,6 +21,10 @@ number (suc k) x y = 4 * number k (x % 2 ^ k) (y % 2 ^ k) + quarter (x / 2 ^ k) 
 -- the numbers for the side 2 ^ k, row by row
 unfoldable pub numbers : ℕ → List ℕ
 numbers k = upto (2 ^ k * 2 ^ k) (λ i. number k (i % 2 ^ k) (i / 2 ^ k))
+
+-- the sides 2, 4 and 8 are 2 ^ 1, 2 ^ 2 and 2 ^ 3
+abbrev pub exponent : ℕ → ℕ
+exponent side = if (eqb side 2) 1 (if (eqb side 4) 2 3)
 
 -- from which gray on the number n is white
 unfoldable pub bound : ℕ → ℕ → ℕ

@@ -14,7 +14,7 @@ use Rattle.quantize.specs.declared.engine.Part.{Part}
 use Rattle.quantize.specs.declared.engine.Next.{Next}
 use Rattle.quantize.specs.Bits.{bit, appended}
 use Rattle.quantize.specs.Diffusion.{part, white, residual}
-use Rattle.quantize.specs.Ordered.{number, numbers, bound, cell}
+use Rattle.quantize.specs.Ordered.{number, numbers, exponent, bound, cell}
 use Rattle.quantize.specs.Rule.{Rule, threshold, dither, ordered}
 use Rattle.quantize.specs.Finished.{Setting, count, byteAt}
 use Rattle.quantize.specs.Machine.{Carry, machineDot, next}
@@ -65,8 +65,11 @@ pub record Cell (side x y r : ℕ) : Type 0 where
   pub is : (k : ℕ) → side ≡ 2 ^ k → r ≡ number k x y
 
 -- the numbers for this side stand at the table's front
-pub record Table (side : ℕ) (table : List ℕ) : Type 0 where
-  pub is : (k : ℕ) → side ≡ 2 ^ k → Known side → take (side * side) table ≡ numbers k
+abbrev pub Filled : ℕ → List ℕ → Type 0
+Filled side table = (k : ℕ) → side ≡ 2 ^ k → take (side * side) table ≡ numbers k
+
+abbrev pub Table : ℕ → List ℕ → Type 0
+Table side table = Known side → take (side * side) table ≡ numbers (exponent side)
 
 pub record Diffusing (w x n begun corner work : ℕ) : Type 0 where
   pub some : 0 < n

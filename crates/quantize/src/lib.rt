@@ -1,6 +1,7 @@
 // 8-bit gray to packed bits: the rules threshold, dither and ordered, whole planes and the engine below them.
 mod dither;
 mod engine;
+mod ordered;
 mod threshold;
 
 pub use engine::Quantizer;
