@@ -6,3 +6,8 @@ pub mod Appending
 pub mod Reading
 pub mod Rowing
 pub mod Cells
+pub mod Places
+pub mod Packing
+pub mod Abilities
+pub mod Advancing
+pub mod Dotting

@@ -1,5 +1,13 @@
 // The quantising engine, which whole planes and making sessions run.
 use crate::Quantize;
+use crate::dither::dither_dots;
+use crate::ordered::ordered_dots;
+use crate::threshold::threshold_dots;
+ghost use mathlib.Core.Path.{_≡_};
+ghost use Prim.Native.Nat.{ℕ, _+_, _-_, _*_, _^_, _≤_, _<_};
+ghost use lib.ListN.{length};
+ghost use Rattle.quantize.specs.Whole.{knownSide};
+ghost use Rattle.quantize.specs.Steps.{Able, Shares, Dotting, Dotted, Advancing, Advances};
 
 // Samples of at most so many frames on their way to bytes: the rule and the sizes, and where the next sample goes.
 pub struct Quantizer {
@@ -37,4 +45,161 @@ struct Next {
     begun: u32,
     byte: u8,
     whole: bool,
+}
+
+pub fn known(side: u8) -> bool
+    ensures { λ r. ⌜ r ≡ knownSide side ⌝ }
+{
+    if side == 2 {
+        return true;
+    }
+    if side == 4 {
+        return true;
+    }
+    side == 8
+}
+
+// Whether samples can be taken: a place in the frame, a known side, and 2 × width numbers of work where the rule needs them.
+fn able(
+    rule: Quantize,
+    width: usize,
+    height: usize,
+    row: usize,
+    column: usize,
+    begun: u32,
+    corner: u32,
+    work: usize,
+) -> bool
+    ensures { λ r. ⌜ Able rule width height row column begun corner work r ⌝ }
+{
+    if width <= column {
+        return false;
+    }
+    if height <= row {
+        return false;
+    }
+    if 256 < corner {
+        return false;
+    }
+    if begun >> (column % 8) as u32 != 0 {
+        return false;
+    }
+    match rule {
+        Quantize::Threshold(_) => true,
+        Quantize::Dither => width <= work / 2,
+        Quantize::Ordered(side) => known(side),
+    }
+}
+
+// How many of so many samples go into the begun byte: without room for the byte not the last one.
+fn share(width: usize, column: usize, samples: usize, room: usize) -> usize
+    requires { ⌜ column < width ⌝ }
+    ensures { λ r. ⌜ Shares width column samples room r ⌝ }
+{
+    let mut most = 8 - column % 8;
+    if width - column < most {
+        most = width - column;
+    }
+    if room == 0 {
+        most -= 1;
+    }
+    if samples < most { samples } else { most }
+}
+
+// The digits of `begun`, and then a dot for each sample, from a column of row y on.
+fn dots(
+    rule: Quantize,
+    table: &[u8; 64],
+    width: usize,
+    y: usize,
+    column: usize,
+    gray: &[u8],
+    begun: u32,
+    corner: u32,
+    work: &mut [i16],
+) -> Part
+    requires { ⌜ Dotting rule width column (length (now gray)) begun corner (length (now work)) ⌝ }
+    ensures { λ r. ⌜ Dotted rule (now (table .entry)) width y column (now (gray .entry)) begun corner (now (work .entry)) r (now (work .exit)) ⌝ }
+{
+    match rule {
+        Quantize::Threshold(bound) => Part {
+            digits: threshold_dots(bound, gray, begun),
+            corner: corner,
+        },
+        Quantize::Dither => {
+            let d = dither_dots(width, y, column, gray, begun, corner, work);
+            Part {
+                digits: d.digits,
+                corner: d.corner,
+            }
+        }
+        Quantize::Ordered(side) => Part {
+            digits: ordered_dots(table, side, y, column, gray, begun),
+            corner: corner,
+        },
+    }
+}
+
+// A byte of m dots: their digits, and then zeros.
+fn pad(digits: u32, m: u32) -> u8
+    requires { ⌜ (m ≤ 8) × (digits < 2 ^ m) ⌝ }
+    ensures { λ r. ⌜ r ≡ digits * 2 ^ (8 - m) ⌝ }
+{
+    (digits << (8 - m)) as u8
+}
+
+// The place after m samples more, which end no later than the begun byte; the byte, and whether they finish it.
+fn advance(
+    width: usize,
+    height: usize,
+    frames: usize,
+    row: usize,
+    column: usize,
+    m: usize,
+    digits: u32,
+) -> Next
+    requires { ⌜ Advancing width height frames row column m digits ⌝ }
+    ensures { λ r. ⌜ Advances width height frames row column m digits r ⌝ }
+{
+    let to = column + m;
+    let dots = column % 8 + m;
+    let byte = pad(digits, dots as u32);
+    if to < width {
+        if dots < 8 {
+            return Next {
+                frames: frames,
+                row: row,
+                column: to,
+                begun: digits,
+                byte: byte,
+                whole: false,
+            };
+        }
+        return Next {
+            frames: frames,
+            row: row,
+            column: to,
+            begun: 0,
+            byte: byte,
+            whole: true,
+        };
+    }
+    if row + 1 < height {
+        return Next {
+            frames: frames,
+            row: row + 1,
+            column: 0,
+            begun: 0,
+            byte: byte,
+            whole: true,
+        };
+    }
+    Next {
+        frames: frames - 1,
+        row: 0,
+        column: 0,
+        begun: 0,
+        byte: byte,
+        whole: true,
+    }
 }

@@ -45,13 +45,17 @@ loop-less : tie.Need-loop-less Inv-loop μ-loop
 loop-less c = omega arith
 
 loop-again : tie.Need-loop-again Inv-loop μ-loop
-loop-again c = 
+loop-again c =
     let l = c .before .before in
     let s = l .before .args .side in
-    let v = l .loop .inv .1 in
-    (omega arith, (length-set (l .loop .table) (l .loop .i) (c .cell .result) ∙ v .0,
-    λ k e. take-more (l .loop .table) (l .loop .i) (c .cell .result) (λ j. number k (j % 2 ^ k) (j / 2 ^ k)) (omega (arith, v .0, area-le s (l .before .pre .1))) (v .1 k e)
-    (subst (λ (t : ℕ). c .cell .result ≡ number k (l .loop .i % t) (l .loop .i / t)) e (c .cell .ensures .is k e))))
+    let v = l .loop .inv .1 in (
+      omega arith,
+      (
+        length-set (l .loop .table) (l .loop .i) (c .cell .result) ∙ v .0,
+        λ k e. take-more (l .loop .table) (l .loop .i) (c .cell .result) (λ j. number k (j % 2 ^ k) (j / 2 ^ k)) (omega (arith, v .0, area-le s (l .before .pre .1))) (v .1 k e)
+            (subst (λ (t : ℕ). c .cell .result ≡ number k (l .loop .i % t) (l .loop .i / t)) e (c .cell .ensures .is k e)),
+      ),
+    )
 
 returns : tie.Need-returns Inv-loop μ-loop
 unfolding numbers

@@ -74,13 +74,13 @@ loop-less : tie.Need-loop-less Inv-loop μ-loop
 loop-less c = omega arith
 
 loop-again : tie.Need-loop-again Inv-loop μ-loop
-loop-again c = 
+loop-again c =
     let l = c .before .before .before .before in
     let a = start l .args in
     (omega arith, one-more (a .begun) (orderedBit (a .side) (now (a .table)) (a .y) (a .column) (now (a .gray))) (l .loop .i) (l .loop .digits) (c .ordered-dot .result) (l .loop .inv .1) (dot-is c))
 
 returns : tie.Need-returns Inv-loop μ-loop
-returns c = 
+returns c =
     let l = c .before in
     let a = start l .args in
     let e : l .loop .i ≡ length (now (a .gray)) = omega arith in

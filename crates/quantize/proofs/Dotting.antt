@@ -1,0 +1,73 @@
+-- What `dots` promises, rule by rule.
+-- Assumes nothing.
+use Prim.Native.Nat.{ℕ, zero, suc, _+_, _*_, _≤_}
+use mathlib.Core.Path.{_≡_, refl, sym, ap, _∙_, subst}
+use mathlib.Core.List.{List}
+use lib.IntN.{ℤ}
+use lib.Dec.{leb}
+use lib.ListN.{length, getD, take}
+use Rattle.quantize.specs.declared.Quantize.{Quantize}
+use Rattle.quantize.specs.declared.Quantize.the-variants.{Threshold, Dither, Ordered}
+use Rattle.quantize.specs.declared.dither.Dithered.{Dithered}
+use Rattle.quantize.specs.declared.engine.Part.{Part}
+use Rattle.quantize.specs.Bits.{bit, appended}
+use Rattle.quantize.specs.Ordered.{bound}
+use Rattle.quantize.specs.Rule.{Rule, threshold, dither, ordered}
+use Rattle.quantize.specs.Machine.{Carry, machineDot, next}
+use Rattle.quantize.specs.Steps.{rowCarry, rowBit, thresholdBit, orderedBit, Known, Served, carryOf, Diffuses, Dotted}
+use Rattle.quantize.proofs.Appending.{appended-ext}
+use Rattle.quantize.proofs.Cells.{known-small, cell-front}
+
+module _ (w y x : ℕ) (gray : List ℕ) (c : Carry) where
+  threshold-carry : (t i : ℕ) → rowCarry (threshold t) w y x gray c i ≡ c
+  unfolding rowCarry next
+  threshold-carry t zero = refl
+  threshold-carry t (suc i) = threshold-carry t i
+
+  ordered-carry : (side : ℕ) (table : List ℕ) (i : ℕ) → rowCarry (ordered side table) w y x gray c i ≡ c
+  unfolding rowCarry next
+  ordered-carry side table zero = refl
+  ordered-carry side table (suc i) = ordered-carry side table i
+
+  threshold-bit : (t i : ℕ) → rowBit (threshold t) w y x gray c i ≡ thresholdBit t gray i
+  unfolding rowBit machineDot
+  threshold-bit t i = refl
+
+  ordered-bit : (side : ℕ) (table : List ℕ) → Known side → (i : ℕ) → rowBit (ordered side (take (side * side) table)) w y x gray c i ≡ orderedBit side table y x gray i
+  unfolding rowBit machineDot
+  ordered-bit side table h i =
+      ap (λ (n : ℕ). bit (leb (bound side n) (getD gray i 0))) (cell-front side table (x + i) y (known-small side h .0))
+
+module _ (rule : Quantize) (table : List ℕ) (w y x : ℕ) (gray : List ℕ) (begun corner : ℕ) (work : List ℤ) where
+  abbrev Gives : Quantize → ℕ → ℕ → List ℤ → Type 0
+  Gives r digits corner′ work′ = Dotted r table w y x gray begun corner work (record { digits = digits; corner = corner′ }) work′
+
+  pub dots-threshold : (t digits : ℕ) → rule ≡ Threshold t → corner ≤ 256 → digits ≡ appended begun (thresholdBit t gray) (length gray) → Gives rule digits corner work
+  dots-threshold t digits e h g =
+      subst (λ (r : Quantize). Gives r digits corner work) (sym e)
+      (record {
+        digits = g ∙ appended-ext begun (thresholdBit t gray) (rowBit (threshold t) w y x gray (carryOf corner work)) (length gray) (λ i l. sym (threshold-bit w y x gray (carryOf corner work) t i));
+        carry = threshold-carry w y x gray (carryOf corner work) t (length gray);
+        small = h;
+      })
+
+  pub dots-dither : (r : Dithered) (work′ : List ℤ) → rule ≡ Dither → Diffuses w y x gray begun corner work r work′ → Gives rule (r .digits) (r .corner) work′
+  dots-dither r work′ e d =
+      subst (λ (x : Quantize). Gives x (r .digits) (r .corner) work′) (sym e) (record { digits = d .digits; carry = d .carry; small = d .small })
+
+  pub dots-ordered : (side digits : ℕ) → rule ≡ Ordered side → Known side → corner ≤ 256 → digits ≡ appended begun (orderedBit side table y x gray) (length gray) → Gives rule digits corner work
+  dots-ordered side digits e k h g =
+      let t = take (side * side) table in
+      subst (λ (r : Quantize). Gives r digits corner work) (sym e)
+      (record {
+        digits = g ∙ appended-ext begun (orderedBit side table y x gray) (rowBit (ordered side t) w y x gray (carryOf corner work)) (length gray) (λ i l. sym (ordered-bit w y x gray (carryOf corner work) side table k i));
+        carry = ordered-carry w y x gray (carryOf corner work) side t (length gray);
+        small = h;
+      })
+
+-- what the rule needs, once it is known
+pub served-dither : (rule : Quantize) (w work : ℕ) → rule ≡ Dither → Served rule w work → 2 * w ≤ work
+served-dither rule w work e s = subst (λ (r : Quantize). Served r w work) e s
+
+pub served-ordered : (rule : Quantize) (w work side : ℕ) → rule ≡ Ordered side → Served rule w work → Known side
+served-ordered rule w work side e s = subst (λ (r : Quantize). Served r w work) e s
