@@ -19,12 +19,12 @@ use Rattle.quantize.proofs.Appending.{appended-ext}
 use Rattle.quantize.proofs.Cells.{known-small, cell-front}
 
 module _ (w y x : ℕ) (gray : List ℕ) (c : Carry) where
-  threshold-carry : (t i : ℕ) → rowCarry (threshold t) w y x gray c i ≡ c
+  pub threshold-carry : (t i : ℕ) → rowCarry (threshold t) w y x gray c i ≡ c
   unfolding rowCarry next
   threshold-carry t zero = refl
   threshold-carry t (suc i) = threshold-carry t i
 
-  ordered-carry : (side : ℕ) (table : List ℕ) (i : ℕ) → rowCarry (ordered side table) w y x gray c i ≡ c
+  pub ordered-carry : (side : ℕ) (table : List ℕ) (i : ℕ) → rowCarry (ordered side table) w y x gray c i ≡ c
   unfolding rowCarry next
   ordered-carry side table zero = refl
   ordered-carry side table (suc i) = ordered-carry side table i

@@ -11,3 +11,9 @@ pub mod Packing
 pub mod Abilities
 pub mod Advancing
 pub mod Dotting
+pub mod Grown
+pub mod Counting
+pub mod Tracing
+pub mod Running
+pub mod Causes
+pub mod Following

@@ -12,7 +12,7 @@ use lib.Seq.{getD-set-same}
 use Rattle.quantize.specs.declared.dither.Dithered.{Dithered}
 use Rattle.quantize.specs.Bits.{bit, appended}
 use Rattle.quantize.specs.Diffusion.{value, white, residual}
-use Rattle.quantize.specs.Rule.{dither}
+use Rattle.quantize.specs.Rule.{Rule, dither}
 use Rattle.quantize.specs.Machine.{Carry, clamp, leftOf, cornerOf, overOf, valueOf, diffused, machineDot, next}
 use Rattle.quantize.specs.Steps.{Biased, Stepped, rowCarry, rowBit, carryOf, Diffuses}
 use Rattle.quantize.proofs.Range.{Held, within, clamp-same}
@@ -35,9 +35,9 @@ corner-none z x r k e = let o : x ≡ 0 = omega arith in rw (o, e) biased-zero
 pub dot-le : {v : ℤ} {dot rest : ℕ} → Stepped v dot rest → dot ≤ 1
 dot-le {v} s = subst (λ (n : ℕ). n ≤ 1) (sym (s .dotIs)) (bit-le (white v))
 
-pub row-bit-le : (w y x : ℕ) (gray : List ℕ) (c : Carry) (i : ℕ) → rowBit dither w y x gray c i ≤ 1
+pub row-bit-le : (rule : Rule) (w y x : ℕ) (gray : List ℕ) (c : Carry) (i : ℕ) → rowBit rule w y x gray c i ≤ 1
 unfolding rowBit
-row-bit-le w y x gray c i = bit-le (machineDot dither w y (x + i) (getD gray i 0) (rowCarry dither w y x gray c i))
+row-bit-le rule w y x gray c i = bit-le (machineDot rule w y (x + i) (getD gray i 0) (rowCarry rule w y x gray c i))
 
 module _ (w y x : ℕ) (gray : List ℕ) (begun corner : ℕ) (work₀ : List ℤ) where
   abbrev at : ℕ → Carry

@@ -40,7 +40,7 @@ low l =
     let a = start l .args in
     let f = rowBit dither (a .width) (a .y) (a .column) (now (a .gray)) (carryOf (a .corner) (now (a .work))) in
     subst (λ (n : ℕ). n < 65536) (sym (l .loop .inv .digitsIs))
-    (appended-fits (a .begun) f (row-bit-le (a .width) (a .y) (a .column) (now (a .gray)) _) (length (now (a .gray))) (l .loop .i) (start l .pre .packs) (l .loop .inv .bound))
+    (appended-fits (a .begun) f (row-bit-le dither (a .width) (a .y) (a .column) (now (a .gray)) _) (length (now (a .gray))) (l .loop .i) (start l .pre .packs) (l .loop .inv .bound))
 
 left-of-requires : tie.Need-left-of-requires Inv-loop μ-loop
 left-of-requires c κs = let p = c .before .before .pre in omega (arith, p .within, p .room)

@@ -1,0 +1,226 @@
+-- The invariant of `run`'s loop, and that a turn keeps it.
+-- Assumes nothing.
+use Prim.Native.Nat.{ℕ, zero, suc, _+_, _-_, _*_, _/_, _%_, _^_, _≤_, _<_}
+use mathlib.Core.Path.{_≡_, refl, sym, ap, _∙_, subst}
+use mathlib.Core.Bool.{Bool, true, false}
+use mathlib.Core.List.{List, [], _++_}
+use native.Mathlib.Nat.{add-zero, add-assoc, lt-of-lt-of-le}
+use native.Mathlib.Numerals.{add-one}
+use native.Mathlib.Omega.{arith}
+use lib.IntN.{ℤ}
+use lib.Pow.{pow-mono}
+use lib.ListN.{length, getD, take, drop, set, length-set, length-take, length-drop}
+use lib.Seq.{drop-set-lt, drop-drop}
+use Rattle.quantize.specs.declared.Quantize.{Quantize}
+use Rattle.quantize.specs.declared.Quantize.the-variants.{Threshold, Dither, Ordered}
+use Rattle.quantize.specs.declared.engine.Quantizer.{Quantizer}
+use Rattle.quantize.specs.declared.engine.Part.{Part}
+use Rattle.quantize.specs.declared.engine.Next.{Next}
+use Rattle.quantize.specs.Bits.{bit, upto, appended}
+use Rattle.quantize.specs.Rule.{Rule}
+use Rattle.quantize.specs.Finished.{Setting, count, byteAt}
+use Rattle.quantize.specs.Machine.{Carry, carried, machineBit}
+use Rattle.quantize.specs.Place.{At, begunBy, Begun}
+use Rattle.quantize.specs.Steps.{rowCarry, rowBit, carryOf, ruleOf, Served, Sound, Shares, Dotting, Dotted, Advancing, Moves, Advances}
+use Rattle.quantize.specs.Engine.{Stands}
+use Rattle.quantize.proofs.Appending.{appended-lt}
+use Rattle.quantize.proofs.Rowing.{row-bit-le}
+use Rattle.quantize.proofs.Grown.{grown-set}
+use Rattle.quantize.proofs.Packing.{begun-more}
+use Rattle.quantize.proofs.Tracing.{row-beyond, row-long, row-spared, carried-row, machine-row}
+
+module _ (q : Quantizer) (samples out₀ : List ℕ) (work₀ : List ℤ) where
+  abbrev c₀ : Carry
+  c₀ = carryOf (q .corner) work₀
+
+  -- the place and the machine after `taken` samples and `written` bytes, where q stands for n samples of s
+  pub record Placed (s : Setting) (n : ℕ) (work : List ℤ) (frames row column corner taken written : ℕ) : Type 0 where
+    pub at : At s (n + taken) frames row column
+    pub counted : count s (n + taken) ≡ count s n + written
+    pub carry : carried s n c₀ samples taken ≡ carryOf corner work
+
+  -- and the bytes, where the dot of sample i is d i
+  pub record Packed (s : Setting) (n : ℕ) (d : ℕ → ℕ) (out : List ℕ) (begun taken written : ℕ) : Type 0 where
+    pub bytes : out ≡ upto written (λ j. byteAt (s .width) d (count s n + j)) ++ drop written out₀
+    pub begunIs : Begun (s .width) d (n + taken) begun
+
+  -- d has the dots of the begun byte and the machine's
+  pub record Fed (s : Setting) (n : ℕ) (d : ℕ → ℕ) (taken : ℕ) : Type 0 where
+    pub begunIs : Begun (s .width) d n (q .begun)
+    pub dots : (i : ℕ) → i < taken → d (n + i) ≡ machineBit s n c₀ samples i
+
+  pub record Loop (out : List ℕ) (work : List ℤ) (frames row column begun corner taken written : ℕ) : Type 0 where
+    pub sound : Sound (q .rule) (q .width) (q .height) row column begun corner (length work)
+    pub takenFits : taken ≤ length samples
+    pub writtenFits : written ≤ length out₀
+    pub outLong : length out ≡ length out₀
+    pub workLong : length work ≡ length work₀
+    pub past : drop written out ≡ drop written out₀
+    pub beyond : drop (2 * q .width) work ≡ drop (2 * q .width) work₀
+    pub spared : (q .rule ≡ Dither → ⊥) → work ≡ work₀
+    pub placed : (s : Setting) (n : ℕ) → Stands q s n → Placed s n work frames row column corner taken written
+    pub packed : (s : Setting) (n : ℕ) (d : ℕ → ℕ) → Stands q s n → Fed s n d taken → Packed s n d out begun taken written
+
+  pub loop-start : Sound (q .rule) (q .width) (q .height) (q .row) (q .column) (q .begun) (q .corner) (length work₀)
+      → Loop out₀ work₀ (q .frames) (q .row) (q .column) (q .begun) (q .corner) 0 0
+  unfolding carried upto
+  loop-start h =
+      record {
+        sound = h;
+        takenFits = omega arith;
+        writtenFits = omega arith;
+        outLong = refl;
+        workLong = refl;
+        past = refl;
+        beyond = refl;
+        spared = λ _. refl;
+        placed = λ s n t. record { at = rw add-zero (t .at); counted = rw (add-zero, add-zero); carry = refl };
+        packed = λ s n d t f. record { bytes = refl; begunIs = rw add-zero (f .begunIs) };
+      }
+
+  -- ---- a turn
+
+  module _ (out : List ℕ) (work : List ℤ) (frames row column begun corner taken written : ℕ) (L : Loop out work frames row column begun corner taken written) (left : 0 < frames)
+      (m : ℕ) (sh : Shares (q .width) column (length samples - taken) (length out - written) m) (some : m ≡ 0 → ⊥) where
+    abbrev piece : List ℕ
+    piece = take (taken + m - taken) (drop taken samples)
+
+    pub end-fits : taken + m ≤ length samples
+    end-fits = let a = sh .there in let b = L .takenFits in omega arith
+
+    pub piece-long : length piece ≡ m
+    piece-long = length-take (taken + m - taken) (drop taken samples) ∙ (let a = length-drop taken samples in let b = end-fits in omega arith)
+
+    begun-small : begun < 256
+    begun-small =
+        let b = L .sound .begunSmall in
+        lt-of-lt-of-le b (pow-mono {i = column % 8} {j = 8} (omega arith))
+
+    pub dotting : q .width < 2 ^ 64 → Dotting (q .rule) (q .width) column (length piece) begun corner (length work)
+    dotting h =
+        let e = piece-long in
+        record {
+          some = omega (arith, some);
+          within = omega (arith, sh .inRow);
+          packs = (omega (arith, sh .inByte), begun-small);
+          small = L .sound .cornerSmall;
+          fits = h;
+          served = L .sound .served;
+        }
+
+    module _ (r : Part) (work′ : List ℤ) (dt : Dotted (q .rule) (q .table) (q .width) row column piece begun corner work r work′) where
+      abbrev rule : Rule
+      rule = ruleOf (q .rule) (q .table)
+
+      kept-is : rowCarry rule (q .width) row column piece (carryOf corner work) (length piece) .kept ≡ work′
+      kept-is = ap (λ (c : Carry). c .kept) (dt .carry)
+
+      digits-small : r .digits < 2 ^ (column % 8 + m)
+      digits-small =
+          rw (dt .digits, piece-long)
+          (appended-lt begun (rowBit rule (q .width) row column piece (carryOf corner work)) (λ i. row-bit-le rule (q .width) row column piece (carryOf corner work) i) (column % 8) m (L .sound .begunSmall))
+
+      pub advancing : q .height < 2 ^ 64 → Advancing (q .width) (q .height) frames row column m (r .digits)
+      advancing h =
+          record { some = omega (arith, some); left = left; inRow = sh .inRow; inByte = sh .inByte; inFrame = L .sound .inFrame; high = h; digitsSmall = digits-small }
+
+      long-is : length work′ ≡ length work
+      long-is = sym (ap length kept-is) ∙ row-long rule (q .width) row column piece (carryOf corner work) (length piece)
+
+      beyond-is : drop (2 * q .width) work′ ≡ drop (2 * q .width) work
+      beyond-is = sym (ap (drop (2 * q .width)) kept-is) ∙ row-beyond rule (q .width) row column piece (carryOf corner work) (2 * q .width) (length piece) (omega (arith, piece-long, sh .inRow))
+
+      spared-is : (q .rule ≡ Dither → ⊥) → work′ ≡ work
+      spared-is h = sym kept-is ∙ row-spared (q .rule) (q .table) h (q .width) row column piece (carryOf corner work) (length piece)
+
+      module _ (nx : Next) (ad : Advances (q .width) (q .height) frames row column m (r .digits) nx) where
+        sound-is : Sound (q .rule) (q .width) (q .height) (nx .row) (nx .column) (nx .begun) (r .corner) (length work′)
+        sound-is =
+            record {
+              inRow = ad .inRow;
+              inFrame = ad .inFrame;
+              cornerSmall = dt .small;
+              begunSmall = ad .begunSmall;
+              served = subst (λ (k : ℕ). Served (q .rule) (q .width) k) (sym long-is) (L .sound .served);
+            }
+
+        -- under each setting that q stands for
+        module _ (s : Setting) (n : ℕ) (t : Stands q s n) where
+          P : Placed s n work frames row column corner taken written
+          P = L .placed s n t
+
+          moved : Moves s (n + taken) m nx
+          moved = ad .moves s (n + taken) (t .width) (t .height) (P .at)
+
+          in-row : column + m ≤ s .width
+          in-row = omega (arith, t .width, sh .inRow)
+
+          carry-is : carried s n c₀ samples (taken + m) ≡ carryOf (r .corner) work′
+          carry-is =
+              carried-row s n c₀ samples taken frames row column (P .at) left m in-row m (omega arith)
+              ∙ (let e : rowCarry rule (q .width) row column piece (carryOf corner work) m ≡ carryOf (r .corner) work′ = subst (λ (k : ℕ). rowCarry rule (q .width) row column piece (carryOf corner work) k ≡ carryOf (r .corner) work′) piece-long (dt .carry) in
+              rw (P .carry, t .rule, t .width) e)
+
+          placed-is : (written′ : ℕ) → written + bit (nx .whole) ≡ written′ → Placed s n work′ (nx .frames) (nx .row) (nx .column) (r .corner) (taken + m) written′
+          placed-is written′ e =
+              record {
+                at = rw (← add-assoc) (moved .at);
+                counted = rw (← add-assoc n taken m, moved .counted, P .counted) (omega arith);
+                carry = carry-is;
+              }
+
+          module _ (d : ℕ → ℕ) (f : Fed s n d (taken + m)) where
+            K : Packed s n d out begun taken written
+            K = L .packed s n d t (record { begunIs = f .begunIs; dots = λ i h. f .dots i (omega arith) })
+
+            dots-are : (i : ℕ) → i < m → d (n + taken + i) ≡ rowBit rule (q .width) row column piece (carryOf corner work) i
+            dots-are i h =
+                rw add-assoc (f .dots (taken + i) (omega arith))
+                ∙ machine-row s n c₀ samples taken frames row column (P .at) left m in-row i h
+                ∙ rw (P .carry, t .rule, t .width)
+
+            digits-are : r .digits ≡ begunBy (s .width) d (n + taken) ((n + taken) % s .width % 8 + m)
+            digits-are =
+                dt .digits ∙ rw piece-long
+                (begun-more s (n + taken) frames row column (P .at) d begun m (rowBit rule (q .width) row column piece (carryOf corner work)) in-row (K .begunIs) dots-are)
+
+            begun-is : Begun (s .width) d (n + (taken + m)) (nx .begun)
+            begun-is = rw (← add-assoc) (ad .begunIs s (n + taken) d (t .width) (t .height) (P .at) digits-are)
+
+            byte-is : nx .whole ≡ true → nx .byte ≡ byteAt (s .width) d (count s n + written)
+            byte-is h = rw (← P .counted) (ad .byteIs s (n + taken) d (t .width) (t .height) (P .at) digits-are h)
+
+        -- no byte is finished
+        pub loop-on : nx .whole ≡ false → Loop out work′ (nx .frames) (nx .row) (nx .column) (nx .begun) (r .corner) (taken + m) written
+        loop-on h =
+            record {
+              sound = sound-is;
+              takenFits = end-fits;
+              writtenFits = L .writtenFits;
+              outLong = L .outLong;
+              workLong = long-is ∙ L .workLong;
+              past = L .past;
+              beyond = beyond-is ∙ L .beyond;
+              spared = λ k. spared-is k ∙ L .spared k;
+              placed = λ s n t. placed-is s n t written (rw (h, add-zero));
+              packed = λ s n d t f. record { bytes = K s n t d f .bytes; begunIs = begun-is s n t d f };
+            }
+
+        -- a byte is finished and written
+        pub loop-byte : nx .whole ≡ true → written < length out₀ → Loop (set out written (nx .byte)) work′ (nx .frames) (nx .row) (nx .column) (nx .begun) (r .corner) (taken + m) (written + 1)
+        loop-byte h k =
+            record {
+              sound = sound-is;
+              takenFits = end-fits;
+              writtenFits = omega arith;
+              outLong = length-set out written (nx .byte) ∙ L .outLong;
+              workLong = long-is ∙ L .workLong;
+              past = drop-set-lt (written + 1) out written (nx .byte) (omega arith) ∙ sym (drop-drop 1 written out) ∙ ap (drop 1) (L .past) ∙ drop-drop 1 written out₀;
+              beyond = beyond-is ∙ L .beyond;
+              spared = λ k. spared-is k ∙ L .spared k;
+              placed = λ s n t. placed-is s n t (written + 1) (rw h);
+              packed = λ s n d t f. record {
+                bytes = grown-set (λ j. byteAt (s .width) d (count s n + j)) out out₀ written (K s n t d f .bytes) 0 (nx .byte) k (byte-is s n t d f h);
+                begunIs = begun-is s n t d f;
+              };
+            }
