@@ -17,3 +17,5 @@ pub mod Tracing
 pub mod Running
 pub mod Causes
 pub mod Following
+pub mod Keeping
+pub mod Ending

@@ -28,7 +28,7 @@ next-beyond (threshold t) w y x g c k h = refl
 next-beyond dither w y x g c k h = drop-set-lt k (c .kept) x (residual (valueOf w y x g c)) h
 next-beyond (ordered side table) w y x g c k h = refl
 
-next-long : (rule : Rule) (w y x g : ℕ) (c : Carry) → length (next rule w y x g c .kept) ≡ length (c .kept)
+pub next-long : (rule : Rule) (w y x g : ℕ) (c : Carry) → length (next rule w y x g c .kept) ≡ length (c .kept)
 unfolding next diffused
 next-long (threshold t) w y x g c = refl
 next-long dither w y x g c = length-set (c .kept) x (residual (valueOf w y x g c))
