@@ -3,6 +3,7 @@
 use Prim.Native.Nat.{ℕ, zero, suc, _+_, _-_, _*_, _/_, _%_, _^_, _≤_, _<_}
 use mathlib.Core.Path.{_≡_, refl, sym, ap, _∙_, subst}
 use mathlib.Core.Bool.{true, false}
+use mathlib.Core.Logic.{inl, inr}
 use native.Mathlib.Nat.{add-zero}
 use native.Mathlib.Omega.{arith}
 use lib.Pow.{pow-pos}
@@ -26,6 +27,7 @@ module _ (w h frames row column m digits byte : ℕ) (p : Advancing w h frames r
         inRow = k;
         inFrame = p .inFrame;
         begunSmall = rw e (p .digitsSmall);
+        ends = λ t. never t;
         moves = λ s n ew eh a. record { at = at-inside s n frames row column a m (p .left) (omega arith); counted = count-same s n frames row column a m (p .left) (omega arith) l };
         byteIs = λ s n d ew eh a g t. never t;
         begunIs = λ s n d ew eh a g. begun-on s n frames row column a d m digits g (p .left) (omega arith) l;
@@ -38,6 +40,7 @@ module _ (w h frames row column m digits byte : ℕ) (p : Advancing w h frames r
         inRow = k;
         inFrame = p .inFrame;
         begunSmall = pow-pos ((column + m) % 8);
+        ends = λ t. inr l;
         moves = λ s n ew eh a. record { at = at-inside s n frames row column a m (p .left) (omega arith); counted = count-byte s n frames row column a m (p .left) (omega arith) l i };
         byteIs = λ s n d ew eh a g t. byte-full s n frames row column a d m digits g byte b (omega arith);
         begunIs = λ s n d ew eh a g. begun-none (s .width) d (n + m)
@@ -64,6 +67,7 @@ module _ (w h frames row column m digits byte : ℕ) (p : Advancing w h frames r
           inRow = wide;
           inFrame = l;
           begunSmall = pow-pos 0;
+          ends = λ t. inl k;
           moves = λ s n ew eh a. record { at = at-row s n frames row column a m (p .left) (ends s ew) (omega arith); counted = counted s n ew a };
           byteIs = λ s n d ew eh a g t. last s n d ew a g;
           begunIs = λ s n d ew eh a g. begun-none (s .width) d (n + m)
@@ -77,6 +81,7 @@ module _ (w h frames row column m digits byte : ℕ) (p : Advancing w h frames r
           inRow = wide;
           inFrame = omega arith;
           begunSmall = pow-pos 0;
+          ends = λ t. inl k;
           moves = λ s n ew eh a. record { at = at-frame s n frames row column a m (p .left) (ends s ew) (omega arith); counted = counted s n ew a };
           byteIs = λ s n d ew eh a g t. last s n d ew a g;
           begunIs = λ s n d ew eh a g. begun-none (s .width) d (n + m)

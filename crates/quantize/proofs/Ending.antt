@@ -63,9 +63,8 @@ begun-ext w d e n begun p h b =
 module _ (q : Quantizer) (samples out : List ℕ) (work : List ℤ) (r : Ran) (out′ : List ℕ) (work′ : List ℤ) (fits : r .taken ≤ length samples) (octets : (i : ℕ) → getD samples i 0 < 256)
     (counts : (s : Setting) (n : ℕ) → Stands q s n → Counts q s n (length samples) (length out) (length work) r)
     (machine : (s : Setting) (n : ℕ) (d : ℕ → ℕ) → Stands q s n → Begun (s .width) d n (q .begun)
-      → ((i : ℕ) → i < r .taken → d (n + i) ≡ machineBit s n (carryOf (q .corner) work) samples i) → Machines q s n d samples out work r out′ work′)
+    → ((i : ℕ) → i < r .taken → d (n + i) ≡ machineBit s n (carryOf (q .corner) work) samples i) → Machines q s n d samples out work r out′ work′)
     (room : (s : Setting) (n : ℕ) → Stands q s n → 0 < r .taken → s .rule ≡ dither → s .width ≤ length work) where
-
   module _ (s : Setting) (xs : List ℕ) (H : Holds q work s xs) where
     abbrev n : ℕ
     n = length xs

@@ -19,3 +19,4 @@ pub mod Causes
 pub mod Following
 pub mod Keeping
 pub mod Ending
+pub mod Opening

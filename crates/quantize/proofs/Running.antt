@@ -4,6 +4,7 @@ use Prim.Native.Nat.{ℕ, zero, suc, _+_, _-_, _*_, _/_, _%_, _^_, _≤_, _<_}
 use mathlib.Core.Path.{_≡_, refl, sym, ap, _∙_, subst}
 use mathlib.Core.Bool.{Bool, true, false}
 use mathlib.Core.List.{List, [], _++_}
+use mathlib.Core.Logic.{⊎-elim}
 use native.Mathlib.Nat.{add-zero, add-assoc, lt-of-lt-of-le}
 use native.Mathlib.Numerals.{add-one}
 use native.Mathlib.Omega.{arith}
@@ -23,6 +24,7 @@ use Rattle.quantize.specs.Machine.{Carry, carried, machineBit}
 use Rattle.quantize.specs.Place.{At, begunBy, Begun}
 use Rattle.quantize.specs.Steps.{rowCarry, rowBit, carryOf, ruleOf, Served, Sound, Shares, Dotting, Dotted, Advancing, Moves, Advances}
 use Rattle.quantize.specs.Engine.{Stands}
+use Rattle.quantize.proofs.Differences.{lt-or-le}
 use Rattle.quantize.proofs.Appending.{appended-lt}
 use Rattle.quantize.proofs.Rowing.{row-bit-le}
 use Rattle.quantize.proofs.Grown.{grown-set}
@@ -144,6 +146,15 @@ module _ (q : Quantizer) (samples out₀ : List ℕ) (work₀ : List ℤ) where
               served = subst (λ (k : ℕ). Served (q .rule) (q .width) k) (sym long-is) (L .sound .served);
             }
 
+        -- a byte is finished only where there is room for it
+        pub room-left : nx .whole ≡ true → written < length out
+        room-left h =
+            ⊎-elim (λ l. l)
+            (λ (l : length out ≤ written).
+            let z = sh .fits (omega arith) in
+            ⊎-elim (λ e. let f : ⊥ = omega (arith, z .0) in absurd f) (λ e. let f : ⊥ = omega (arith, z .1) in absurd f) (ad .ends h))
+            (lt-or-le written (length out))
+
         -- under each setting that q stands for
         module _ (s : Setting) (n : ℕ) (t : Stands q s n) where
           P : Placed s n work frames row column corner taken written
@@ -207,8 +218,9 @@ module _ (q : Quantizer) (samples out₀ : List ℕ) (work₀ : List ℤ) where
             }
 
         -- a byte is finished and written
-        pub loop-byte : nx .whole ≡ true → written < length out₀ → Loop (set out written (nx .byte)) work′ (nx .frames) (nx .row) (nx .column) (nx .begun) (r .corner) (taken + m) (written + 1)
-        loop-byte h k =
+        pub loop-byte : nx .whole ≡ true → Loop (set out written (nx .byte)) work′ (nx .frames) (nx .row) (nx .column) (nx .begun) (r .corner) (taken + m) (written + 1)
+        loop-byte h =
+            let k : written < length out₀ = omega (arith, room-left h, L .outLong) in
             record {
               sound = sound-is;
               takenFits = end-fits;

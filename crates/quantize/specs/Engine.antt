@@ -74,6 +74,10 @@ pub record Holds (q : Quantizer) (work : List ℤ) (s : Setting) (xs : List ℕ)
 
 -- ---- the contracts
 
+-- a table for the rule: its side's numbers stand at the front
+abbrev pub Tabled : Quantize → List ℕ → Type 0
+Tabled rule table = Knows rule → ruleOf rule table ≡ meaning rule
+
 -- a new quantizer, whatever stands in a work buffer
 abbrev pub Opens : Quantize → ℕ → ℕ → ℕ → Quantizer → Type 0
 Opens rule w h frames q = Knows rule → 0 < w → 0 < h → (work : List ℤ) → Holds q work (setting rule w h frames) []

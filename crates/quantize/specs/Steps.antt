@@ -152,6 +152,7 @@ pub record Advances (w h frames row column m digits : ℕ) (r : Next) : Type 0 w
   pub inRow : r .column < w
   pub inFrame : r .row < h
   pub begunSmall : r .begun < 2 ^ (r .column % 8)
+  pub ends : r .whole ≡ true → (w ≤ column + m) ⊎ (8 ≤ column % 8 + m)
   pub moves : (s : Setting) (n : ℕ) → s .width ≡ w → s .height ≡ h → At s n frames row column → Moves s n m r
   pub byteIs : (s : Setting) (n : ℕ) (d : ℕ → ℕ) → s .width ≡ w → s .height ≡ h → At s n frames row column → digits ≡ begunBy (s .width) d n (n % s .width % 8 + m) → r .whole ≡ true
       → r .byte ≡ byteAt (s .width) d (count s n)

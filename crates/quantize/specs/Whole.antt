@@ -1,4 +1,4 @@
--- Whole planes: `quantize_gray8` and its like (document 01: 8, 29, 28, 22, and then 25, place 0).
+-- Whole planes: `quantize_gray8` and its like (document 01: 8, 29, 28, 22 and then 25, place 0).
 use Prim.Native.Nat.{ℕ, _+_, _*_}
 use mathlib.Core.Path.{_≡_}
 use mathlib.Core.Bool.{Bool, true, false, _||_}
@@ -22,18 +22,25 @@ knownRule (Threshold t) = true
 knownRule Dither = true
 knownRule (Ordered side) = knownSide side
 
+-- the refusal of so many samples and numbers of work, 0 where there is none
+abbrev pub refusedBy : Quantize → ℕ → ℕ → ℕ → ℕ → ℕ
+refusedBy rule w h gray work =
+    if (eqb w 0 || eqb h 0) 8
+    (if (knownRule rule)
+    (if (roomy (meaning rule) w work)
+    (if (leb (w * h) gray) 0 22)
+    28)
+    29)
+
 -- the plane of a scan of width × height samples; surplus gray is ignored
 unfoldable pub quantized : Quantize → ℕ → ℕ → List ℕ → ℕ → Answer (List ℕ)
 quantized rule w h gray work =
-    if (eqb w 0 || eqb h 0) (refuses 8 0)
-    (if (knownRule rule)
-    (if (roomy (meaning rule) w work)
-    (if (leb (w * h) (length gray)) (gives (finished (setting rule w h 1) (take (w * h) gray))) (refuses 22 0))
-    (refuses 28 0))
-    (refuses 29 0))
+    if (eqb (refusedBy rule w h (length gray) work) 0)
+    (gives (finished (setting rule w h 1) (take (w * h) gray)))
+    (refuses (refusedBy rule w h (length gray) work) 0)
 
--- the plane or the refusal; of the work buffer only dithering alters anything, and only the first 2 × width numbers
-pub record Quantizes (rule : Quantize) (w h : ℕ) (gray : List ℕ) (work work′ : List ℤ) (r : Answer ℕ) (out out′ : List ℕ) : Type 0 where
+-- the plane or the refusal; a work buffer is altered by dithering alone, where it is not refused, in its first 2 × width numbers
+pub record Quantizes (rule : Quantize) (w h : ℕ) (gray out : List ℕ) (work : List ℤ) (r : Answer ℕ) (out′ : List ℕ) (work′ : List ℤ) : Type 0 where
   pub emits : Emits (quantized rule w h gray (length work)) r out out′
   pub beyond : drop (2 * w) work′ ≡ drop (2 * w) work
   pub spared : (rule ≡ Dither → ⊥) → work′ ≡ work

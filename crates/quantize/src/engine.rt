@@ -1,12 +1,14 @@
 // The quantising engine, which whole planes and making sessions run.
 use crate::Quantize;
 use crate::dither::dither_dots;
+use crate::ordered::numbers;
 use crate::ordered::ordered_dots;
 use crate::threshold::threshold_dots;
 ghost use mathlib.Core.Path.{_≡_};
 ghost use Prim.Native.Nat.{ℕ, _+_, _-_, _*_, _^_, _≤_, _<_};
 ghost use lib.ListN.{length};
 ghost use Rattle.quantize.specs.Whole.{knownSide};
+ghost use Rattle.quantize.specs.Engine.{Opens, Runs, Tabled};
 ghost use Rattle.quantize.specs.Steps.{Able, Shares, Dotting, Dotted, Advancing, Advances};
 
 // Samples of at most so many frames on their way to bytes: the rule and the sizes, and where the next sample goes.
@@ -201,5 +203,103 @@ fn advance(
         begun: 0,
         byte: byte,
         whole: true,
+    }
+}
+
+// The ordered numbers of the rule's side, row by row, at the front.
+fn table_of(rule: Quantize) -> [u8; 64]
+    ensures { λ r. ⌜ Tabled rule r ⌝ }
+{
+    match rule {
+        Quantize::Threshold(_) => [0u8; 64],
+        Quantize::Dither => [0u8; 64],
+        Quantize::Ordered(side) => numbers(side),
+    }
+}
+
+impl Quantizer {
+    pub fn new(rule: Quantize, width: u32, height: u32, frames: u32) -> Quantizer
+        ensures { λ r. ⌜ Opens rule width height frames r ⌝ }
+    {
+        let table = table_of(rule);
+        Quantizer {
+            rule: rule,
+            table: table,
+            width: width as usize,
+            height: height as usize,
+            frames: frames as usize,
+            row: 0,
+            column: 0,
+            begun: 0,
+            corner: 128,
+        }
+    }
+
+    // Takes the most samples whose finished bytes fit.
+    pub fn run(self, samples: &[u8], out: &mut [u8], work: &mut [i16]) -> Ran
+        ensures { λ r. ⌜ Runs self (now (samples .entry)) (now (out .entry)) (now (work .entry)) r (now (out .exit)) (now (work .exit)) ⌝ }
+    {
+        let rule = self.rule;
+        let table = self.table;
+        let width = self.width;
+        let height = self.height;
+        let mut frames = self.frames;
+        let mut row = self.row;
+        let mut column = self.column;
+        let mut begun = self.begun;
+        let mut corner = self.corner;
+        let mut taken: usize = 0;
+        let mut written: usize = 0;
+        if !able(rule, width, height, row, column, begun, corner, work.len()) {
+            return Ran {
+                quantizer: self,
+                taken: 0,
+                written: 0,
+            };
+        }
+        while 0 < frames {
+            let m = share(width, column, samples.len() - taken, out.len() - written);
+            if m == 0 {
+                break;
+            }
+            let end = taken + m;
+            let p = dots(
+                rule,
+                &table,
+                width,
+                row,
+                column,
+                &samples[taken..end],
+                begun,
+                corner,
+                work,
+            );
+            let n = advance(width, height, frames, row, column, m, p.digits);
+            if n.whole {
+                out[written] = n.byte;
+                written += 1;
+            }
+            frames = n.frames;
+            row = n.row;
+            column = n.column;
+            begun = n.begun;
+            corner = p.corner;
+            taken = end;
+        }
+        Ran {
+            quantizer: Quantizer {
+                rule: rule,
+                table: table,
+                width: width,
+                height: height,
+                frames: frames,
+                row: row,
+                column: column,
+                begun: begun,
+                corner: corner,
+            },
+            taken: taken,
+            written: written,
+        }
     }
 }
