@@ -8,8 +8,8 @@ use native.Mathlib.Nat.{div-add-mod', mod-lt}
 use native.Mathlib.Omega.{arith}
 use borrow.Author.Tests.{eqb-true, leb-true, leb-false}
 use lib.Dec.{eqb, leb}
-use Rattle.quantize.specs.declared.Quantize.{Quantize}
-use Rattle.quantize.specs.declared.Quantize.the-variants.{Threshold, Dither, Ordered}
+use Rattle.options.specs.declared.Quantize.{Quantize}
+use Rattle.options.specs.declared.Quantize.the-variants.{Threshold, Dither, Ordered}
 use Rattle.quantize.specs.Whole.{knownSide}
 use Rattle.quantize.specs.Steps.{Known, Served, Sound, Able}
 use Rattle.quantize.proofs.Signed.{never}

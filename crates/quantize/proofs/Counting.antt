@@ -8,8 +8,9 @@ use native.Mathlib.Decide.{decLe}
 use native.Mathlib.Omega.{arith}
 use borrow.Author.Tests.{le-leb, lt-leb}
 use lib.Dec.{leb}
+use Rattle.image.specs.Geometry.{rowBytes}
 use Rattle.laws.proofs.Tests.{if-true, if-false}
-use Rattle.quantize.specs.Finished.{Setting, rowBytes, count, most, takes}
+use Rattle.quantize.specs.Finished.{Setting, count, most, takes}
 use Rattle.quantize.specs.Place.{At}
 use Rattle.quantize.proofs.Places.{next-row, count-at, count-is, at-inside, count-byte, count-row}
 

@@ -6,8 +6,8 @@ use mathlib.Core.List.{List}
 use lib.IntN.{ℤ}
 use lib.Dec.{leb}
 use lib.ListN.{length, getD, take}
-use Rattle.quantize.specs.declared.Quantize.{Quantize}
-use Rattle.quantize.specs.declared.Quantize.the-variants.{Threshold, Dither, Ordered}
+use Rattle.options.specs.declared.Quantize.{Quantize}
+use Rattle.options.specs.declared.Quantize.the-variants.{Threshold, Dither, Ordered}
 use Rattle.quantize.specs.declared.dither.Dithered.{Dithered}
 use Rattle.quantize.specs.declared.engine.Part.{Part}
 use Rattle.quantize.specs.Bits.{bit, appended}

@@ -12,8 +12,8 @@ use lib.IntN.{ℤ, subℕ}
 use lib.ListN.{length, getD, take, drop, length-append}
 use lib.Seq.{length-take-le}
 use Rattle.laws.proofs.Tests.{if-true, if-false}
-use Rattle.quantize.specs.declared.Quantize.{Quantize}
-use Rattle.quantize.specs.declared.Quantize.the-variants.{Threshold, Dither, Ordered}
+use Rattle.options.specs.declared.Quantize.{Quantize}
+use Rattle.options.specs.declared.Quantize.the-variants.{Threshold, Dither, Ordered}
 use Rattle.quantize.specs.declared.engine.Quantizer.{Quantizer}
 use Rattle.quantize.specs.declared.engine.Ran.{Ran}
 use Rattle.quantize.specs.Bits.{upto, digits}

@@ -20,3 +20,4 @@ pub mod Following
 pub mod Keeping
 pub mod Ending
 pub mod Opening
+pub mod Wholes

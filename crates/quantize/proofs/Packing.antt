@@ -6,8 +6,9 @@ use native.Mathlib.Nat.{mul-one}
 use native.Mathlib.Omega.{arith}
 use borrow.Author.Tests.{lt-ltb, le-ltb}
 use lib.Dec.{ltb}
+use Rattle.image.specs.Geometry.{rowBytes}
 use Rattle.quantize.specs.Bits.{appended, digits}
-use Rattle.quantize.specs.Finished.{Setting, rowBytes, count, bitAt, byteAt}
+use Rattle.quantize.specs.Finished.{Setting, count, bitAt, byteAt}
 use Rattle.quantize.specs.Place.{At, begunBy, Begun}
 use Rattle.quantize.proofs.Appending.{appended-add, appended-ext, digits-tail}
 use Rattle.quantize.proofs.Places.{div-at, mod-at, col-row, row-is, column-is, count-is, at-inside}

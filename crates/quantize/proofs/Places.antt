@@ -4,8 +4,9 @@ use Prim.Native.Nat.{ℕ, zero, suc, _+_, _-_, _*_, _/_, _%_, _≤_, _<_}
 use mathlib.Core.Path.{_≡_, refl, sym, ap, _∙_, subst}
 use native.Mathlib.Nat.{mul-add-div-right, mul-add-mod-self-right, mod-eq-of-lt, div-eq-of-lt, add-zero, add-mul, one-mul, add-assoc}
 use native.Mathlib.Omega.{arith}
+use Rattle.image.specs.Geometry.{rowBytes}
 use Rattle.quantize.specs.Rule.{Rule, threshold, dither, ordered}
-use Rattle.quantize.specs.Finished.{Setting, rowBytes, begunBytes, count}
+use Rattle.quantize.specs.Finished.{Setting, begunBytes, count}
 use Rattle.quantize.specs.Place.{At}
 
 -- ---- a number by row and column

@@ -8,8 +8,8 @@ use native.Mathlib.Omega.{arith}
 use lib.IntN.{ℤ}
 use lib.ListN.{length, getD, take, drop, set, length-set}
 use lib.Seq.{getD-take, getD-drop, drop-set-lt}
-use Rattle.quantize.specs.declared.Quantize.{Quantize}
-use Rattle.quantize.specs.declared.Quantize.the-variants.{Threshold, Dither, Ordered}
+use Rattle.options.specs.declared.Quantize.{Quantize}
+use Rattle.options.specs.declared.Quantize.the-variants.{Threshold, Dither, Ordered}
 use Rattle.quantize.specs.Bits.{bit}
 use Rattle.quantize.specs.Diffusion.{residual}
 use Rattle.quantize.specs.Rule.{Rule, threshold, dither, ordered}

@@ -5,6 +5,7 @@ use mathlib.Core.List.{List}
 use lib.Dec.{ltb, leb}
 use lib.ListN.{length, getD, drop}
 use Rattle.error.specs.Choice.{if}
+use Rattle.image.specs.Geometry.{rowBytes}
 use Rattle.quantize.specs.Bits.{upto, bit, digits}
 use Rattle.quantize.specs.Diffusion.{Scan}
 use Rattle.quantize.specs.Rule.{Rule, threshold, dither, ordered, dot}
@@ -15,10 +16,6 @@ pub record Setting : Type 0 where
   pub width : ℕ
   pub height : ℕ
   pub frames : ℕ
-
--- row bytes are width / 8 rounded up
-abbrev pub rowBytes : ℕ → ℕ
-rowBytes w = (w + 7) / 8
 
 -- how many bytes c samples of a begun row have finished, where the row is row y of its frame: the rule's say
 unfoldable pub begunBytes : Rule → ℕ → ℕ → ℕ

@@ -9,8 +9,8 @@ use lib.ListN.{length, take, drop}
 use Rattle.error.specs.Choice.{if}
 use Rattle.error.specs.Answer.{Answer, gives, refuses}
 use Rattle.error.specs.Emits.{Emits}
-use Rattle.quantize.specs.declared.Quantize.{Quantize}
-use Rattle.quantize.specs.declared.Quantize.the-variants.{Threshold, Dither, Ordered}
+use Rattle.options.specs.declared.Quantize.{Quantize}
+use Rattle.options.specs.declared.Quantize.the-variants.{Threshold, Dither, Ordered}
 use Rattle.quantize.specs.Finished.{finished}
 use Rattle.quantize.specs.Engine.{meaning, roomy, setting}
 

@@ -1,9 +1,9 @@
 // The quantising engine, which whole planes and making sessions run.
-use crate::Quantize;
 use crate::dither::dither_dots;
 use crate::ordered::numbers;
 use crate::ordered::ordered_dots;
 use crate::threshold::threshold_dots;
+use options::Quantize;
 ghost use mathlib.Core.Path.{_≡_};
 ghost use Prim.Native.Nat.{ℕ, _+_, _-_, _*_, _^_, _≤_, _<_};
 ghost use lib.ListN.{length};

@@ -3,13 +3,7 @@ mod dither;
 mod engine;
 mod ordered;
 mod threshold;
+mod whole;
 
 pub use engine::Quantizer;
 pub use engine::Ran;
-
-// How gray becomes black and white. An ordered rule names its side: 2, 4 or 8.
-pub enum Quantize {
-    Threshold(u8),
-    Dither,
-    Ordered(u8),
-}

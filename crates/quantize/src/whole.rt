@@ -1,0 +1,89 @@
+// Whole planes over the engine, one frame each.
+use crate::engine::Quantizer;
+use crate::engine::known;
+use error::BUFFER_TOO_SHORT;
+use error::GRAY_TOO_SHORT;
+use error::OUTPUT_TOO_SHORT;
+use error::UNKNOWN_SETTING;
+use error::WbmpError;
+use error::Written;
+use error::ZERO_DIMENSION;
+use options::Quantize;
+ghost use mathlib.Core.Path.{_≡_};
+ghost use lib.ListN.{length};
+ghost use Rattle.error.specs.Answer.{written};
+ghost use Rattle.error.specs.Emits.{Emits};
+ghost use Rattle.quantize.specs.Engine.{meaning};
+ghost use Rattle.quantize.specs.Engine;
+ghost use Rattle.quantize.specs.Whole.{knownRule, refusedBy, quantized, Quantizes};
+
+fn known_rule(rule: Quantize) -> bool
+    ensures { λ r. ⌜ r ≡ knownRule rule ⌝ }
+{
+    match rule {
+        Quantize::Threshold(_) => true,
+        Quantize::Dither => true,
+        Quantize::Ordered(side) => known(side),
+    }
+}
+
+// Whether a work buffer of so many numbers is long enough.
+fn roomy(rule: Quantize, width: u32, work: usize) -> bool
+    ensures { λ r. ⌜ r ≡ Engine.roomy (meaning rule) width work ⌝ }
+{
+    match rule {
+        Quantize::Threshold(_) => true,
+        Quantize::Dither => width as usize <= work / 2,
+        Quantize::Ordered(_) => true,
+    }
+}
+
+// The refusal of so many samples and numbers of work, or 0.
+fn refused(width: u32, height: u32, gray: usize, rule: Quantize, work: usize) -> u8
+    ensures { λ r. ⌜ r ≡ refusedBy rule width height gray work ⌝ }
+{
+    if width == 0 {
+        return ZERO_DIMENSION;
+    }
+    if height == 0 {
+        return ZERO_DIMENSION;
+    }
+    if !known_rule(rule) {
+        return UNKNOWN_SETTING;
+    }
+    if !roomy(rule, width, work) {
+        return BUFFER_TOO_SHORT;
+    }
+    let area = width as usize * height as usize;
+    if gray < area {
+        return GRAY_TOO_SHORT;
+    }
+    0
+}
+
+// Packs width × height gray samples into the plane's rows, at the front of the lent output.
+pub fn quantize_gray8(
+    width: u32,
+    height: u32,
+    gray: &[u8],
+    rule: Quantize,
+    work: &mut [i16],
+    out: &mut [u8],
+) -> Written
+    ensures { λ r. ⌜ Quantizes rule width height (now (gray .entry)) (now (out .entry)) (now (work .entry)) (written r) (now (out .exit)) (now (work .exit)) ⌝ }
+{
+    let code = refused(width, height, gray.len(), rule, work.len());
+    if code != 0 {
+        return Written::Refused(WbmpError { code, offset: 0 });
+    }
+    let need = (width as usize + 7) / 8 * height as usize;
+    if out.len() < need {
+        return Written::Refused(WbmpError {
+            code: OUTPUT_TOO_SHORT,
+            offset: 0,
+        });
+    }
+    let q = Quantizer::new(rule, width, height, 1);
+    let r = q.run(gray, out, work);
+    Written::Bytes(r.written)
+}
