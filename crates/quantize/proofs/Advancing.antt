@@ -1,17 +1,15 @@
 -- The four ways in which `advance` ends: inside a byte, at a byte's end, at a row's, at a frame's.
 -- Assumes nothing.
-use Prim.Native.Nat.{ℕ, zero, suc, _+_, _-_, _*_, _/_, _%_, _^_, _≤_, _<_}
-use mathlib.Core.Path.{_≡_, refl, sym, ap, _∙_, subst}
+use Prim.Native.Nat.{ℕ, _+_, _-_, _*_, _%_, _^_, _≤_, _<_}
+use mathlib.Core.Path.{_≡_, refl}
 use mathlib.Core.Bool.{true, false}
 use mathlib.Core.Logic.{inl, inr}
-use native.Mathlib.Nat.{add-zero}
 use native.Mathlib.Omega.{arith}
 use lib.Pow.{pow-pos}
 use Rattle.quantize.specs.declared.engine.Next.{Next}
-use Rattle.quantize.specs.Bits.{bit}
 use Rattle.quantize.specs.Finished.{Setting, count, byteAt}
-use Rattle.quantize.specs.Place.{At, begunBy, Begun}
-use Rattle.quantize.specs.Steps.{Advancing, Moves, Advances}
+use Rattle.quantize.specs.Place.{At, begunBy}
+use Rattle.quantize.specs.Steps.{Advancing, Advances}
 use Rattle.quantize.proofs.Signed.{never}
 use Rattle.quantize.proofs.Places.{column-is, at-inside, count-same, count-byte, count-row, at-row, at-frame}
 use Rattle.quantize.proofs.Packing.{byte-full, byte-last, begun-on, begun-none}

@@ -1,17 +1,17 @@
 -- The ordered numbers: the quarter rule, the table of 64, and the product form of the rule.
 -- Assumes nothing.
-use Prim.Native.Nat.{ℕ, zero, suc, _+_, _-_, _*_, _/_, _%_, _^_, _≤_, _<_}
+use Prim.Native.Nat.{ℕ, zero, suc, _+_, _*_, _/_, _%_, _^_, _≤_, _<_}
 use mathlib.Core.Path.{_≡_, refl, sym, ap, _∙_, subst}
-use mathlib.Core.Logic.{_⊎_, ⊎-elim}
+use mathlib.Core.Logic.{⊎-elim}
 use mathlib.Core.List.{List, [], _∷_}
 use native.Mathlib.Nat.{div-eq-of-lt, div-add-mod', mod-lt, mul-le-mul, mul-le-mul-left, mul-suc, mul-comm, mul-assoc, pow-suc}
 use native.Mathlib.Numerals.{add-one}
 use native.Mathlib.Omega.{arith}
-use lib.ListN.{length, getD, take, set}
+use lib.ListN.{length, take, set}
 use lib.Seq.{getD-take, take-suc-set}
 use lib.Dec.{leb}
 use borrow.Author.Tests.{le-leb, lt-leb}
-use Rattle.quantize.specs.Bits.{bit, upto}
+use Rattle.quantize.specs.Bits.{upto}
 use Rattle.quantize.specs.Ordered.{quarter, number, numbers, bound, cell}
 use Rattle.quantize.specs.Steps.{Known, Cell}
 use Rattle.quantize.proofs.Differences.{lt-or-le}

@@ -1,18 +1,17 @@
 -- The most samples whose finished bytes fit.
 -- Assumes nothing.
 use Prim.Native.Nat.{ℕ, zero, suc, _+_, _-_, _*_, _/_, _%_, _≤_, _<_, min}
-use mathlib.Core.Path.{_≡_, refl, sym, ap, _∙_, subst}
+use mathlib.Core.Path.{_≡_, sym, _∙_, subst}
 use mathlib.Core.Logic.{_⊎_, inl, inr, ⊎-elim}
-use native.Mathlib.Nat.{mod-lt, div-add-mod', eq-or-lt-of-le, add-zero, add-mul, one-mul, mul-le-mul-right, mul-assoc}
+use native.Mathlib.Nat.{mod-lt, div-add-mod', eq-or-lt-of-le, add-zero, add-mul, one-mul, mul-le-mul-right}
 use native.Mathlib.Decide.{decLe}
 use native.Mathlib.Omega.{arith}
 use borrow.Author.Tests.{le-leb, lt-leb}
-use lib.Dec.{leb}
 use Rattle.image.specs.Geometry.{rowBytes}
 use Rattle.laws.proofs.Tests.{if-true, if-false}
 use Rattle.quantize.specs.Finished.{Setting, count, most, takes}
 use Rattle.quantize.specs.Place.{At}
-use Rattle.quantize.proofs.Places.{next-row, count-at, count-is, at-inside, count-byte, count-row}
+use Rattle.quantize.proofs.Places.{next-row, count-at, count-byte, count-row}
 
 count-up : (s : Setting) (n : ℕ) → 0 < s .width → count s n ≤ count s (n + 1)
 count-up s n p =

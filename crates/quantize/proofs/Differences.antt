@@ -1,19 +1,17 @@
 -- The numbers of the definition as differences `subℕ n b` of two natural numbers, in which all of the code's sums are sums in ℕ.
 -- Assumes nothing.
-use mathlib.Core.Path.{_≡_, refl, sym, ap, _∙_, subst}
-use mathlib.Core.Bool.{Bool, true, false}
+use mathlib.Core.Path.{_≡_, refl, sym, ap, _∙_}
+use mathlib.Core.Bool.{true, false}
 use mathlib.Core.Logic.{_⊎_, inl, inr, ⊎-elim}
-use Prim.Native.Nat.{ℕ, zero, suc, _+_, _*_, _-_, _/_, _≤_, _<_, min}
+use Prim.Native.Nat.{ℕ, zero, suc, _+_, _*_, _-_, _/_, _≤_, _<_}
 use native.Mathlib.Omega.{arith}
 use native.Mathlib.Nat.{mul-add}
 use native.Mathlib.Decide.{decLt}
-use lib.Dec.{T, ltb, leb, ltb→lt, nltb→le}
-use lib.IntN.{ℤ, pos, negsuc, negℤ, subℕ, _+ℤ_, _-ℤ_, _*ℤ_}
-use lib.Signed.{leZ}
+use lib.IntN.{ℤ, pos, negsuc, negℤ, subℕ, _+ℤ_}
 use borrow.Author.Tests.{lt-ltb, le-ltb, le-leb, lt-leb}
 use Rattle.quantize.specs.Diffusion.{round16, part, value, white, residual}
 use Rattle.quantize.specs.Bits.{bit}
-use Rattle.quantize.specs.Steps.{Biased, Stepped}
+use Rattle.quantize.specs.Steps.{Stepped}
 
 pub lt-or-le : (a b : ℕ) → (a < b) ⊎ (b ≤ a)
 lt-or-le a b = elim (decLt a b) [ yes h ↦ inl h | no h ↦ inr (omega arith) ]

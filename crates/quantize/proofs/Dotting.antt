@@ -9,10 +9,9 @@ use lib.ListN.{length, getD, take}
 use Rattle.options.specs.declared.Quantize.{Quantize}
 use Rattle.options.specs.declared.Quantize.the-variants.{Threshold, Dither, Ordered}
 use Rattle.quantize.specs.declared.dither.Dithered.{Dithered}
-use Rattle.quantize.specs.declared.engine.Part.{Part}
 use Rattle.quantize.specs.Bits.{bit, appended}
 use Rattle.quantize.specs.Ordered.{bound}
-use Rattle.quantize.specs.Rule.{Rule, threshold, dither, ordered}
+use Rattle.quantize.specs.Rule.{threshold, ordered}
 use Rattle.quantize.specs.Machine.{Carry, machineDot, next}
 use Rattle.quantize.specs.Steps.{rowCarry, rowBit, thresholdBit, orderedBit, Known, Served, carryOf, Diffuses, Dotted}
 use Rattle.quantize.proofs.Appending.{appended-ext}

@@ -1,14 +1,14 @@
 -- What `run` promises, from its loop's invariant where the loop ends, and where nothing can be taken.
 -- Assumes nothing.
-use Prim.Native.Nat.{ℕ, zero, suc, _+_, _-_, _*_, _/_, _%_, _^_, _≤_, _<_}
+use Prim.Native.Nat.{ℕ, _+_, _-_, _*_, _/_, _%_, _≤_, _<_}
 use mathlib.Core.Path.{_≡_, refl, sym, ap, _∙_, subst}
-use mathlib.Core.Bool.{Bool, true, false}
+use mathlib.Core.Bool.{true, false}
 use mathlib.Core.Logic.{_⊎_, inl, inr, ⊎-elim}
-use mathlib.Core.List.{List, [], _++_, append-nil}
+use mathlib.Core.List.{List, _++_, append-nil}
 use native.Mathlib.Nat.{add-zero}
 use native.Mathlib.Omega.{arith}
 use borrow.Author.Tests.{le-leb, lt-leb, leb-true}
-use lib.IntN.{ℤ, subℕ}
+use lib.IntN.{ℤ}
 use lib.ListN.{length, getD, take, drop, length-append}
 use lib.Seq.{length-take-le}
 use Rattle.laws.proofs.Tests.{if-true, if-false}
@@ -16,11 +16,11 @@ use Rattle.options.specs.declared.Quantize.{Quantize}
 use Rattle.options.specs.declared.Quantize.the-variants.{Threshold, Dither, Ordered}
 use Rattle.quantize.specs.declared.engine.Quantizer.{Quantizer}
 use Rattle.quantize.specs.declared.engine.Ran.{Ran}
-use Rattle.quantize.specs.Bits.{upto, digits}
+use Rattle.quantize.specs.Bits.{upto}
 use Rattle.quantize.specs.Rule.{Rule, dither}
 use Rattle.quantize.specs.Finished.{Setting, count, bitAt, byteAt, dotOf, finished, takes}
 use Rattle.quantize.specs.Machine.{Carry, carried, machineBit}
-use Rattle.quantize.specs.Place.{At, begunBy, Begun}
+use Rattle.quantize.specs.Place.{begunBy, Begun}
 use Rattle.quantize.specs.Steps.{carryOf, ruleOf, Served, Sound, Shares}
 use Rattle.quantize.specs.Engine.{Knows, roomy, Stands, Keeps, Holds, Counts, Machines, Defined, Runs}
 use Rattle.quantize.proofs.Differences.{lt-or-le}
@@ -29,8 +29,8 @@ use Rattle.quantize.proofs.Range.{Held}
 use Rattle.quantize.proofs.Grown.{length-upto, drop-upto}
 use Rattle.quantize.proofs.Packing.{bit-in}
 use Rattle.quantize.proofs.Counting.{takes-all, next-byte}
-use Rattle.quantize.proofs.Keeping.{dotOf-stays, joined-long, keeps-at-end, machine-is}
-use Rattle.quantize.proofs.Running.{Loop, Placed, Packed, Fed}
+use Rattle.quantize.proofs.Keeping.{dotOf-stays, keeps-at-end, machine-is}
+use Rattle.quantize.proofs.Running.{Loop, Placed}
 use native.Mathlib.Nat.{mod-lt, div-add-mod'}
 
 -- ---- the work buffer

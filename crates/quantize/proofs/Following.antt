@@ -1,26 +1,23 @@
 -- THE MACHINE FOLLOWS THE DEFINITION: one sample of dithering. The machine's dot is the definition's, and what it keeps are the definition's residuals.
 -- Assumes nothing.
-use Prim.Native.Nat.{ℕ, zero, suc, _+_, _-_, _*_, _/_, _%_, _≤_, _<_}
+use Prim.Native.Nat.{ℕ, zero, suc, _+_, _≤_, _<_}
 use mathlib.Core.Path.{_≡_, refl, sym, ap, _∙_, subst}
-use mathlib.Core.Bool.{Bool, true, false}
-use mathlib.Core.Logic.{_⊎_, inl, inr, ⊎-elim}
+use mathlib.Core.Logic.{⊎-elim}
 use mathlib.Core.List.{List}
 use native.Mathlib.Numerals.{add-one}
 use native.Mathlib.Nat.{eq-or-lt-of-le}
 use native.Mathlib.Omega.{arith}
 use borrow.Author.Tests.{lt-ltb, le-ltb}
-use lib.Dec.{ltb}
 use lib.IntN.{ℤ, pos}
-use lib.ListN.{length, getD, set}
+use lib.ListN.{length, getD}
 use lib.Seq.{getD-set-same, getD-set-other}
-use Rattle.error.specs.Choice.{if}
-use Rattle.quantize.specs.Diffusion.{Scan, value, white, residual, onLeft, onRight, above, valueAt, residualAt}
+use Rattle.quantize.specs.Diffusion.{Scan, residual, onLeft, onRight, above, valueAt, residualAt}
 use Rattle.quantize.specs.Rule.{rightwards}
 use Rattle.quantize.specs.Machine.{Carry, clamp, leftOf, cornerOf, overOf, valueOf, diffused}
 use Rattle.quantize.specs.Engine.{Diffusion}
 use Rattle.quantize.proofs.Differences.{lt-or-le}
 use Rattle.quantize.proofs.Range.{Held, within, held, clamp-same, clamp-held, residual-held}
-use Rattle.quantize.proofs.Reading.{left-at, corner-at, over-in, over-past, over-top}
+use Rattle.quantize.proofs.Reading.{over-in, over-past, over-top}
 use Rattle.quantize.proofs.Causes.{above-ext, residual-is, value-is, above-top}
 
 held-zero : Held (pos 0)

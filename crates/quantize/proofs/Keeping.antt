@@ -1,15 +1,12 @@
 -- The machine over a list of samples: its dots are the definition's, and what it keeps is what `Keeps` says.
 -- Assumes nothing.
 use Prim.Native.Nat.{ℕ, zero, suc, _+_, _-_, _*_, _/_, _%_, _≤_, _<_}
-use mathlib.Core.Path.{_≡_, refl, sym, ap, _∙_, subst}
-use mathlib.Core.Bool.{Bool, true, false}
-use mathlib.Core.Logic.{_⊎_, inl, inr, ⊎-elim}
+use mathlib.Core.Path.{_≡_, refl, sym, ap, _∙_}
+use mathlib.Core.Logic.{⊎-elim}
 use mathlib.Core.List.{List, [], _∷_, _++_, append-assoc, append-nil}
-use native.Mathlib.Nat.{mod-lt, div-add-mod', eq-or-lt-of-le, add-zero, add-mul, one-mul, mul-le-mul-right, add-assoc}
-use native.Mathlib.Numerals.{add-one}
+use native.Mathlib.Nat.{mod-lt, div-add-mod', eq-or-lt-of-le, add-mul, one-mul, mul-le-mul-right, add-assoc}
 use native.Mathlib.Omega.{arith}
 use lib.Dec.{leb}
-use lib.IntN.{ℤ, pos}
 use lib.ListN.{length, getD, take, drop, length-append, List·getD-append}
 use lib.Seq.{take-suc, take-add, getD-append-seam, length-take-le}
 use Rattle.quantize.specs.Bits.{bit}

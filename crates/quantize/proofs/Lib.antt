@@ -21,3 +21,4 @@ pub mod Keeping
 pub mod Ending
 pub mod Opening
 pub mod Wholes
+pub mod Residuals

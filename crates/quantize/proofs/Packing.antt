@@ -1,11 +1,10 @@
 -- Bytes as their dots come: the begun byte after more dots, and a byte that is finished.
 -- Assumes nothing.
-use Prim.Native.Nat.{ℕ, zero, suc, _+_, _-_, _*_, _/_, _%_, _^_, _≤_, _<_}
-use mathlib.Core.Path.{_≡_, refl, sym, ap, _∙_, subst}
+use Prim.Native.Nat.{ℕ, _+_, _-_, _*_, _/_, _%_, _^_, _≤_, _<_}
+use mathlib.Core.Path.{_≡_, sym, ap, _∙_}
 use native.Mathlib.Nat.{mul-one}
 use native.Mathlib.Omega.{arith}
 use borrow.Author.Tests.{lt-ltb, le-ltb}
-use lib.Dec.{ltb}
 use Rattle.image.specs.Geometry.{rowBytes}
 use Rattle.quantize.specs.Bits.{appended, digits}
 use Rattle.quantize.specs.Finished.{Setting, count, bitAt, byteAt}

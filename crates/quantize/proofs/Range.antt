@@ -1,14 +1,14 @@
 -- Every residual stays within -128 .. 128: some number of at most 256 holds it.
 -- Assumes nothing.
-use mathlib.Core.Path.{_≡_, refl, sym, ap, _∙_}
+use mathlib.Core.Path.{_≡_, sym, ap, _∙_}
 use mathlib.Core.Logic.{⊎-elim}
-use Prim.Native.Nat.{ℕ, zero, suc, _+_, _*_, _-_, _/_, _≤_, _<_, min}
+use Prim.Native.Nat.{ℕ, suc, _+_, _*_, _-_, _/_, _≤_, _<_, min}
 use native.Mathlib.Omega.{arith}
 use native.Mathlib.Nat.{mul-le-mul-left}
 use lib.IntN.{ℤ, pos, negsuc, subℕ, natAbs}
-use Rattle.quantize.specs.Diffusion.{part, value, residual}
+use Rattle.quantize.specs.Diffusion.{value, residual}
 use Rattle.quantize.specs.Machine.{clamp}
-use Rattle.quantize.specs.Steps.{Biased, Parted, Stepped}
+use Rattle.quantize.specs.Steps.{Biased, Parted}
 use Rattle.quantize.proofs.Differences.{lt-or-le, sub-neg, sub-pos, part-pos, part-neg, value-is, stepped-white, stepped-black}
 
 -- some number holds z

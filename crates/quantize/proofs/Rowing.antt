@@ -1,21 +1,20 @@
 -- The invariant of `dither_dots`, that a turn keeps it, and what it says at the end.
 -- Assumes nothing.
-use Prim.Native.Nat.{ℕ, zero, suc, _+_, _-_, _*_, _≤_, _<_}
+use Prim.Native.Nat.{ℕ, suc, _+_, _*_, _≤_, _<_}
 use mathlib.Core.Path.{_≡_, refl, sym, ap, _∙_, subst}
 use mathlib.Core.List.{List}
-use native.Mathlib.Nat.{add-zero, add-assoc}
+use native.Mathlib.Nat.{add-zero}
 use native.Mathlib.Numerals.{add-one}
 use native.Mathlib.Omega.{arith}
 use lib.IntN.{ℤ, pos, subℕ}
 use lib.ListN.{length, getD, set, length-set}
 use lib.Seq.{getD-set-same}
-use Rattle.quantize.specs.declared.dither.Dithered.{Dithered}
 use Rattle.quantize.specs.Bits.{bit, appended}
 use Rattle.quantize.specs.Diffusion.{value, white, residual}
 use Rattle.quantize.specs.Rule.{Rule, dither}
 use Rattle.quantize.specs.Machine.{Carry, clamp, leftOf, cornerOf, overOf, valueOf, diffused, machineDot, next}
 use Rattle.quantize.specs.Steps.{Biased, Stepped, rowCarry, rowBit, carryOf, Diffuses}
-use Rattle.quantize.proofs.Range.{Held, within, clamp-same}
+use Rattle.quantize.proofs.Range.{within, clamp-same}
 use Rattle.quantize.proofs.Reading.{left-at, corner-at}
 use Rattle.quantize.proofs.Appending.{bit-le, one-more}
 

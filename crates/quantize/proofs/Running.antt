@@ -1,23 +1,21 @@
 -- The invariant of `run`'s loop, and that a turn keeps it.
 -- Assumes nothing.
-use Prim.Native.Nat.{ℕ, zero, suc, _+_, _-_, _*_, _/_, _%_, _^_, _≤_, _<_}
+use Prim.Native.Nat.{ℕ, _+_, _-_, _*_, _%_, _^_, _≤_, _<_}
 use mathlib.Core.Path.{_≡_, refl, sym, ap, _∙_, subst}
-use mathlib.Core.Bool.{Bool, true, false}
-use mathlib.Core.List.{List, [], _++_}
+use mathlib.Core.Bool.{true, false}
+use mathlib.Core.List.{List, _++_}
 use mathlib.Core.Logic.{⊎-elim}
 use native.Mathlib.Nat.{add-zero, add-assoc, lt-of-lt-of-le}
-use native.Mathlib.Numerals.{add-one}
 use native.Mathlib.Omega.{arith}
 use lib.IntN.{ℤ}
 use lib.Pow.{pow-mono}
-use lib.ListN.{length, getD, take, drop, set, length-set, length-take, length-drop}
+use lib.ListN.{length, take, drop, set, length-set, length-take, length-drop}
 use lib.Seq.{drop-set-lt, drop-drop}
-use Rattle.options.specs.declared.Quantize.{Quantize}
-use Rattle.options.specs.declared.Quantize.the-variants.{Threshold, Dither, Ordered}
+use Rattle.options.specs.declared.Quantize.the-variants.{Dither}
 use Rattle.quantize.specs.declared.engine.Quantizer.{Quantizer}
 use Rattle.quantize.specs.declared.engine.Part.{Part}
 use Rattle.quantize.specs.declared.engine.Next.{Next}
-use Rattle.quantize.specs.Bits.{bit, upto, appended}
+use Rattle.quantize.specs.Bits.{bit, upto}
 use Rattle.quantize.specs.Rule.{Rule}
 use Rattle.quantize.specs.Finished.{Setting, count, byteAt}
 use Rattle.quantize.specs.Machine.{Carry, carried, machineBit}

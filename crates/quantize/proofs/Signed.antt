@@ -1,16 +1,15 @@
 -- Signed arithmetic at 16 bits: what `lift` and `lower` compute, by the sign of their argument.
 -- Assumes nothing.
-use mathlib.Core.Path.{_≡_, refl, sym, ap, _∙_, subst}
-use mathlib.Core.Bool.{Bool, true, false}
-use Prim.Native.Nat.{ℕ, zero, suc, _+_, _*_, _-_, _/_, _≤_, _<_, _^_, min}
+use mathlib.Core.Path.{_≡_, sym, ap, _∙_, subst}
+use mathlib.Core.Bool.{true, false}
+use Prim.Native.Nat.{ℕ, suc, _+_, _-_, _≤_}
 use native.Mathlib.Omega.{arith}
-use native.Mathlib.Nat.{zero-add}
-use lib.Dec.{T, ltb, leb}
-use lib.IntN.{ℤ, pos, negsuc, negℤ, subℕ, natAbs, _+ℤ_, _-ℤ_, _*ℤ_, +ℤ-idl}
-use lib.Signed.{leZ, ltZ, mag, quotZ, nonNeg}
+use lib.Dec.{T}
+use lib.IntN.{ℤ, pos, negsuc, subℕ, natAbs, _+ℤ_}
+use lib.Signed.{ltZ, nonNeg}
 use mir.Syntax.{w16, w32}
-use mir.Val.{Fits, SFits, toZ, ofZ}
-use borrow.Author.Tests.{lt-ltb, le-ltb, le-leb, lt-leb, ltb-true, ltb-false}
+use mir.Val.{Fits, SFits}
+use borrow.Author.Tests.{ltb-true, ltb-false}
 use Rattle.quantize.specs.Machine.{clamp}
 use Rattle.quantize.specs.Steps.{Biased}
 use mathlib.Core.Logic.{⊎-elim}

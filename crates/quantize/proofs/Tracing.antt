@@ -1,20 +1,18 @@
 -- The running machine along a part of a row, and what it leaves alone.
 -- Assumes nothing.
 use Prim.Native.Nat.{ℕ, zero, suc, _+_, _-_, _*_, _/_, _%_, _≤_, _<_}
-use mathlib.Core.Path.{_≡_, refl, sym, ap, _∙_, subst}
+use mathlib.Core.Path.{_≡_, refl, sym, ap, _∙_}
 use mathlib.Core.List.{List}
 use native.Mathlib.Nat.{add-zero, add-suc, add-assoc}
 use native.Mathlib.Omega.{arith}
-use lib.IntN.{ℤ}
-use lib.ListN.{length, getD, take, drop, set, length-set}
+use lib.ListN.{length, getD, take, drop, length-set}
 use lib.Seq.{getD-take, getD-drop, drop-set-lt}
 use Rattle.options.specs.declared.Quantize.{Quantize}
 use Rattle.options.specs.declared.Quantize.the-variants.{Threshold, Dither, Ordered}
-use Rattle.quantize.specs.Bits.{bit}
 use Rattle.quantize.specs.Diffusion.{residual}
 use Rattle.quantize.specs.Rule.{Rule, threshold, dither, ordered}
 use Rattle.quantize.specs.Finished.{Setting}
-use Rattle.quantize.specs.Machine.{Carry, valueOf, diffused, machineDot, next, carried, machineBit}
+use Rattle.quantize.specs.Machine.{Carry, valueOf, diffused, next, carried, machineBit}
 use Rattle.quantize.specs.Place.{At}
 use Rattle.quantize.specs.Steps.{rowCarry, rowBit, ruleOf}
 use Rattle.quantize.proofs.Dotting.{threshold-carry, ordered-carry}

@@ -1,11 +1,11 @@
 -- Whole planes: the refusals in their order, and that one frame takes all of its samples.
 -- Assumes nothing.
-use Prim.Native.Nat.{ℕ, zero, suc, _+_, _-_, _*_, _/_, _≤_, _<_, min}
+use Prim.Native.Nat.{ℕ, _+_, _-_, _*_, _/_, _≤_, _<_, min}
 use mathlib.Core.Path.{_≡_, refl, sym, ap, _∙_, subst}
 use mathlib.Core.Bool.{Bool, true, false, _||_}
-use mathlib.Core.Logic.{inl, inr, ⊎-elim}
+use mathlib.Core.Logic.{inl, ⊎-elim}
 use mathlib.Core.List.{List, [], _++_}
-use native.Mathlib.Nat.{zero-mul, zero-mod, zero-div, add-zero, zero-add, one-mul, mul-comm, mul-le-mul}
+use native.Mathlib.Nat.{zero-mul, add-zero, zero-add, one-mul, mul-comm, mul-le-mul}
 use native.Mathlib.Omega.{arith}
 use borrow.Author.Tests.{ne-eqb, eqb-false, le-leb, lt-leb, leb-true}
 use lib.Dec.{eqb, leb}
@@ -14,7 +14,7 @@ use lib.ListN.{length, take, drop, length-take}
 use Rattle.error.specs.Choice.{if}
 use Rattle.error.specs.Answer.{Answer, gives, refuses}
 use Rattle.error.specs.Emits.{Emits}
-use Rattle.laws.proofs.Tests.{if-true, if-false, zero-one}
+use Rattle.laws.proofs.Tests.{if-true, zero-one}
 use Rattle.laws.proofs.Writers.{emits-none, emits-all}
 use Rattle.options.specs.declared.Quantize.{Quantize}
 use Rattle.options.specs.declared.Quantize.the-variants.{Threshold, Dither, Ordered}
@@ -25,7 +25,7 @@ use Rattle.quantize.specs.Rule.{dither}
 use Rattle.quantize.specs.Finished.{Setting, count, byteAt, dotOf, finished, takes}
 use Rattle.quantize.specs.Steps.{ruleOf}
 use Rattle.quantize.specs.Engine.{meaning, Knows, roomy, setting, Opens, Holds, Runs}
-use Rattle.quantize.specs.Whole.{knownSide, knownRule, refusedBy, quantized, Quantizes}
+use Rattle.quantize.specs.Whole.{knownRule, refusedBy, quantized, Quantizes}
 use Rattle.quantize.proofs.Differences.{lt-or-le}
 use Rattle.quantize.proofs.Abilities.{known-yes}
 use Rattle.quantize.proofs.Places.{count-at}

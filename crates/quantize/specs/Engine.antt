@@ -1,5 +1,5 @@
 -- What a `Quantizer` stands for, and what `new` and `run` promise.
-use Prim.Native.Nat.{ℕ, _+_, _-_, _*_, _/_, _%_, _^_, _≤_, _<_}
+use Prim.Native.Nat.{ℕ, _+_, _*_, _/_, _%_, _^_, _≤_, _<_}
 use mathlib.Core.Path.{_≡_}
 use mathlib.Core.Bool.{Bool, true}
 use mathlib.Core.List.{List, [], _++_}
@@ -15,7 +15,7 @@ use Rattle.quantize.specs.Bits.{upto}
 use Rattle.quantize.specs.Diffusion.{Scan, onLeft, above, residualAt}
 use Rattle.quantize.specs.Ordered.{numbers, exponent}
 use Rattle.quantize.specs.Rule.{Rule, threshold, dither, ordered, rightwards}
-use Rattle.quantize.specs.Finished.{Setting, count, frame, dotOf, byteAt, finished, newly, takes}
+use Rattle.quantize.specs.Finished.{Setting, count, frame, dotOf, byteAt, newly, takes}
 use Rattle.quantize.specs.Machine.{Carry, clamp, carried, machineBit}
 use Rattle.quantize.specs.Place.{At, Begun}
 use Rattle.quantize.specs.Steps.{Known, carryOf, ruleOf}

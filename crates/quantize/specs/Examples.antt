@@ -1,1 +1,93 @@
--- Worked examples.
+-- Worked examples, among them document 01's P8 to P12.
+use Prim.Native.Nat.{ℕ}
+use mathlib.Core.Path.{_≡_, refl}
+use mathlib.Core.Bool.{true}
+use mathlib.Core.List.{List, [], _∷_}
+use lib.IntN.{pos, negsuc}
+use lib.ListN.{replicate}
+use Rattle.options.specs.declared.Quantize.the-variants.{Threshold, Dither, Ordered}
+use Rattle.quantize.specs.Bits.{upto, appended}
+use Rattle.quantize.specs.Diffusion.{round16, part, value, white, residual, valueFrom, handed, rowValue, above, valueAt, residualAt}
+use Rattle.quantize.specs.Ordered.{number, numbers, bound}
+use Rattle.quantize.specs.Rule.{dither, rightwards, dot}
+use Rattle.quantize.specs.Finished.{begunBytes, count, frame, dotOf, bitAt, byteAt, finished, most, takes}
+use Rattle.quantize.specs.Engine.{setting}
+
+-- P8
+two-in-a-row : finished (setting Dither 2 1 1) (127 ∷ 128 ∷ []) ≡ 0x40 ∷ []
+unfolding upto appended part value white residual valueFrom handed rowValue above valueAt dot begunBytes count frame dotOf bitAt byteAt finished
+two-in-a-row = refl
+
+-- P9
+column : finished (setting Dither 1 2 1) (128 ∷ 128 ∷ []) ≡ 0x80 ∷ 0x00 ∷ []
+unfolding upto appended part value white residual valueFrom handed rowValue above valueAt dot begunBytes count frame dotOf bitAt byteAt finished
+column = refl
+
+-- P10
+seven : round16 (pos 7) ≡ pos 0
+seven = refl
+
+eight : round16 (pos 8) ≡ pos 1
+eight = refl
+
+less-seven : round16 (negsuc 6) ≡ pos 0
+less-seven = refl
+
+less-eight : round16 (negsuc 7) ≡ negsuc 0
+less-eight = refl
+
+-- P11
+one-is-black : finished (setting (Ordered 8) 1 1 1) (1 ∷ []) ≡ 0x00 ∷ []
+unfolding upto appended number numbers bound dot begunBytes count frame dotOf bitAt byteAt finished
+one-is-black = refl
+
+two-is-white : finished (setting (Ordered 8) 1 1 1) (2 ∷ []) ≡ 0x80 ∷ []
+unfolding upto appended number numbers bound dot begunBytes count frame dotOf bitAt byteAt finished
+two-is-white = refl
+
+-- P12
+all-white : finished (setting (Threshold 0) 9 1 1) (replicate 9 0) ≡ 0xff ∷ 0x80 ∷ []
+unfolding upto appended dot begunBytes count frame dotOf bitAt byteAt finished
+all-white = refl
+
+-- a begun row has finished its whole bytes only, and a full row all of them
+begun : finished (setting (Threshold 128) 9 2 1) (replicate 8 255) ≡ 0xff ∷ []
+unfolding upto appended dot begunBytes count frame dotOf bitAt byteAt finished
+begun = refl
+
+-- without room seven samples of eight are taken, and of a narrow row all but the last
+seven-of-eight : takes (setting (Threshold 128) 9 2 1) 0 20 0 ≡ 7
+unfolding begunBytes count most takes
+seven-of-eight = refl
+
+none-of-one : takes (setting (Threshold 128) 1 2 1) 0 20 0 ≡ 0
+unfolding begunBytes count most takes
+none-of-one = refl
+
+-- the second frame starts clean, and its rows are counted from 0
+second-frame : finished (setting Dither 1 1 2) (127 ∷ 127 ∷ []) ≡ 0x00 ∷ 0x00 ∷ []
+unfolding upto appended part value white residual valueFrom handed rowValue above valueAt dot begunBytes count frame dotOf bitAt byteAt finished
+second-frame = refl
+
+-- the side 2: 0 and 2 above 3 and 1
+side-two : numbers 1 ≡ 0 ∷ 2 ∷ 3 ∷ 1 ∷ []
+unfolding upto number numbers
+side-two = refl
+
+-- ---- both ends of the range are reached
+
+abbrev light : List ℕ
+light = 0x7f ∷ 0x47 ∷ 0x47 ∷ 0x3f ∷ 0xff ∷ []
+
+most-residual : residualAt rightwards 3 (frame 3 2 light 0) 1 1 ≡ pos 128
+unfolding part value white residual valueFrom handed rowValue above frame
+most-residual = refl
+
+least-residual : residualAt rightwards 3 (frame 3 2 (0x80 ∷ 0xb8 ∷ 0xb8 ∷ 0xc0 ∷ 0x00 ∷ []) 0) 1 1 ≡ negsuc 127
+unfolding part value white residual valueFrom handed rowValue above frame
+least-residual = refl
+
+-- what a dot receives makes gray 0 white
+black-is-white : dot dither 3 (frame 3 2 (0x7f ∷ 0x47 ∷ 0x47 ∷ 0x3f ∷ 0x00 ∷ []) 0) 1 1 ≡ true
+unfolding part value white residual valueFrom handed rowValue above valueAt dot frame
+black-is-white = refl

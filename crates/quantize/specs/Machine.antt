@@ -1,6 +1,6 @@
 -- The running machine: it goes from sample to sample and keeps, beside its place, one number for each column and one more.
 -- The numbers stand in a lent buffer, so each is clamped where it is read; numbers that the machine left there are as it left them.
-use Prim.Native.Nat.{ℕ, zero, suc, _+_, _*_, _/_, _%_, min}
+use Prim.Native.Nat.{ℕ, zero, suc, _+_, _/_, _%_, min}
 use mathlib.Core.Bool.{Bool, _&&_}
 use mathlib.Core.List.{List}
 use lib.Dec.{ltb, leb}

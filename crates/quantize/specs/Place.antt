@@ -1,5 +1,5 @@
 -- Where the next sample goes, and what the begun byte holds.
-use Prim.Native.Nat.{ℕ, _+_, _-_, _*_, _/_, _%_, _^_, _≤_, _<_}
+use Prim.Native.Nat.{ℕ, _+_, _-_, _*_, _/_, _%_, _≤_, _<_}
 use mathlib.Core.Path.{_≡_}
 use Rattle.quantize.specs.Bits.{digits}
 use Rattle.quantize.specs.Finished.{Setting, bitAt}

@@ -7,3 +7,8 @@ mod whole;
 
 pub use engine::Quantizer;
 pub use engine::Ran;
+pub use whole::dither_bits;
+pub use whole::from_gray8;
+pub use whole::ordered_bits;
+pub use whole::quantize_gray8;
+pub use whole::threshold_bits;

@@ -12,6 +12,7 @@ use options::Quantize;
 ghost use mathlib.Core.Path.{_≡_};
 ghost use lib.ListN.{length};
 ghost use Rattle.error.specs.Answer.{written};
+ghost use Rattle.options.specs.declared.Quantize.the-variants.{Threshold, Dither, Ordered};
 ghost use Rattle.error.specs.Emits.{Emits};
 ghost use Rattle.quantize.specs.Engine.{meaning};
 ghost use Rattle.quantize.specs.Engine;
@@ -86,4 +87,59 @@ pub fn quantize_gray8(
     let q = Quantizer::new(rule, width, height, 1);
     let r = q.run(gray, out, work);
     Written::Bytes(r.written)
+}
+
+pub fn from_gray8(
+    width: u32,
+    height: u32,
+    gray: &[u8],
+    quantize: Quantize,
+    work: &mut [i16],
+    out: &mut [u8],
+) -> Written
+    ensures { λ r. ⌜ Quantizes quantize width height (now (gray .entry)) (now (out .entry)) (now (work .entry)) (written r) (now (out .exit)) (now (work .exit)) ⌝ }
+{
+    quantize_gray8(width, height, gray, quantize, work, out)
+}
+
+// White from `threshold` on. No work buffer is needed.
+pub fn threshold_bits(
+    width: u32,
+    height: u32,
+    gray: &[u8],
+    threshold: u8,
+    out: &mut [u8],
+) -> Written
+    ensures { λ r. ⌜ Emits (quantized (Threshold threshold) width height (now (gray .entry)) 0) (written r) (now (out .entry)) (now (out .exit)) ⌝ }
+{
+    let mut work = [0i16; 1];
+    quantize_gray8(
+        width,
+        height,
+        gray,
+        Quantize::Threshold(threshold),
+        &mut work,
+        out,
+    )
+}
+
+// Floyd and Steinberg's dithering.
+pub fn dither_bits(
+    width: u32,
+    height: u32,
+    gray: &[u8],
+    work: &mut [i16],
+    out: &mut [u8],
+) -> Written
+    ensures { λ r. ⌜ Quantizes Dither width height (now (gray .entry)) (now (out .entry)) (now (work .entry)) (written r) (now (out .exit)) (now (work .exit)) ⌝ }
+{
+    quantize_gray8(width, height, gray, Quantize::Dither, work, out)
+}
+
+// The ordered rule of this side. No work buffer is needed.
+pub fn ordered_bits(width: u32, height: u32, gray: &[u8], side: u8, out: &mut [u8]) -> Written
+    ensures { λ r. ⌜ Emits (quantized (Ordered side) width height (now (gray .entry)) 0) (written r) (now (out .entry)) (now (out .exit)) ⌝ }
+{
+    let mut work = [0i16; 1];
+    quantize_gray8(width, height, gray, Quantize::Ordered(side), &mut work, out)
 }

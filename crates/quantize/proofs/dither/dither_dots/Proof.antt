@@ -1,13 +1,12 @@
 -- `quantize::dither::dither_dots` meets its contract.
 -- Assumes nothing.
-use Prim.Native.Nat.{ℕ, _+_, _-_, _*_, _≤_, _<_}
-use mathlib.Core.Path.{_≡_, refl, ap, _∙_, sym, subst}
+use Prim.Native.Nat.{ℕ, _+_, _-_, _<_}
+use mathlib.Core.Path.{_≡_, _∙_, sym, subst}
 use mathlib.Core.Logic.{⊎-elim}
 use native.Mathlib.Omega.{arith}
-use borrow.Author.Needs.{needs}
 use denote.Ref.{now}
-use lib.IntN.{ℤ, subℕ}
-use lib.ListN.{length, getD}
+use lib.IntN.{subℕ}
+use lib.ListN.{length}
 use mir.Syntax.{w16}
 use mir.Val.{toZ, ofZ}
 use mir.ValLaws.{toZ-ofZ}
@@ -17,12 +16,6 @@ use Rattle.quantize.proofs.Appending.{appended-fits}
 use Rattle.quantize.proofs.Rowing.{Inv, inv-start, inv-more, inv-end, corner-on, corner-none, dot-le, row-bit-le}
 use Rattle.quantize.proofs.dither.dither_dots.Statement.{statement}
 use Rattle.quantize.proofs.dither.dither_dots.Tie as tie
-use Rattle.quantize.proofs.dither.dither_dots.Reads as reads
-use Rattle.quantize.proofs.dither.dither_dots.Lts as lts
-use Rattle.quantize.proofs.dither.left_of.Reads as left-of-reads
-use Rattle.quantize.proofs.dither.lower.Reads as lower-reads
-use Rattle.quantize.proofs.dither.over.Reads as over-reads
-use Rattle.quantize.proofs.dither.step.Reads as step-reads
 
 abbrev Inv-loop : tie.InvT-loop
 Inv-loop width y column gray begun corner work₀ left₀ digits₀ above-left₀ i₀ work left digits above-left i =

@@ -1,7 +1,7 @@
 -- `quantize::dither::left_of` meets its contract.
 -- Assumes nothing.
 use Prim.Native.Nat.{_-_}
-use mathlib.Core.Path.{_≡_, refl, sym, subst, ap}
+use mathlib.Core.Path.{subst}
 use native.Mathlib.Omega.{arith}
 use borrow.Author.Needs.{needs}
 use denote.Ref.{now}

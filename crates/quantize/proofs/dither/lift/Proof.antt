@@ -1,7 +1,7 @@
 -- `quantize::dither::lift` meets its contract: by the two tests, and then by the sign of `x`.
 -- Assumes nothing.
 use mathlib.Core.Path.{_≡_, _∙_, sym, ap}
-use mathlib.Core.Bool.{Bool, true, false}
+use mathlib.Core.Bool.{false}
 use lib.IntN.{ℤ, pos, negsuc, _+ℤ_}
 use lib.Signed.{ltZ}
 use mir.Syntax.{w16}
@@ -10,8 +10,6 @@ use mir.ValLaws.{toZ-ofZ}
 use Rattle.quantize.proofs.Signed.{lift-low, lift-high, lift-add, lift-cast, lift-mid}
 use Rattle.quantize.proofs.dither.lift.Statement.{statement}
 use Rattle.quantize.proofs.dither.lift.Tie as tie
-use Rattle.quantize.proofs.dither.lift.Reads as reads
-use Rattle.quantize.proofs.dither.lift.Lts as lts
 
 same : (c : tie.Start) → toZ w16 (ofZ w16 (c .args .x)) ≡ c .args .x
 same c = toZ-ofZ w16 (c .args .x) (c .fits .x)

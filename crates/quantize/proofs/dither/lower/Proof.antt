@@ -10,8 +10,6 @@ use mir.ValLaws.{toZ-ofZ, toZ-pos}
 use Rattle.quantize.proofs.Signed.{lower-fits}
 use Rattle.quantize.proofs.dither.lower.Statement.{statement}
 use Rattle.quantize.proofs.dither.lower.Tie as tie
-use Rattle.quantize.proofs.dither.lower.Reads as reads
-use Rattle.quantize.proofs.dither.lower.Lts as lts
 
 same : (c : tie.Start) → toZ w16 (c .args .b) ≡ pos (c .args .b)
 same c = toZ-pos w16 (c .args .b) (omega arith)

@@ -1,6 +1,6 @@
 -- `quantize::dither::over` meets its contract.
 -- Assumes nothing.
-use mathlib.Core.Path.{_≡_, subst}
+use mathlib.Core.Path.{subst}
 use borrow.Author.Needs.{needs}
 use denote.Ref.{now}
 use lib.IntN.{ℤ, pos}

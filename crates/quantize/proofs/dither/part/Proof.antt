@@ -1,13 +1,11 @@
 -- `quantize::dither::part` meets its contract: all is arithmetic on unsigned numbers once the product is bounded.
 -- Assumes nothing.
-use Prim.Native.Nat.{ℕ, _*_, _≤_}
+use Prim.Native.Nat.{_*_, _≤_}
 use native.Mathlib.Omega.{arith}
 use native.Mathlib.Nat.{mul-le-mul-left}
 use Rattle.quantize.proofs.Differences.{part-pos, part-neg}
 use Rattle.quantize.proofs.dither.part.Statement.{statement}
 use Rattle.quantize.proofs.dither.part.Tie as tie
-use Rattle.quantize.proofs.dither.part.Reads as reads
-use Rattle.quantize.proofs.dither.part.Lts as lts
 
 small : (c : tie.Start) → c .args .k * c .args .b ≤ c .args .k * 256
 small c = mul-le-mul-left (c .args .k) (c .pre .1)

@@ -7,43 +7,31 @@ use Rattle.quantize.specs.Diffusion.{value}
 use Rattle.quantize.proofs.Differences.{value-is, stepped-white, stepped-black}
 use Rattle.quantize.proofs.dither.step.Statement.{statement}
 use Rattle.quantize.proofs.dither.step.Tie as tie
-use Rattle.quantize.proofs.dither.step.Reads as reads
-use Rattle.quantize.proofs.dither.step.Lts as lts
-use Rattle.quantize.proofs.dither.part.Reads as part-reads
 
--- src/lib.rt:65:27
 part-requires : tie.Need-part-requires
 part-requires c κs = search needs
 
--- src/lib.rt:65:13
 add-v : tie.Need-add-v
 add-v c = search needs
 
--- src/lib.rt:65:43
 part-requires-2 : tie.Need-part-requires-2
 part-requires-2 c κs = search needs
 
--- src/lib.rt:65:13
 add-v-2 : tie.Need-add-v-2
 add-v-2 c = search needs
 
--- src/lib.rt:65:61
 part-requires-3 : tie.Need-part-requires-3
 part-requires-3 c κs = search needs
 
--- src/lib.rt:65:13
 add-v-3 : tie.Need-add-v-3
 add-v-3 c = search needs
 
--- src/lib.rt:65:78
 part-requires-4 : tie.Need-part-requires-4
 part-requires-4 c κs = search needs
 
--- src/lib.rt:65:13
 add-v-4 : tie.Need-add-v-4
 add-v-4 c = search needs
 
--- src/lib.rt:67:29
 sub-t17 : tie.Need-sub-t17
 sub-t17 c = search needs
 
@@ -58,11 +46,9 @@ sum-is j =
     value-is (a .gray) (a .left) (a .corner) (a .above) (a .ahead) (j .before .before .before .part .result) (j .before .before .part2 .result) (j .before .part3 .result) (j .part4 .result)
     (j .before .before .before .part .ensures .is) (j .before .before .part2 .ensures .is) (j .before .part3 .ensures .is) (j .part4 .ensures .is)
 
--- src/lib.rt:61:1
 returns : tie.Need-returns
 returns c = let j = c .before in stepped-white (sum j) (sum-is j) (omega arith) (omega arith)
 
--- src/lib.rt:61:1
 returns-2 : tie.Need-returns-2
 returns-2 c = let j = c .before in stepped-black (sum j) (sum-is j) (omega arith)
 

@@ -8,9 +8,6 @@ use Rattle.quantize.proofs.Abilities.{denied, div-zero, able-threshold,
 use borrow.Author.Needs.{needs}
 use Rattle.quantize.proofs.engine.able.Statement.{statement}
 use Rattle.quantize.proofs.engine.able.Tie as tie
-use Rattle.quantize.proofs.engine.able.Reads as reads
-use Rattle.quantize.proofs.engine.able.Lts as lts
-use Rattle.quantize.proofs.engine.known.Reads as known-reads
 
 returns : tie.Need-returns
 returns c = denied (λ s. omega (arith, s .inRow, c .if1 .taken))
@@ -21,30 +18,24 @@ returns-2 c = denied (λ s. omega (arith, s .inFrame, c .if2 .taken))
 returns-3 : tie.Need-returns-3
 returns-3 c = denied (λ s. omega (arith, s .cornerSmall, c .if3 .taken))
 
--- src/engine.rt:71:17
 cast-if4 : tie.Need-cast-if4
 cast-if4 c = search needs
 
--- src/engine.rt:71:8
 shr-if4 : tie.Need-shr-if4
 shr-if4 c = search needs
 
 returns-4 : tie.Need-returns-4
 returns-4 c = denied (λ s. c .if4 .taken (div-eq-of-lt (s .begunSmall)))
 
--- src/engine.rt:75:35
 enum-told : tie.Need-enum-told
 enum-told c = search needs
 
--- src/engine.rt:76:38
 enum-told-2 : tie.Need-enum-told-2
 enum-told-2 c = search needs
 
--- src/engine.rt:77:27
 enum-known-rule : tie.Need-enum-known-rule
 enum-known-rule c = search needs
 
--- src/engine.rt:77:36
 known-requires : tie.Need-known-requires
 known-requires c κs = search needs
 

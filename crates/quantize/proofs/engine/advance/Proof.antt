@@ -1,29 +1,19 @@
 -- `quantize::engine::advance` meets its contract.
 -- Assumes nothing.
-use Prim.Native.Nat.{ℕ, _+_, _-_, _*_, _%_, _^_, _≤_, _<_}
-use mathlib.Core.Path.{_≡_, refl, sym, _∙_, subst}
-use native.Mathlib.Omega.{arith}
 use Rattle.quantize.proofs.Advancing.{advances-on, advances-byte, advances-row, advances-frame}
 use borrow.Author.Needs.{needs}
 use Rattle.quantize.proofs.engine.advance.Statement.{statement}
 use Rattle.quantize.proofs.engine.advance.Tie as tie
-use Rattle.quantize.proofs.engine.advance.Reads as reads
-use Rattle.quantize.proofs.engine.advance.Lts as lts
-use Rattle.quantize.proofs.engine.pad.Reads as pad-reads
 
--- src/engine.rt:133:14
 add-to : tie.Need-add-to
 add-to c = search needs
 
--- src/engine.rt:134:16
 add-dots : tie.Need-add-dots
 add-dots c = search needs
 
--- src/engine.rt:135:28
 cast-pad : tie.Need-cast-pad
 cast-pad c = search needs
 
--- src/engine.rt:135:9
 pad-requires : tie.Need-pad-requires
 pad-requires c κs = search needs
 
@@ -33,18 +23,15 @@ returns c = let s = c .before .before .before in advances-on _ _ _ _ _ _ _ _ (s 
 returns-2 : tie.Need-returns-2
 returns-2 c = let s = c .before .before .before in advances-byte _ _ _ _ _ _ _ _ (s .pre) (c .before .before .pad .ensures) (c .before .if1 .taken) (c .if2 .left)
 
--- src/engine.rt:142:8
 add-if3 : tie.Need-add-if3
 add-if3 c = search needs
 
--- src/engine.rt:143:44
 add-t15 : tie.Need-add-t15
 add-t15 c = search needs
 
 returns-3 : tie.Need-returns-3
 returns-3 c = let s = c .before .before .before in advances-row _ _ _ _ _ _ _ _ (s .pre) (c .before .before .pad .ensures) (c .before .if1 .left) (c .if3 .taken)
 
--- src/engine.rt:145:20
 sub-t11 : tie.Need-sub-t11
 sub-t11 c = search needs
 

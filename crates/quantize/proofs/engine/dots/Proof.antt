@@ -5,21 +5,13 @@ use Rattle.quantize.proofs.Dotting.{dots-threshold, dots-dither, dots-o
 use borrow.Author.Needs.{needs}
 use Rattle.quantize.proofs.engine.dots.Statement.{statement}
 use Rattle.quantize.proofs.engine.dots.Tie as tie
-use Rattle.quantize.proofs.engine.dots.Reads as reads
-use Rattle.quantize.proofs.engine.dots.Lts as lts
-use Rattle.quantize.proofs.dither.dither_dots.Reads as dither-dots-reads
-use Rattle.quantize.proofs.ordered.ordered_dots.Reads as ordered-dots-reads
-use Rattle.quantize.proofs.threshold.threshold_dots.Reads as threshold-dots-reads
 
--- src/engine.rt:100:29
 enum-known-rule : tie.Need-enum-known-rule
 enum-known-rule c = search needs
 
--- src/engine.rt:101:21
 threshold-dots-requires : tie.Need-threshold-dots-requires
 threshold-dots-requires c κs = search needs
 
--- src/engine.rt:105:72
 enum-told : tie.Need-enum-told
 enum-told c = search needs
 
@@ -29,7 +21,6 @@ dither-dots-requires c κs =
     let k = served-dither _ _ _ (c .before .enum-told .given .1) (p .served) in
     record { some = p .some; packs = p .packs; within = p .within; room = omega (arith, k); small = p .small }
 
--- src/engine.rt:111:27
 enum-known-rule-2 : tie.Need-enum-known-rule-2
 enum-known-rule-2 c = search needs
 
@@ -41,7 +32,6 @@ ordered-dots-requires c κs =
 returns : tie.Need-returns
 returns c = dots-threshold _ _ _ _ _ _ _ _ _ _ _ (c .before .before .rule .given .1) (c .before .before .before .before .before .pre .small) (c .threshold-dots .ensures)
 
--- src/engine.rt:95:1
 same-length : tie.Need-same-length
 same-length c = search needs
 

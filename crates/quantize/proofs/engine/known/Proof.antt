@@ -3,8 +3,6 @@
 use borrow.Author.Tests.{ne-eqb}
 use Rattle.quantize.proofs.engine.known.Statement.{statement}
 use Rattle.quantize.proofs.engine.known.Tie as tie
-use Rattle.quantize.proofs.engine.known.Reads as reads
-use Rattle.quantize.proofs.engine.known.Lts as lts
 
 returns : tie.Need-returns
 returns c = rw (c .if1 .taken)

@@ -1,25 +1,19 @@
 -- `quantize::engine::share` meets its contract.
 -- Assumes nothing.
-use Prim.Native.Nat.{ℕ, _+_, _-_, _%_, _≤_, _<_}
-use mathlib.Core.Path.{_≡_, _∙_}
+use Prim.Native.Nat.{ℕ, _+_, _%_, _≤_}
+use mathlib.Core.Path.{_≡_}
 use mathlib.Core.Logic.{_⊎_, inl, inr, ⊎-elim}
 use native.Mathlib.Omega.{arith}
-use Rattle.quantize.specs.Steps.{Shares}
 use borrow.Author.Needs.{needs}
 use Rattle.quantize.proofs.engine.share.Statement.{statement}
 use Rattle.quantize.proofs.engine.share.Tie as tie
-use Rattle.quantize.proofs.engine.share.Reads as reads
-use Rattle.quantize.proofs.engine.share.Lts as lts
 
--- src/engine.rt:86:20
 sub-most : tie.Need-sub-most
 sub-most c = search needs
 
--- src/engine.rt:87:8
 sub-if1 : tie.Need-sub-if1
 sub-if1 c = search needs
 
--- src/engine.rt:88:16
 sub-most-2 : tie.Need-sub-most-2
 sub-most-2 c = search needs
 

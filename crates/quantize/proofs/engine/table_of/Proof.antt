@@ -4,23 +4,16 @@ use Rattle.quantize.proofs.Opening.{tabled-threshold, tabled-dither, ta
 use borrow.Author.Needs.{needs}
 use Rattle.quantize.proofs.engine.table_of.Statement.{statement}
 use Rattle.quantize.proofs.engine.table_of.Tie as tie
-use Rattle.quantize.proofs.engine.table_of.Reads as reads
-use Rattle.quantize.proofs.engine.table_of.Lts as lts
-use Rattle.quantize.proofs.ordered.numbers.Reads as numbers-reads
 
--- src/engine.rt:214:35
 enum-told : tie.Need-enum-told
 enum-told c = search needs
 
--- src/engine.rt:215:29
 enum-told-2 : tie.Need-enum-told-2
 enum-told-2 c = search needs
 
--- src/engine.rt:216:27
 enum-known-rule : tie.Need-enum-known-rule
 enum-known-rule c = search needs
 
--- src/engine.rt:216:36
 numbers-requires : tie.Need-numbers-requires
 numbers-requires c κs = search needs
 

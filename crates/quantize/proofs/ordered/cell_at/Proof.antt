@@ -1,6 +1,5 @@
 -- `quantize::ordered::cell_at` meets its contract.
 -- Assumes nothing.
-use Prim.Native.Nat.{ℕ, _+_, _*_, _%_, _<_}
 use native.Mathlib.Omega.{arith}
 use Rattle.quantize.proofs.Cells.{known-small, index-small}
 use borrow.Author.Needs.{needs}

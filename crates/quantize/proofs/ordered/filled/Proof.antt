@@ -1,7 +1,7 @@
 -- `quantize::ordered::filled` meets its contract.
 -- Assumes nothing.
-use Prim.Native.Nat.{ℕ, _+_, _-_, _*_, _/_, _%_, _^_, _≤_, _<_}
-use mathlib.Core.Path.{_≡_, refl, sym, ap, _∙_, subst}
+use Prim.Native.Nat.{ℕ, _-_, _*_, _/_, _%_, _^_, _≤_}
+use mathlib.Core.Path.{_≡_, refl, ap, _∙_, subst}
 use native.Mathlib.Omega.{arith}
 use lib.ListN.{length, take, length-set}
 use Rattle.quantize.specs.Bits.{upto}

@@ -1,6 +1,6 @@
 -- `quantize::ordered::numbers` meets its contract: the table for side 8 by its computed test, the others by the quarter rule.
 -- Assumes nothing.
-use mathlib.Core.Path.{_≡_, refl}
+use mathlib.Core.Path.{refl}
 use mathlib.Core.Logic.{⊎-elim}
 use Rattle.quantize.proofs.Cells.{table-right}
 use borrow.Author.Needs.{needs}

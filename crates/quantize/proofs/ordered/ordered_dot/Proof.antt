@@ -1,6 +1,6 @@
 -- `quantize::ordered::ordered_dot` meets its contract, by the product form of the rule.
 -- Assumes nothing.
-use Prim.Native.Nat.{ℕ, _+_, _*_, _≤_, _<_}
+use Prim.Native.Nat.{_*_}
 use native.Mathlib.Nat.{mul-le-mul}
 use native.Mathlib.Omega.{arith}
 use Rattle.quantize.proofs.Appending.{bit-yes, bit-no}

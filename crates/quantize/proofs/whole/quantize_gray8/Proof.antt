@@ -1,26 +1,18 @@
 -- `quantize::whole::quantize_gray8` meets its contract.
 -- Assumes nothing.
-use Prim.Native.Nat.{_+_, _*_, _/_}
-use native.Mathlib.Nat.{mul-le-mul}
+use Prim.Native.Nat.{_+_, _/_}
 use native.Mathlib.Omega.{arith}
 use Rattle.quantize.proofs.Wholes.{product-fits, quantizes-refused, quantizes-short, quantizes-all}
 use borrow.Author.Needs.{needs}
 use Rattle.quantize.proofs.whole.quantize_gray8.Statement.{statement}
 use Rattle.quantize.proofs.whole.quantize_gray8.Tie as tie
-use Rattle.quantize.proofs.whole.quantize_gray8.Reads as reads
-use Rattle.quantize.proofs.whole.quantize_gray8.Lts as lts
-use Rattle.quantize.proofs.engine.Quantizer.new.Reads as new-reads
-use Rattle.quantize.proofs.engine.Quantizer.run.Reads as run-reads
-use Rattle.quantize.proofs.whole.refused.Reads as refused-reads
 
--- src/whole.rt:75:9
 refused-requires : tie.Need-refused-requires
 refused-requires c κs = search needs
 
 returns : tie.Need-returns
 returns c = quantizes-refused _ _ _ _ _ _ _ (c .before .refused .ensures) (c .if1 .taken)
 
--- src/whole.rt:79:17
 add-need : tie.Need-add-need
 add-need c = search needs
 
@@ -30,24 +22,20 @@ mul-need c = let s = c .before .before .before .before in record { fits = produc
 returns-2 : tie.Need-returns-2
 returns-2 c = let g = c .before in quantizes-short _ _ _ _ _ _ _ (g .before .refused .ensures) (g .if1 .left) (c .if2 .taken)
 
--- src/whole.rt:86:9
 new-requires : tie.Need-new-requires
 new-requires c κs = search needs
 
--- src/whole.rt:87:9
 run-requires : tie.Need-run-requires
 run-requires c κs = search needs
 
--- src/whole.rt:65:1
 same-length : tie.Need-same-length
 same-length c = search needs
 
--- src/whole.rt:65:1
 same-length-2 : tie.Need-same-length-2
 same-length-2 c = search needs
 
 returns-3 : tie.Need-returns-3
-returns-3 c = 
+returns-3 c =
     let r = c .before .before .before in
     let n = r .before .before .before in
     let g = n .before in

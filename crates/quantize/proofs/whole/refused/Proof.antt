@@ -1,16 +1,11 @@
 -- `quantize::whole::refused` meets its contract.
 -- Assumes nothing.
 use mathlib.Core.Path.{_∙_, sym}
-use native.Mathlib.Omega.{arith}
 use borrow.Author.Tests.{not-true, not-false}
 use Rattle.quantize.proofs.Wholes.{product-fits, refused-width, refused-height, refused-rule, refused-work, refused-gray, refused-none}
 use borrow.Author.Needs.{needs}
 use Rattle.quantize.proofs.whole.refused.Statement.{statement}
 use Rattle.quantize.proofs.whole.refused.Tie as tie
-use Rattle.quantize.proofs.whole.refused.Reads as reads
-use Rattle.quantize.proofs.whole.refused.Lts as lts
-use Rattle.quantize.proofs.whole.known_rule.Reads as known-rule-reads
-use Rattle.quantize.proofs.whole.roomy.Reads as roomy-reads
 
 returns : tie.Need-returns
 returns c = let a = c .before .args in refused-width (a .rule) (a .width) (a .height) (a .gray) (a .work) (c .if1 .taken)
@@ -18,14 +13,12 @@ returns c = let a = c .before .args in refused-width (a .rule) (a .width) (a .he
 returns-2 : tie.Need-returns-2
 returns-2 c = let a = c .before .before .args in refused-height (a .rule) (a .width) (a .height) (a .gray) (a .work) (c .before .if1 .left) (c .if2 .taken)
 
--- src/whole.rt:51:9
 known-rule-requires : tie.Need-known-rule-requires
 known-rule-requires c κs = search needs
 
 returns-3 : tie.Need-returns-3
 returns-3 c = let a = c .before .before .before .before .args in let e = c .before .before in refused-rule (a .rule) (a .width) (a .height) (a .gray) (a .work) (e .before .if1 .left) (e .if2 .left) (sym (c .before .known-rule .ensures) ∙ not-true _ (c .if3 .taken))
 
--- src/whole.rt:54:9
 roomy-requires : tie.Need-roomy-requires
 roomy-requires c κs = search needs
 

@@ -8,29 +8,22 @@ use Rattle.quantize.proofs.Wholes.{half-leb}
 use borrow.Author.Needs.{needs}
 use Rattle.quantize.proofs.whole.roomy.Statement.{statement}
 use Rattle.quantize.proofs.whole.roomy.Tie as tie
-use Rattle.quantize.proofs.whole.roomy.Reads as reads
-use Rattle.quantize.proofs.whole.roomy.Lts as lts
 
--- src/whole.rt:35:35
 enum-told : tie.Need-enum-told
 enum-told c = search needs
 
--- src/whole.rt:36:29
 enum-told-2 : tie.Need-enum-told-2
 enum-told-2 c = search needs
 
--- src/whole.rt:37:33
 enum-told-3 : tie.Need-enum-told-3
 enum-told-3 c = search needs
 
--- src/whole.rt:31:1
 returns : tie.Need-returns
 returns c = search needs
 
 returns-2 : tie.Need-returns-2
 returns-2 c = let a = c .before .before .args in half-leb (a .width) (a .work) ∙ ap (λ (r : Quantize). roomyOf (meaning r) (a .width) (a .work)) (sym (c .enum-told2 .given .1))
 
--- src/whole.rt:31:1
 returns-3 : tie.Need-returns-3
 returns-3 c = search needs
 

@@ -1,27 +1,15 @@
 -- `quantize::engine::Quantizer::run` meets its contract.
 -- Assumes nothing.
-use Prim.Native.Nat.{ℕ, _+_, _-_, _*_, _%_, _^_, _≤_, _<_}
-use mathlib.Core.Path.{_≡_, refl, sym, ap, _∙_, subst}
-use mathlib.Core.Bool.{Bool, true, false}
-use mathlib.Core.Logic.{_⊎_, inl, inr, ⊎-elim}
-use mathlib.Core.List.{List}
+use Prim.Native.Nat.{ℕ, _-_, _<_}
+use mathlib.Core.Logic.{inl, inr}
 use native.Mathlib.Omega.{arith}
-use borrow.Author.Needs.{needs}
 use borrow.Author.Tests.{not-true, not-false}
 use denote.Ref.{now}
-use lib.IntN.{ℤ}
-use lib.ListN.{length, getD, length-set}
-use Rattle.quantize.specs.declared.engine.Quantizer.{Quantizer}
-use Rattle.quantize.proofs.Running.{Loop, loop-start, end-fits, piece-long, dotting, advancing, room-left, loop-on, loop-byte}
-use Rattle.quantize.proofs.Ending.{End, runs-none, runs-end}
+use lib.ListN.{length, getD}
+use Rattle.quantize.proofs.Running.{Loop, loop-start, end-fits, dotting, advancing, room-left, loop-on, loop-byte}
+use Rattle.quantize.proofs.Ending.{runs-none, runs-end}
 use Rattle.quantize.proofs.engine.Quantizer.run.Statement.{statement}
 use Rattle.quantize.proofs.engine.Quantizer.run.Tie as tie
-use Rattle.quantize.proofs.engine.Quantizer.run.Reads as reads
-use Rattle.quantize.proofs.engine.Quantizer.run.Lts as lts
-use Rattle.quantize.proofs.engine.able.Reads as able-reads
-use Rattle.quantize.proofs.engine.advance.Reads as advance-reads
-use Rattle.quantize.proofs.engine.dots.Reads as dots-reads
-use Rattle.quantize.proofs.engine.share.Reads as share-reads
 
 abbrev Inv-loop : tie.InvT-loop
 Inv-loop samples out₀ work₀ rule table width height frames₀ row₀ column₀ begun₀ corner₀ taken₀ written₀ out work frames row column begun corner taken written =
