@@ -5,9 +5,16 @@ use Rattle.mbi.specs.Bytes.{mbiBytes, groups}
 use Rattle.mbi.specs.Read.{readRest, readByte}
 use Rattle.ext.specs.Read.{readFields, readPairs, readPair}
 use Rattle.header.specs.Read.{readHeader}
+use Rattle.image.specs.Rows.{convertFormat, convertRows, convertRow, clearPadding}
+use Rattle.quantize.specs.Diffusion.{part, value, white, residual, valueFrom, handed, rowValue, above, valueAt}
+use Rattle.quantize.specs.Ordered.{number, numbers, bound}
+use Rattle.quantize.specs.Rule.{dot}
+use Rattle.quantize.specs.Finished.{begunBytes, count, frame, dotOf, bitAt, byteAt, finished}
+use Rattle.quantize.specs.Bits.{upto, appended}
 use Rattle.conformance.specs.Table.{table}
 use Rattle.conformance.specs.Check.{allPass}
 
 pub cards : allPass table ≡ true
-unfolding mbiBytes groups readRest readByte readHeader readFields readPairs readPair
+unfolding mbiBytes groups readRest readByte readHeader readFields readPairs readPair convertFormat convertRows convertRow clearPadding
+    part value white residual valueFrom handed rowValue above valueAt number numbers bound dot begunBytes count frame dotOf bitAt byteAt finished upto appended
 cards = refl

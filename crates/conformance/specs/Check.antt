@@ -3,6 +3,7 @@ use Prim.Native.Nat.{ℕ}
 use mathlib.Core.Bool.{Bool, true, false, _&&_}
 use mathlib.Core.List.{List, [], _∷_}
 use lib.Dec.{eqb}
+use lib.IntN.{ℤ, pos, negsuc}
 use lib.ListN.{length}
 use Rattle.error.specs.Answer.{Answer, gives, refuses}
 use Rattle.mbi.specs.Bytes.{mbiBytes}
@@ -10,7 +11,13 @@ use Rattle.mbi.specs.Read.{readMbi}
 use Rattle.ext.specs.Kinds.{Pair, Fields, none, bitfield, reserved, pairs}
 use Rattle.header.specs.Settings.{extInner}
 use Rattle.header.specs.Read.{Header, readHeader}
-use Rattle.conformance.specs.Table.{Row, number, value, refused, header}
+use Rattle.image.specs.Geometry.{rowBytes}
+use Rattle.image.specs.Rows.{convertFormat}
+use Rattle.image.specs.declared.PixelFormat.the-variants.{MonoBlack, MonoWhite}
+use Rattle.quantize.specs.Diffusion.{round16}
+use Rattle.quantize.specs.Rule.{dot}
+use Rattle.quantize.specs.Finished.{finished}
+use Rattle.conformance.specs.Table.{Row, number, value, refused, header, monoWhite, plane, rounding, corner}
 
 abbrev pub same : List ℕ → List ℕ → Bool
 same [] [] = true
@@ -40,12 +47,27 @@ abbrev pub givesHeader : Answer Header → ℕ → ℕ → List ℕ → List ℕ
 givesHeader (gives h) w ht i v body = eqb (h .width) w && eqb (h .height) ht && isPair (h .fields) i v && eqb (h .body) body
 givesHeader (refuses code offset) w ht i v body = false
 
+abbrev pub sameNumber : ℤ → ℤ → Bool
+sameNumber (pos m) (pos n) = eqb m n
+sameNumber (pos m) (negsuc n) = false
+sameNumber (negsuc m) (pos n) = false
+sameNumber (negsuc m) (negsuc n) = eqb m n
+
+abbrev pub sameDot : Bool → Bool → Bool
+sameDot true d = d
+sameDot false true = false
+sameDot false false = true
+
 abbrev pub passes : Row → Bool
 passes (number n bytes) =
     same (mbiBytes n) bytes && givesValue (readMbi false bytes 0) n (length bytes) && givesValue (readMbi true bytes 0) n (length bytes)
 passes (value strict bytes v) = givesValue (readMbi strict bytes 0) v (length bytes)
 passes (refused strict bytes code offset) = isRefused (readMbi strict bytes 0) code offset
 passes (header bytes w h i v body) = givesHeader (readHeader (extInner false) bytes) w h i v body
+passes (monoWhite w h body bytes) = same (convertFormat MonoBlack MonoWhite w h (rowBytes w) body) bytes
+passes (plane rule w h samples bytes) = same (finished (record { rule = rule; width = w; height = h; frames = 1 }) samples) bytes
+passes (rounding n r) = sameNumber (round16 n) r
+passes (corner rule gray white) = sameDot (dot rule 1 (λ x y. gray) 0 0) white
 
 abbrev pub allPass : List (ℕ × Row) → Bool
 allPass [] = true

@@ -2,7 +2,10 @@
 use Prim.Native.Nat.{ℕ}
 use mathlib.Core.Bool.{Bool, true, false}
 use mathlib.Core.List.{List, [], _∷_, _++_}
+use lib.IntN.{ℤ, pos, negsuc}
 use lib.ListN.{replicate}
+use Rattle.quantize.specs.Ordered.{numbers}
+use Rattle.quantize.specs.Rule.{Rule, threshold, dither, ordered}
 
 pub data Row : Type 0 where
   -- a number and its bytes, written, and read strictly and not
@@ -13,6 +16,18 @@ pub data Row : Type 0 where
   refused : Bool → List ℕ → ℕ → ℕ → Row
   -- a header, read leniently: width, height, the identifier and the value of its one pair, and where the body starts
   header : List ℕ → ℕ → ℕ → List ℕ → List ℕ → ℕ → Row
+  -- a body of a width and height, and its bytes as MonoWhite
+  monoWhite : ℕ → ℕ → List ℕ → List ℕ → Row
+  -- samples of a width and height under a rule, and the plane's bytes
+  plane : Rule → ℕ → ℕ → List ℕ → List ℕ → Row
+  -- a number of sixteenths, and its rounding
+  rounding : ℤ → ℤ → Row
+  -- a gray at column 0 of row 0 under a rule, and whether it is white
+  corner : Rule → ℕ → Bool → Row
+
+-- the ordered rule of side 8
+abbrev pub sideEight : Rule
+sideEight = ordered 8 (numbers 3)
 
 -- each row with the number of its card
 abbrev pub table : List (ℕ × Row)
@@ -29,4 +44,14 @@ table =
     ∷ (4, refused false (replicate 7 0x80 ++ (0x05 ∷ [])) 3 8)
     ∷ (4, refused false (replicate 7 0x80) 1 7)
     ∷ (5, header (0x00 ∷ 0xE0 ∷ 0x12 ∷ 0x6B ∷ 0x31 ∷ 0x32 ∷ 0x09 ∷ 0x02 ∷ []) 9 2 (0x6B ∷ []) (0x31 ∷ 0x32 ∷ []) 8)
+    ∷ (7, monoWhite 9 2 (0xFF ∷ 0x80 ∷ 0x00 ∷ 0x00 ∷ []) (0x00 ∷ 0x00 ∷ 0xFF ∷ 0x80 ∷ []))
+    ∷ (8, plane dither 2 1 (127 ∷ 128 ∷ []) (0x40 ∷ []))
+    ∷ (9, plane dither 1 2 (128 ∷ 128 ∷ []) (0x80 ∷ 0x00 ∷ []))
+    ∷ (10, rounding (pos 7) (pos 0))
+    ∷ (10, rounding (pos 8) (pos 1))
+    ∷ (10, rounding (negsuc 6) (pos 0))
+    ∷ (10, rounding (negsuc 7) (negsuc 0))
+    ∷ (11, corner sideEight 1 false)
+    ∷ (11, corner sideEight 2 true)
+    ∷ (12, plane (threshold 0) 9 1 (replicate 9 0) (0xFF ∷ 0x80 ∷ []))
     ∷ []

@@ -93,7 +93,7 @@ pub struct Dithered {
 }
 
 // The digits of `begun`, and then a dot for each sample, from a column of a row on. `work` keeps a residual for each column.
-pub fn dither_dots(
+pub(crate) fn dither_dots(
     width: usize,
     y: usize,
     column: usize,

@@ -49,7 +49,7 @@ struct Next {
     whole: bool,
 }
 
-pub fn known(side: u8) -> bool
+pub(crate) fn known(side: u8) -> bool
     ensures { λ r. ⌜ r ≡ knownSide side ⌝ }
 {
     if side == 2 {

@@ -109,7 +109,7 @@ fn filled(side: usize) -> [u8; 64]
 }
 
 // The numbers for the side 2, 4 or 8.
-pub fn numbers(side: u8) -> [u8; 64]
+pub(crate) fn numbers(side: u8) -> [u8; 64]
     ensures { λ r. ⌜ Table side r ⌝ }
 {
     if side == 2 {
@@ -142,7 +142,7 @@ fn ordered_dot(side: u8, n: u8, gray: u8) -> u32
 }
 
 // The digits of `begun`, and then a dot for each sample, from a column of row y on.
-pub fn ordered_dots(
+pub(crate) fn ordered_dots(
     table: &[u8; 64],
     side: u8,
     y: usize,

@@ -5,7 +5,7 @@ ghost use Rattle.quantize.specs.Steps.{Packs, thresholdBit};
 ghost use Rattle.quantize.specs.Bits.{appended};
 
 // The digits of `begun`, and then a dot for each sample: 1 where it is at least `bound`.
-pub fn threshold_dots(bound: u8, gray: &[u8], begun: u32) -> u32
+pub(crate) fn threshold_dots(bound: u8, gray: &[u8], begun: u32) -> u32
     requires { ⌜ Packs begun (length (now gray)) ⌝ }
     ensures { λ r. ⌜ r ≡ appended begun (thresholdBit bound (now (gray .entry))) (length (now (gray .entry))) ⌝ }
 {
