@@ -1,54 +1,17 @@
--- Worked examples, among them document 01's P8 to P12.
+-- Worked examples; document 01's P8 to P12 stand in the crate conformance.
 use Prim.Native.Nat.{ℕ}
 use mathlib.Core.Path.{_≡_, refl}
 use mathlib.Core.Bool.{true}
 use mathlib.Core.List.{List, [], _∷_}
 use lib.IntN.{pos, negsuc}
 use lib.ListN.{replicate}
-use Rattle.options.specs.declared.Quantize.the-variants.{Threshold, Dither, Ordered}
+use Rattle.options.specs.declared.Quantize.the-variants.{Threshold, Dither}
 use Rattle.quantize.specs.Bits.{upto, appended}
-use Rattle.quantize.specs.Diffusion.{round16, part, value, white, residual, valueFrom, handed, rowValue, above, valueAt, residualAt}
-use Rattle.quantize.specs.Ordered.{number, numbers, bound}
+use Rattle.quantize.specs.Diffusion.{part, value, white, residual, valueFrom, handed, rowValue, above, valueAt, residualAt}
+use Rattle.quantize.specs.Ordered.{number, numbers}
 use Rattle.quantize.specs.Rule.{dither, rightwards, dot}
 use Rattle.quantize.specs.Finished.{begunBytes, count, frame, dotOf, bitAt, byteAt, finished, most, takes}
 use Rattle.quantize.specs.Engine.{setting}
-
--- P8
-two-in-a-row : finished (setting Dither 2 1 1) (127 ∷ 128 ∷ []) ≡ 0x40 ∷ []
-unfolding upto appended part value white residual valueFrom handed rowValue above valueAt dot begunBytes count frame dotOf bitAt byteAt finished
-two-in-a-row = refl
-
--- P9
-column : finished (setting Dither 1 2 1) (128 ∷ 128 ∷ []) ≡ 0x80 ∷ 0x00 ∷ []
-unfolding upto appended part value white residual valueFrom handed rowValue above valueAt dot begunBytes count frame dotOf bitAt byteAt finished
-column = refl
-
--- P10
-seven : round16 (pos 7) ≡ pos 0
-seven = refl
-
-eight : round16 (pos 8) ≡ pos 1
-eight = refl
-
-less-seven : round16 (negsuc 6) ≡ pos 0
-less-seven = refl
-
-less-eight : round16 (negsuc 7) ≡ negsuc 0
-less-eight = refl
-
--- P11
-one-is-black : finished (setting (Ordered 8) 1 1 1) (1 ∷ []) ≡ 0x00 ∷ []
-unfolding upto appended number numbers bound dot begunBytes count frame dotOf bitAt byteAt finished
-one-is-black = refl
-
-two-is-white : finished (setting (Ordered 8) 1 1 1) (2 ∷ []) ≡ 0x80 ∷ []
-unfolding upto appended number numbers bound dot begunBytes count frame dotOf bitAt byteAt finished
-two-is-white = refl
-
--- P12
-all-white : finished (setting (Threshold 0) 9 1 1) (replicate 9 0) ≡ 0xff ∷ 0x80 ∷ []
-unfolding upto appended dot begunBytes count frame dotOf bitAt byteAt finished
-all-white = refl
 
 -- a begun row has finished its whole bytes only, and a full row all of them
 begun : finished (setting (Threshold 128) 9 2 1) (replicate 8 255) ≡ 0xff ∷ []
