@@ -22,7 +22,7 @@ use Rattle.quantize.specs.Finished.{Setting, count, bitAt, byteAt, dotOf
 use Rattle.quantize.specs.Machine.{Carry, carried, machineBit}
 use Rattle.quantize.specs.Place.{begunBy, Begun}
 use Rattle.quantize.specs.Steps.{carryOf, ruleOf, Served, Sound, Shares}
-use Rattle.quantize.specs.Engine.{Knows, roomy, Stands, Keeps, Holds, Counts, Machines, Defined, Runs}
+use Rattle.quantize.specs.Engine.{Knows, roomy, Stands, Keeps, Holds, Counts, Machines, Defined, Ready, Runs}
 use Rattle.quantize.proofs.Differences.{lt-or-le}
 use Rattle.quantize.proofs.Appending.{appended-ext}
 use Rattle.quantize.proofs.Range.{Held}
@@ -148,6 +148,7 @@ runs-none q samples out work octets h =
       past = refl;
       beyond = refl;
       spared = λ _. refl;
+      idle = λ _. record { same = refl; taken = refl; written = refl; outSame = refl; workSame = refl };
       counts = counts;
       machine = machine;
       defined = defined-is q samples out work r out work (omega arith) octets counts machine (λ s n t l e. let f : ⊥ = omega arith in absurd f);
@@ -241,6 +242,12 @@ module _ (q : Quantizer) (samples out : List ℕ) (work : List ℤ) (out′ : Li
       let f = L .packed s n d t (record { begunIs = b; dots = k }) in
       record { bytes = f .bytes; begun = f .begunIs; carry = P s n t .carry }
 
+  ready-is : Ready (q .rule) (q .width) (q .height) (length work)
+  ready-is =
+      let a = L .sound .inRow in
+      let b = L .sound .inFrame in
+      record { wide = omega arith; high = omega arith; served = subst (λ (n : ℕ). Served (q .rule) (q .width) n) (L .workLong) (L .sound .served) }
+
   pub runs-end : Runs q samples out work ran out′ work′
   runs-end =
       record {
@@ -249,6 +256,7 @@ module _ (q : Quantizer) (samples out : List ℕ) (work : List ℤ) (out′ : Li
         past = L .past;
         beyond = L .beyond;
         spared = L .spared;
+        idle = λ no. absurd (no ready-is);
         counts = counts-is;
         machine = machine-are;
         defined = defined-is q samples out work ran out′ work′ (L .takenFits) octets counts-is machine-are room-is;

@@ -45,19 +45,25 @@ keeps-none (ordered side table) w h c = tt
 
 pub opens : (rule : Quantize) (table : List ℕ) (w h frames : ℕ) → Tabled rule table
     → Opens rule w h frames (record { rule = rule; table = table; width = w; height = h; frames = frames; row = 0; column = 0; begun = 0; corner = 128 })
-opens rule table w h frames t k pw ph work =
+opens rule table w h frames t =
     record {
-      stands = record {
-        rule = sym (t k);
-        knows = k;
-        width = refl;
-        height = refl;
-        at = record { inRow = pw; inFrame = ph; most = omega arith; place = first w h frames; full = λ z. (refl, refl) };
-        cornerSmall = omega arith;
-        begunSmall = pow-pos 0;
-      };
-      begun = begun-none w (dotOf (setting rule w h frames) []) 0 (rw zero-mod);
-      keeps = keeps-none (meaning rule) w h (carryOf 128 work);
+      ruleIs = refl;
+      widthIs = refl;
+      heightIs = refl;
+      holds = λ k pw ph work.
+          record {
+            stands = record {
+              rule = sym (t k);
+              knows = k;
+              width = refl;
+              height = refl;
+              at = record { inRow = pw; inFrame = ph; most = omega arith; place = first w h frames; full = λ z. (refl, refl) };
+              cornerSmall = omega arith;
+              begunSmall = pow-pos 0;
+            };
+            begun = begun-none w (dotOf (setting rule w h frames) []) 0 (rw zero-mod);
+            keeps = keeps-none (meaning rule) w h (carryOf 128 work);
+          };
     }
 
 -- ---- whole scans
@@ -77,4 +83,4 @@ two-rows i l =
 
 -- an example: a new quantizer for dithering, over the same buffer
 opened : Holds (record { rule = Dither; table = []; width = 2; height = 2; frames = 1; row = 0; column = 0; begun = 0; corner = 128 }) (pos 300 ∷ negsuc 400 ∷ []) (setting Dither 2 2 1) []
-opened = opens Dither [] 2 2 1 (λ _. refl) tt (omega arith) (omega arith) (pos 300 ∷ negsuc 400 ∷ [])
+opened = opens Dither [] 2 2 1 (λ _. refl) .holds tt (omega arith) (omega arith) (pos 300 ∷ negsuc 400 ∷ [])

@@ -174,7 +174,7 @@ module _ (rule : Quantize) (w h : ℕ) (gray out : List ℕ) (work : List ℤ) (
       sp = setting rule w h 1
 
       H : Holds q work sp []
-      H = o (knows rule (p .known)) (p .wide) (p .high) work
+      H = o .holds (knows rule (p .known)) (p .wide) (p .high) work
 
       long : length (finished sp (take (w * h) gray)) ≡ h * rowBytes w
       long = plane-long rule w h (p .wide) (p .high) gray (p .enough)

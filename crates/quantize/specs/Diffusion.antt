@@ -1,5 +1,5 @@
 -- Floyd and Steinberg's dithering (document 01, quantize.rs: Dither).
--- A dot's value is its gray and what its neighbours handed it. It is white from 128 on. Its residual, the value less what is shown, 255 or 0, is handed on in sixteenths, each part rounded: 7 to the next dot of its row, and in the row below 3 to the dot before the next one, 5 to the one below, 1 to the one after.
+-- A dot's value is its gray and what its neighbours handed it. It is white from 128 on. Its residual, the value less what is shown, 255 or 0, is handed on in sixteenths, each part rounded: 7 to the next dot of its row, and in the row below 3 to the dot before its column, 5 at its column, 1 after it.
 -- Said from the side of the dot that receives: 7 sixteenths of the residual before it in its row, and of the row above, in the direction in which that row ran, 1 of the residual before it, 5 of that at its own column, 3 of that after it. Past an edge stands 0.
 use Prim.Native.Nat.{ℕ, zero, suc, _+_, _-_, _/_}
 use mathlib.Core.Bool.{Bool}

@@ -18,7 +18,7 @@ use Rattle.quantize.specs.Rule.{Rule, threshold, dither, ordered, rightw
 use Rattle.quantize.specs.Finished.{Setting, count, frame, dotOf, byteAt, newly, takes}
 use Rattle.quantize.specs.Machine.{Carry, clamp, carried, machineBit}
 use Rattle.quantize.specs.Place.{At, Begun}
-use Rattle.quantize.specs.Steps.{Known, carryOf, ruleOf}
+use Rattle.quantize.specs.Steps.{Known, carryOf, ruleOf, Served}
 
 -- ---- the rules of document 01
 
@@ -79,8 +79,25 @@ abbrev pub Tabled : Quantize → List ℕ → Type 0
 Tabled rule table = Knows rule → ruleOf rule table ≡ meaning rule
 
 -- a new quantizer, whatever stands in a work buffer
-abbrev pub Opens : Quantize → ℕ → ℕ → ℕ → Quantizer → Type 0
-Opens rule w h frames q = Knows rule → 0 < w → 0 < h → (work : List ℤ) → Holds q work (setting rule w h frames) []
+pub record Opens (rule : Quantize) (w h frames : ℕ) (q : Quantizer) : Type 0 where
+  pub ruleIs : q .rule ≡ rule
+  pub widthIs : q .width ≡ w
+  pub heightIs : q .height ≡ h
+  pub holds : Knows rule → 0 < w → 0 < h → (work : List ℤ) → Holds q work (setting rule w h frames) []
+
+-- samples can be taken: there are dots, the side is known, and the work buffer is long enough
+pub record Ready (rule : Quantize) (w h work : ℕ) : Type 0 where
+  pub wide : 0 < w
+  pub high : 0 < h
+  pub served : Served rule w work
+
+-- nothing is taken and nothing is altered
+pub record Idles (q : Quantizer) (out : List ℕ) (work : List ℤ) (r : Ran) (out′ : List ℕ) (work′ : List ℤ) : Type 0 where
+  pub same : r .quantizer ≡ q
+  pub taken : r .taken ≡ 0
+  pub written : r .written ≡ 0
+  pub outSame : out′ ≡ out
+  pub workSame : work′ ≡ work
 
 -- how many samples are taken and bytes written after n samples, for every work buffer
 pub record Counts (q : Quantizer) (s : Setting) (n samples room work : ℕ) (r : Ran) : Type 0 where
@@ -105,6 +122,7 @@ pub record Runs (q : Quantizer) (samples out : List ℕ) (work : List ℤ) (r : 
   pub past : drop (r .written) out′ ≡ drop (r .written) out
   pub beyond : drop (2 * q .width) work′ ≡ drop (2 * q .width) work
   pub spared : (q .rule ≡ Dither → ⊥) → work′ ≡ work
+  pub idle : (Ready (q .rule) (q .width) (q .height) (length work) → ⊥) → Idles q out work r out′ work′
   pub counts : (s : Setting) (n : ℕ) → Stands q s n → Counts q s n (length samples) (length out) (length work) r
   pub machine : (s : Setting) (n : ℕ) (d : ℕ → ℕ) → Stands q s n → Begun (s .width) d n (q .begun)
       → ((i : ℕ) → i < r .taken → d (n + i) ≡ machineBit s n (carryOf (q .corner) work) samples i) → Machines q s n d samples out work r out′ work′
