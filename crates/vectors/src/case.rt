@@ -1,11 +1,12 @@
 // Replaying one case: a reader's answer; a writer's with the bytes that it has to write and those
-// that it has to leave alone.
+// that it has to leave alone; a plane that is changed in place.
 use crate::answer::accepted;
 use crate::answer::both;
 use crate::input::least;
 use crate::list::TEXT;
 use crate::list::number;
 use crate::list::text;
+use crate::planes::convert;
 use crate::readers::answer;
 use crate::writers::write_within;
 
@@ -19,8 +20,11 @@ pub struct Replayed {
     pub next: usize,
 }
 
-// Operations from 16 on are writers.
+// Operations from 16 on are writers; 32 works in place.
 pub fn replay(list: &[u8], start: usize, operation: usize, input: &[u8]) -> Replayed {
+    if operation >= 32 {
+        return replay_in_place(list, start, input);
+    }
     if operation >= 16 {
         return replay_writer(list, start, operation, input);
     }
@@ -56,6 +60,22 @@ fn replay_writer(list: &[u8], start: usize, operation: usize, input: &[u8]) -> R
     Replayed {
         comparisons: 3,
         same: both(exact, both(longer, shorter)),
+        next: output.next,
+    }
+}
+
+// The whole plane is compared, and the bytes after it are unaltered.
+fn replay_in_place(list: &[u8], start: usize, input: &[u8]) -> Replayed {
+    let mut want = [0u8; TEXT];
+    let mut plane = [MARK; TEXT];
+    let got = convert(input, &mut plane);
+    let right = accepted(list, start, &got);
+    let output = text(list, right.next, &mut want);
+    let n = least(output.len, TEXT - 64);
+    let bytes = both(written_as(&plane, &want, n), unaltered(&plane, n, n + 64));
+    Replayed {
+        comparisons: 1,
+        same: both(right.same, bytes),
         next: output.next,
     }
 }

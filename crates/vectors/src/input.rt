@@ -25,6 +25,12 @@ pub fn long(input: &[u8], at: usize) -> u32 {
     (((short(input, at) << 16) | low) % 4294967296) as u32
 }
 
+// A number in eight bytes.
+pub fn longest(input: &[u8], at: usize) -> u64 {
+    let low = long(input, std::num::wrapping_add_usize(at, 4)) as u64;
+    ((long(input, at) as u64) << 32) | low
+}
+
 pub fn front(input: &[u8], n: usize) -> &[u8] {
     let start = 0;
     let end = least(n, input.len());

@@ -95,7 +95,8 @@ fn part(list: &[u8], start: usize, out: &mut [u8], from: usize) -> Stretch {
     }
 }
 
-fn copy(list: &[u8], start: usize, size: usize, out: &mut [u8], from: usize) -> usize {
+// Copies bytes of the list to the output from `from` on, and says where they end there.
+pub fn copy(list: &[u8], start: usize, size: usize, out: &mut [u8], from: usize) -> usize {
     let mut len = from;
     let mut i = 0;
     while i < size {

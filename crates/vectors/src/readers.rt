@@ -7,6 +7,8 @@ use crate::input::front;
 use crate::input::long;
 use crate::input::short;
 use crate::list::byte_at;
+use crate::planes;
+use crate::settings;
 use ext::ExtFieldType;
 use ext::ExtFields;
 use ext::ExtRead;
@@ -31,6 +33,9 @@ pub fn answer(operation: usize, input: &[u8]) -> [usize; 9] {
         8 => lookup(input),
         9 => validate(input),
         10 => from_byte(input),
+        12 => planes::white(input),
+        13 => planes::geometry(input),
+        14 => settings::check(input),
         _ => [0, mbi::mbi_u32_len(long(input, 0)), 0, 0, 0, 0, 0, 0, 0],
     }
 }

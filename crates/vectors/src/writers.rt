@@ -8,6 +8,7 @@ use crate::input::lengths;
 use crate::input::long;
 use crate::input::put_lengths;
 use crate::input::short;
+use crate::planes;
 use error::Written;
 use ext::ExtFieldType;
 use header::ExtPresence;
@@ -29,7 +30,8 @@ fn write(operation: usize, input: &[u8], out: &mut [u8]) -> [usize; 9] {
         18 => written(fields(input, true, out)),
         19 => written(header::write_header(long(input, 0), long(input, 4), out)),
         20 => written(with_fields(input, false, out)),
-        _ => written(with_fields(input, true, out)),
+        21 => written(with_fields(input, true, out)),
+        _ => written(planes::wire(input, out)),
     }
 }
 

@@ -1,7 +1,7 @@
 //! Groups of cases: an operation and the inputs it is tried on.
 
 use oracle::answer::Answer;
-use oracle::{readers, replay, writers};
+use oracle::{planes, readers, replay, settings, writers};
 
 #[derive(Clone, Copy)]
 pub enum Operation {
@@ -16,10 +16,15 @@ pub enum Operation {
     WriteFields { strict: bool },
     WriteHeader,
     WriteHeaderExt { strict: bool },
+    IsWhite,
+    Geometry,
+    Check,
+    WireBits,
+    ConvertFormat,
 }
 
 impl Operation {
-    /// Its number in the list; writers have 16 and above.
+    /// Its number in the list; writers have 16 to 31, and what works in place 32.
     pub fn number(self) -> u8 {
         match self {
             Operation::Integer { strict } => u8::from(strict),
@@ -33,11 +38,16 @@ impl Operation {
             Operation::WriteFields { strict } => 17 + u8::from(strict),
             Operation::WriteHeader => 19,
             Operation::WriteHeaderExt { strict } => 20 + u8::from(strict),
+            Operation::IsWhite => 12,
+            Operation::Geometry => 13,
+            Operation::Check => 14,
+            Operation::WireBits => 22,
+            Operation::ConvertFormat => 32,
         }
     }
 
     pub fn writes(self) -> bool {
-        self.number() >= 16
+        (16..32).contains(&self.number())
     }
 
     pub fn answer(self, input: &[u8]) -> Answer {
@@ -53,6 +63,11 @@ impl Operation {
             Operation::WriteFields { strict } => writers::fields(input, strict),
             Operation::WriteHeader => writers::plain_header(input),
             Operation::WriteHeaderExt { strict } => writers::header_with_fields(input, strict),
+            Operation::IsWhite => planes::is_white(input),
+            Operation::Geometry => planes::geometry(input),
+            Operation::Check => settings::check(input),
+            Operation::WireBits => planes::wire_bits(input),
+            Operation::ConvertFormat => planes::convert_format(input),
         }
     }
 }

@@ -12,11 +12,25 @@ pub mod ext;
 #[path = "../../../target/oracle/rust/header.rs"]
 pub mod header;
 #[allow(dead_code)]
+#[path = "../../../target/oracle/rust/image.rs"]
+pub mod image;
+#[allow(dead_code)]
+#[path = "../../../target/oracle/rust/limits.rs"]
+pub mod limits;
+#[allow(dead_code)]
 #[path = "../../../target/oracle/rust/mbi.rs"]
 pub mod mbi;
+#[allow(dead_code)]
+#[path = "../../../target/oracle/rust/options.rs"]
+pub mod options;
+#[allow(dead_code)]
+#[path = "../../../target/oracle/rust/quantize.rs"]
+pub mod quantize;
 
 pub mod answer;
 pub mod numbers;
+pub mod planes;
 pub mod readers;
 pub mod replay;
+pub mod settings;
 pub mod writers;

@@ -5,6 +5,8 @@ mod ext_cases;
 mod header_cases;
 mod list;
 mod mbi_cases;
+mod plane_cases;
+mod settings_cases;
 mod writer_cases;
 
 use cases::Group;
@@ -24,6 +26,8 @@ fn main() {
         ext_cases::groups(),
         header_cases::groups(),
         writer_cases::groups(),
+        plane_cases::groups(),
+        settings_cases::groups(),
     ]
     .concat();
     let mut list = List::new(LINE);
@@ -43,7 +47,7 @@ fn counts(groups: &[Group]) -> String {
     format!("{lines}all {all}\n")
 }
 
-/// One comparison for a reader's case; for a writer's, three where it accepts (the output
+/// One comparison for a reader's case and for one in place; for a writer's, three where it accepts (the output
 /// exactly long enough, longer and too short) and two where it refuses (no output and some).
 fn comparisons(group: &Group) -> usize {
     let answers = group

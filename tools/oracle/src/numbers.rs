@@ -91,6 +91,21 @@ const TABLE: &[(&str, u8)] = &[
          (A-Za-z0-9) per §4.4.3",
         15,
     ),
+    ("limit exceeded: WBMP: width * exceeds max_width *", 16),
+    ("limit exceeded: WBMP: height * exceeds max_height *", 17),
+    ("limit exceeded: WBMP: * pixels exceed max_pixels *", 18),
+    (
+        "limit exceeded: WBMP: pixel-data size * exceeds max_bytes *",
+        19,
+    ),
+    (
+        "invalid data: WBMP: plane holds * bytes, geometry needs *",
+        20,
+    ),
+    (
+        "invalid data: WBMP: gray buffer holds * bytes, *×* needs *",
+        22,
+    ),
     (
         "invalid data: WBMP ExtField type 00: empty bitfield chain has no terminating octet",
         23,
@@ -100,6 +115,8 @@ const TABLE: &[(&str, u8)] = &[
         "invalid data: WBMP ExtField type 00: payload octet sets bit 7 (reserved for continuation)",
         24,
     ),
+    ("invalid data: WBMP: stride * below packed row size *", 26),
+    ("unsupported: WBMP: plane size overflows usize", 27),
 ];
 
 /// The number of `error`; a message that the table does not know ends the run.
