@@ -8,6 +8,7 @@ mod list;
 mod planes;
 mod readers;
 mod report;
+mod scans;
 mod settings;
 mod sweep;
 mod tally;

@@ -4,6 +4,7 @@
 use crate::answer::checked;
 use crate::input::behind;
 use crate::input::byte;
+use crate::input::least;
 use crate::input::long;
 use crate::input::longest;
 use crate::input::short;
@@ -60,7 +61,7 @@ pub fn convert(input: &[u8], out: &mut [u8]) -> [usize; 9] {
     let plane = behind(input, PLANE);
     let n = copy(plane, 0, plane.len(), out, 0);
     let start = 0;
-    let end = crate::input::least(n, out.len());
+    let end = least(n, out.len());
     convert_plane(input, &mut out[start..end]);
     [0, n, 0, 0, 0, 0, 0, 0, 0]
 }

@@ -9,6 +9,7 @@ use crate::input::long;
 use crate::input::put_lengths;
 use crate::input::short;
 use crate::planes;
+use crate::scans;
 use error::Written;
 use ext::ExtFieldType;
 use header::ExtPresence;
@@ -31,7 +32,10 @@ fn write(operation: usize, input: &[u8], out: &mut [u8]) -> [usize; 9] {
         19 => written(header::write_header(long(input, 0), long(input, 4), out)),
         20 => written(with_fields(input, false, out)),
         21 => written(with_fields(input, true, out)),
-        _ => written(planes::wire(input, out)),
+        22 => written(planes::wire(input, out)),
+        23 => written(scans::threshold(input, out)),
+        24 => written(scans::dither(input, out)),
+        _ => written(scans::ordered(input, out)),
     }
 }
 

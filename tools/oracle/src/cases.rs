@@ -1,7 +1,7 @@
 //! Groups of cases: an operation and the inputs it is tried on.
 
 use oracle::answer::Answer;
-use oracle::{planes, readers, replay, settings, writers};
+use oracle::{planes, readers, replay, scans, settings, writers};
 
 #[derive(Clone, Copy)]
 pub enum Operation {
@@ -20,6 +20,9 @@ pub enum Operation {
     Geometry,
     Check,
     WireBits,
+    Threshold,
+    Dither,
+    Ordered,
     ConvertFormat,
 }
 
@@ -42,6 +45,9 @@ impl Operation {
             Operation::Geometry => 13,
             Operation::Check => 14,
             Operation::WireBits => 22,
+            Operation::Threshold => 23,
+            Operation::Dither => 24,
+            Operation::Ordered => 25,
             Operation::ConvertFormat => 32,
         }
     }
@@ -67,6 +73,9 @@ impl Operation {
             Operation::Geometry => planes::geometry(input),
             Operation::Check => settings::check(input),
             Operation::WireBits => planes::wire_bits(input),
+            Operation::Threshold => scans::threshold(input),
+            Operation::Dither => scans::dither(input),
+            Operation::Ordered => scans::ordered(input),
             Operation::ConvertFormat => planes::convert_format(input),
         }
     }

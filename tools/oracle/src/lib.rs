@@ -32,5 +32,6 @@ pub mod numbers;
 pub mod planes;
 pub mod readers;
 pub mod replay;
+pub mod scans;
 pub mod settings;
 pub mod writers;

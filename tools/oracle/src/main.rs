@@ -6,6 +6,7 @@ mod header_cases;
 mod list;
 mod mbi_cases;
 mod plane_cases;
+mod scan_cases;
 mod settings_cases;
 mod writer_cases;
 
@@ -28,6 +29,7 @@ fn main() {
         writer_cases::groups(),
         plane_cases::groups(),
         settings_cases::groups(),
+        scan_cases::groups(),
     ]
     .concat();
     let mut list = List::new(LINE);
@@ -47,8 +49,9 @@ fn counts(groups: &[Group]) -> String {
     format!("{lines}all {all}\n")
 }
 
-/// One comparison for a reader's case and for one in place; for a writer's, three where it accepts (the output
-/// exactly long enough, longer and too short) and two where it refuses (no output and some).
+/// One comparison for a reader's case and for one in place; for a writer's, three where it
+/// accepts (the output exactly long enough, longer and too short) and two where it refuses (no
+/// output and some).
 fn comparisons(group: &Group) -> usize {
     let answers = group
         .sweeps

@@ -1,0 +1,44 @@
+// Scans of gray made dots by the three rules. A case's input is the rule's number, width and
+// height in four bytes each, and the gray samples.
+use crate::input::behind;
+use crate::input::byte;
+use crate::input::least;
+use crate::input::long;
+use crate::list::byte_at;
+use error::Written;
+
+// The longest work buffer, and what it holds before each call.
+const WORK: usize = 64;
+
+const DIRT: i16 = 12345;
+
+// Where the samples start in the input.
+const GRAY: usize = 9;
+
+// The rule's number is the threshold.
+pub fn threshold(input: &[u8], out: &mut [u8]) -> Written {
+    let gray = behind(input, GRAY);
+    let t = byte_at(input, 0);
+    quantize::threshold_bits(long(input, 1), long(input, 5), gray, t, out)
+}
+
+// The rule's number is the side.
+pub fn ordered(input: &[u8], out: &mut [u8]) -> Written {
+    let gray = behind(input, GRAY);
+    let side = byte_at(input, 0);
+    quantize::ordered_bits(long(input, 1), long(input, 5), gray, side, out)
+}
+
+// The rule's number is the length of the work buffer.
+pub fn dither(input: &[u8], out: &mut [u8]) -> Written {
+    let mut work = [DIRT; WORK];
+    dither_within(&mut work, input, out)
+}
+
+fn dither_within(work: &mut [i16], input: &[u8], out: &mut [u8]) -> Written {
+    let gray = behind(input, GRAY);
+    let start = 0;
+    let end = least(byte(input, 0), work.len());
+    let lent = &mut work[start..end];
+    quantize::dither_bits(long(input, 1), long(input, 5), gray, lent, out)
+}
