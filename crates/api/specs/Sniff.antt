@@ -11,8 +11,8 @@ use Rattle.header.specs.Read.{Outline, outline, readHeader}
 use Rattle.error.specs.Answer.{map}
 use Rattle.image.specs.Geometry.{rowBytes, planeBytes, paddingBits}
 use Rattle.image.specs.Rows.{clearLow}
-use Rattle.api.specs.declared.Sniff.{Sniff}
-use Rattle.api.specs.declared.Sniff.the-variants.{Exact, Truncated, Neither}
+use Rattle.api.specs.declared.Sniffed.{Sniffed}
+use Rattle.api.specs.declared.Sniffed.the-variants.{Exact, Truncated, Neither}
 
 -- clearing the padding of row y of a body changes nothing
 abbrev pub isClear : ℕ → List ℕ → ℕ → Bool
@@ -26,28 +26,28 @@ areClear width body zero = true
 areClear width body (suc rows) = areClear width body rows && isClear width body rows
 
 -- "truncated if short of a frame, exact for 1-16 frames and no rest, else neither"
-abbrev pub sniffLength : ℕ → ℕ → Sniff
+abbrev pub sniffLength : ℕ → ℕ → Sniffed
 sniffLength plane size =
     if (ltb size plane) Truncated (if (eqb (size % plane) 0 && leb (size / plane) 16) Exact Neither)
 
 -- "at least one row; clear padding in every whole row present", those past the sixteenth frame too; a begun row is not looked at
-unfoldable pub sniffBody : ℕ → ℕ → List ℕ → Sniff
+unfoldable pub sniffBody : ℕ → ℕ → List ℕ → Sniffed
 sniffBody width height body =
     if (leb (rowBytes width) (length body) && areClear width body (length body / rowBytes width))
     (sniffLength (planeBytes width height) (length body))
     Neither
 
 -- "needs 00 00, shortest sizes 1..16,384": what a strict header has, and sizes up to 16,384
-abbrev pub sniffHeader : List ℕ → Answer Outline → Sniff
+abbrev pub sniffHeader : List ℕ → Answer Outline → Sniffed
 sniffHeader bytes (gives h) =
     if (leb (h .width) 16384 && leb (h .height) 16384) (sniffBody (h .width) (h .height) (drop (h .body) bytes)) Neither
 sniffHeader bytes (refuses code offset) = Neither
 
-unfoldable pub sniffed : List ℕ → Sniff
+unfoldable pub sniffed : List ℕ → Sniffed
 sniffed bytes = sniffHeader bytes (map outline (readHeader (inner true) bytes))
 
 -- `probe` is above it
-abbrev pub isExact : Sniff → Bool
+abbrev pub isExact : Sniffed → Bool
 isExact Exact = true
 isExact Truncated = false
 isExact Neither = false

@@ -1,13 +1,17 @@
 // What is told of a file before its dots are read.
 use error::WbmpError;
-use header::HeaderExt;
+use header::HeaderFields;
+
+mod facts;
+
+pub use facts::info;
 
 pub struct ImageInfo {
     pub width: u32,
     pub height: u32,
     pub frames: u32,
     pub fix_header: u8,
-    pub ext_fields: HeaderExt,
+    pub ext_fields: HeaderFields,
     pub data_offset: usize,
 }
 
@@ -16,7 +20,7 @@ pub enum InfoRead {
     Refused(WbmpError),
 }
 
-pub enum Sniff {
+pub enum Sniffed {
     // The header and 1 to 16 whole planes.
     Exact,
     // The header, at least one row, and less than a plane.

@@ -9,6 +9,7 @@ use Rattle.error.specs.Answer.{Answer, gives, refuses, bind, map, refusal}
 use Rattle.error.specs.Emits.{output}
 use Rattle.ext.specs.Kinds.{Span}
 use Rattle.header.specs.Read.{Outline, extSpan}
+use Rattle.image.specs.declared.PixelFormat.{PixelFormat}
 use Rattle.options.specs.Limits.{Decoding}
 use Rattle.decoder.specs.Body.{planeOf, framesIn, planes}
 use Rattle.decoder.specs.Image.{readImage}
@@ -57,6 +58,11 @@ decoded ceiling d bytes room = bind (readImage d bytes) (λ h. fitted room h (fr
 pub record Decodes (ceiling : ℕ) (d : Decoding) (bytes : List ℕ) (r : Answer Image) (old new : List ℕ) : Type 0 where
   pub answer : r ≡ decoded ceiling d bytes (length old)
   pub output-is : new ≡ output (shown ceiling d bytes) old
+
+-- the same behind the tests of an image
+pub record Framed (ceiling : ℕ) (format : PixelFormat) (bytes : List ℕ) (h : Outline) (r : Answer Image) (old new : List ℕ) : Type 0 where
+  pub answer : r ≡ fitted (length old) h (framesIn ceiling (length bytes) h)
+  pub output-is : new ≡ output (gives (planes format bytes h (framesIn ceiling (length bytes) h))) old
 
 -- what the code's values mean
 abbrev pub image : DecodedImage → Image

@@ -1,6 +1,15 @@
 // Whole reading: the planes of a file's main image or of all its frames, in the asked format, end to end in the lent output.
 use error::WbmpError;
-use header::HeaderExt;
+use header::HeaderFields;
+use options::DecodeOptions;
+ghost use Rattle.options.specs.Limits.{decoding};
+ghost use Rattle.decoder.specs.Frames.{Decodes, meaning};
+
+mod frames;
+mod image_header;
+mod planes;
+
+pub use frames::animated_frame_count;
 
 // At most this many images follow the main image.
 pub const MAX_ANIMATED_IMAGES: usize = 15;
@@ -12,7 +21,7 @@ pub struct DecodedImage {
     // Bytes written at the front of the lent output.
     pub bytes: usize,
     pub fix_header: u8,
-    pub ext_fields: HeaderExt,
+    pub ext_fields: HeaderFields,
     pub data_offset: usize,
 }
 
@@ -20,4 +29,18 @@ pub enum Decoded {
     Image(DecodedImage),
     // Nothing is written.
     Refused(WbmpError),
+}
+
+// The main image: one plane.
+pub fn decode_image(bytes: &[u8], options: DecodeOptions, out: &mut [u8]) -> Decoded
+    ensures { λ r. ⌜ Decodes 1 (decoding options) (now (bytes .entry)) (meaning r) (now (out .entry)) (now (out .exit)) ⌝ }
+{
+    frames::decode(bytes, options, 0, out)
+}
+
+// The main image and the images that follow it, up to 16 frames.
+pub fn decode_frames(bytes: &[u8], options: DecodeOptions, out: &mut [u8]) -> Decoded
+    ensures { λ r. ⌜ Decodes 16 (decoding options) (now (bytes .entry)) (meaning r) (now (out .entry)) (now (out .exit)) ⌝ }
+{
+    frames::decode(bytes, options, MAX_ANIMATED_IMAGES, out)
 }

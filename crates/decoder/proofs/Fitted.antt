@@ -1,0 +1,93 @@
+-- From the planes to what whole reading promises.
+use Prim.Native.Nat.{ℕ, _+_, _-_, _*_, _≤_, _<_}
+use mathlib.Core.Path.{_≡_, sym, ap, subst, _∙_}
+use mathlib.Core.List.{List, _++_}
+use native.Mathlib.Omega.{arith}
+use borrow.Author.Tests.{ltb-false, le-leb, lt-leb}
+use lib.Dec.{ltb}
+use lib.ListN.{length, drop}
+use Rattle.error.specs.Answer.{Answer, gives, refuses, bind, map}
+use Rattle.error.specs.Emits.{output}
+use Rattle.laws.proofs.Tests.{if-true, if-false}
+use Rattle.header.specs.Read.{Outline}
+use Rattle.image.specs.declared.PixelFormat.{PixelFormat}
+use Rattle.options.specs.Limits.{Decoding, checkLimits}
+use Rattle.decoder.specs.Body.{planeOf, framesIn, planes}
+use Rattle.decoder.specs.Image.{imageSettings, headerOf, testBody, readImage}
+use Rattle.decoder.specs.Frames.{Image, fitted, decoded, shown, Decodes, Framed}
+use Rattle.decoder.proofs.Counted.{frames-fit}
+use Rattle.decoder.proofs.Planed.{planes-length}
+use Rattle.decoder.proofs.Shaped.{bind-gives, unless, outline-shape}
+
+-- an image by its frames and the bytes written
+abbrev pub imageWith : Outline → ℕ → ℕ → Image
+imageWith h frames written =
+    record { width = h .width; height = h .height; frames = frames; written = written; fix = h .fix; fields = h .fields; body = h .body }
+
+pub frames-there : (most : ℕ) (bytes : List ℕ) (h : Outline) (n : ℕ) → n ≡ framesIn (1 + most) (length bytes) h
+    → h .body + planeOf h ≤ length bytes → h .body + n * planeOf h ≤ length bytes
+frames-there most bytes h n e t =
+    let q = frames-fit (1 + most - 1) (planeOf h) (length bytes - h .body) (omega arith) in
+    let p : n * planeOf h ≤ length bytes - h .body = rw e q in
+    omega arith
+
+module _ (most : ℕ) (f : PixelFormat) (bytes : List ℕ) (h : Outline) (n : ℕ) (old : List ℕ) (counted : n ≡ framesIn (1 + most) (length bytes) h)
+    (there : h .body + planeOf h ≤ length bytes) where
+  all-length : length (planes f bytes h n) ≡ n * planeOf h
+  all-length = planes-length f bytes h n (frames-there most bytes h n counted there)
+
+  answers : fitted (length old) h n ≡ fitted (length old) h (framesIn (1 + most) (length bytes) h)
+  answers = ap (fitted (length old) h) counted
+
+  outputs : output (gives (planes f bytes h n)) old ≡ output (gives (planes f bytes h (framesIn (1 + most) (length bytes) h))) old
+  outputs = ap (λ (n : ℕ). output (gives (planes f bytes h n)) old) counted
+
+  pub too-short : length old < n * planeOf h → Framed (1 + most) f bytes h (refuses 25 0) old old
+  too-short l =
+      record {
+        answer = sym (if-false _ _ _ (lt-leb _ _ l)) ∙ answers;
+        output-is = sym (if-false _ _ _ (lt-leb _ _ (subst (λ (k : ℕ). length old < k) (sym all-length) l))) ∙ outputs;
+      }
+
+  pub long-enough : n * planeOf h ≤ length old → (new : List ℕ) → new ≡ planes f bytes h n ++ drop (n * planeOf h) old
+      → (written : ℕ) → written ≡ n * planeOf h → Framed (1 + most) f bytes h (gives (imageWith h n written)) old new
+  long-enough l new e written w =
+      record {
+        answer = ap (λ (k : ℕ). gives (imageWith h n k)) w ∙ sym (if-true _ _ _ (le-leb _ _ l)) ∙ answers;
+        output-is =
+            e ∙ ap (λ (k : ℕ). planes f bytes h n ++ drop k old) (sym all-length)
+            ∙ sym (if-true _ _ _ (le-leb _ _ (subst (λ (k : ℕ). k ≤ length old) (sym all-length) l)))
+            ∙ outputs;
+      }
+
+module _ (ceiling : ℕ) (d : Decoding) (bytes old : List ℕ) where
+  pub decodes : (h : Outline) (r : Answer Image) (new : List ℕ) → readImage d bytes ≡ gives h → Framed ceiling (d .format) bytes h r old new
+      → Decodes ceiling d bytes r old new
+  unfolding decoded shown
+  decodes h r new e p =
+      record {
+        answer = p .answer ∙ sym (ap (λ (a : Answer Outline). bind a (λ h. fitted (length old) h (framesIn ceiling (length bytes) h))) e);
+        output-is =
+            p .output-is
+            ∙ sym (ap (λ (a : Answer Outline). output (map (λ h. planes (d .format) bytes h (framesIn ceiling (length bytes) h)) a) old) e);
+      }
+
+  pub refused : (code offset : ℕ) → readImage d bytes ≡ refuses code offset → Decodes ceiling d bytes (refuses code offset) old old
+  unfolding decoded shown
+  refused code offset e =
+      record {
+        answer = sym (ap (λ (a : Answer Outline). bind a (λ h. fitted (length old) h (framesIn ceiling (length bytes) h))) e);
+        output-is = sym (ap (λ (a : Answer Outline). output (map (λ h. planes (d .format) bytes h (framesIn ceiling (length bytes) h)) a) old) e);
+      }
+
+-- the first plane of an image that was read is there
+pub plane-there : (d : Decoding) (bytes : List ℕ) (h : Outline) → readImage d bytes ≡ gives h → h .body + planeOf h ≤ length bytes
+unfolding readImage testBody
+plane-there d bytes h =
+    bind-gives (headerOf (d .strict) bytes) _ h (λ g p.
+    bind-gives (checkLimits d (g .width) (g .height) (planeOf g) (g .body)) _ h (λ _ q.
+    unless (ltb (length bytes - g .body) (planeOf g)) 20 (g .body) _ h (λ t e.
+    let b = outline-shape (imageSettings (d .strict)) bytes g p .2 in
+    let k = ltb-false (length bytes - g .body) (planeOf g) t in
+    let w : g ≡ h = cc in
+    subst (λ (g : Outline). g .body + planeOf g ≤ length bytes) w (omega arith))))

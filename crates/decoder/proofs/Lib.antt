@@ -1,0 +1,5 @@
+pub mod Counted
+pub mod Headed
+pub mod Planed
+pub mod Shaped
+pub mod Fitted
