@@ -1,1 +1,4 @@
+pub mod Cleared
 pub mod Told
+pub mod Looked
+pub mod Examples

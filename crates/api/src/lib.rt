@@ -3,8 +3,11 @@ use error::WbmpError;
 use header::HeaderFields;
 
 mod facts;
+mod sniffing;
 
 pub use facts::info;
+pub use sniffing::probe;
+pub use sniffing::sniff;
 
 pub struct ImageInfo {
     pub width: u32,

@@ -30,7 +30,7 @@ module _ (most plane body : ℕ) where
   pub many : most < whole → most ≡ extraFrames most plane body
   many h = sym (if-false (leb whole most) whole most (lt-leb whole most h))
 
-  least : (t : Bool) → leb whole most ≡ t → (if t whole most ≤ most) × (if t whole most ≤ whole)
+  pub least : (t : Bool) → leb whole most ≡ t → (if t whole most ≤ most) × (if t whole most ≤ whole)
   least true e = (leb-true whole most e, omega arith)
   least false e = let h = leb-false whole most e in (omega arith, omega arith)
 

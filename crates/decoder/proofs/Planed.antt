@@ -72,7 +72,7 @@ lent-room from plane to bytes out a b =
 more : (k n : ℕ) → suc k * n ≡ k * n + n
 more k n = omega arith
 
-one-less : (a k n size : ℕ) → a + suc k * n ≤ size → (a + k * n ≤ size) × (a + k * n + n ≤ size)
+pub one-less : (a k n size : ℕ) → a + suc k * n ≤ size → (a + k * n ≤ size) × (a + k * n + n ≤ size)
 one-less a k n size h = let e = more k n in (omega arith, omega arith)
 
 module _ (f : PixelFormat) (bytes : List ℕ) (h : Outline) where

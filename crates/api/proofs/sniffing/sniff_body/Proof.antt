@@ -1,0 +1,72 @@
+use mathlib.Core.Path.{sym, _∙_}
+use native.Mathlib.Omega.{arith}
+use borrow.Author.Needs.{needs}
+use borrow.Author.Tests.{not-true, not-false}
+use denote.Ref.{now}
+use Rattle.api.proofs.Looked.{row-is, mask-is, row-some, plane-some, rows-in, no-row, dirty, clean}
+use Rattle.api.proofs.sniffing.sniff_body.Statement.{statement}
+use Rattle.api.proofs.sniffing.sniff_body.Tie as tie
+
+new-requires : tie.Need-new-requires
+new-requires c κs = search needs
+
+returns : tie.Need-returns
+returns c =
+    let n = c .before in
+    let a = n .before .before .args in
+    sym (no-row (a .width) (a .height) (now (a .body)) (n .new .result) (n .new .ensures) (c .if1 .taken))
+
+div-are-clear : tie.Need-div-are-clear
+div-are-clear c =
+    let n = c .before in
+    let s = n .before .before in
+    let p = row-some (s .args .width) (s .args .height) (now (s .args .body)) (n .new .result) (n .new .ensures) (s .pre .0) in
+    omega arith
+
+are-clear-requires : tie.Need-are-clear-requires
+are-clear-requires c κs =
+    let n = c .before in
+    let s = n .before .before in
+    let a = s .args in
+    (row-some (a .width) (a .height) (now (a .body)) (n .new .result) (n .new .ensures) (s .pre .0),
+    row-is (a .width) (a .height) (now (a .body)) (n .new .result) (n .new .ensures),
+    mask-is (a .width) (a .height) (now (a .body)) (n .new .result) (n .new .ensures),
+    rows-in (a .width) (a .height) (now (a .body)) (n .new .result) (n .new .ensures))
+
+returns-2 : tie.Need-returns-2
+returns-2 c =
+    let e = c .before .before in
+    let n = e .before in
+    let a = n .before .before .args in
+    sym
+    (dirty (a .width) (a .height) (now (a .body)) (n .new .result) (n .new .ensures) (e .if1 .left)
+    (sym (c .before .are-clear .ensures) ∙ not-true _ (c .if2 .taken)))
+
+sniff-length-requires : tie.Need-sniff-length-requires
+sniff-length-requires c κs =
+    let n = c .before .before .before in
+    let s = n .before .before in
+    plane-some (s .args .width) (s .args .height) (now (s .args .body)) (n .new .result) (n .new .ensures) (s .pre .0) (s .pre .1)
+
+returns-3 : tie.Need-returns-3
+returns-3 c =
+    let k = c .before in
+    let e = k .before .before in
+    let n = e .before in
+    let a = n .before .before .args in
+    c .sniff-length .ensures
+    ∙ sym
+    (clean (a .width) (a .height) (now (a .body)) (n .new .result) (n .new .ensures) (e .if1 .left)
+    (sym (k .before .are-clear .ensures) ∙ not-false _ (k .if2 .left)))
+
+pub sniff-body-spec : {M : Type 1} → statement M
+sniff-body-spec =
+    tie.close
+    (tie.spec
+    new-requires
+    returns
+    div-are-clear
+    are-clear-requires
+    returns-2
+    sniff-length-requires
+    returns-3)

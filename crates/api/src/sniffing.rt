@@ -1,0 +1,94 @@
+// Whether bytes are a whole file, the front of one, or neither.
+use crate::Sniffed;
+use header::HeaderRead;
+use image::PlaneLayout;
+ghost use mathlib.Core.Path.{_≡_};
+ghost use Prim.Native.Nat.{_<_, _≤_, _*_};
+ghost use lib.ListN.{length};
+ghost use Rattle.image.specs.Geometry.{rowBytes, paddingMask};
+ghost use Rattle.api.specs.Sniff.{areClear, sniffLength, sniffBody, sniffed, isExact};
+
+// The largest width and height that are taken for an image's.
+pub const PROBE_MAX_DIMENSION: u32 = 16384;
+
+// Whether the padding of a body's first rows is clear.
+fn are_clear(body: &[u8], width: u32, row: usize, mask: u8, rows: usize) -> bool
+    requires { ⌜ (0 < row) × (row ≡ rowBytes width) × (mask ≡ paddingMask width) × (rows * row ≤ length (now body)) ⌝ }
+    ensures { λ r. ⌜ r ≡ areClear width (now (body .entry)) rows ⌝ }
+{
+    let mut y: usize = 0;
+    while y < rows {
+        let last = body[y * row + (row - 1)];
+        if last & mask != last {
+            return false;
+        }
+        y += 1;
+    }
+    true
+}
+
+fn sniff_length(plane: usize, size: usize) -> Sniffed
+    requires { ⌜ 0 < plane ⌝ }
+    ensures { λ r. ⌜ r ≡ sniffLength plane size ⌝ }
+{
+    if size < plane {
+        return Sniffed::Truncated;
+    }
+    if size % plane != 0 {
+        return Sniffed::Neither;
+    }
+    if size / plane > 16 {
+        return Sniffed::Neither;
+    }
+    Sniffed::Exact
+}
+
+fn sniff_body(width: u32, height: u32, body: &[u8]) -> Sniffed
+    requires { ⌜ (0 < width) × (0 < height) ⌝ }
+    ensures { λ r. ⌜ r ≡ sniffBody width height (now (body .entry)) ⌝ }
+{
+    let layout = PlaneLayout::new(width, height);
+    let row = layout.stride;
+    let plane = layout.total_bytes;
+    let mask = layout.last_byte_pad_mask;
+    let size = body.len();
+    if size < row {
+        return Sniffed::Neither;
+    }
+    if !are_clear(body, width, row, mask, size / row) {
+        return Sniffed::Neither;
+    }
+    sniff_length(plane, size)
+}
+
+// A header of 00 00 and shortest sizes, then rows with clear padding: exact with 1 to 16 whole planes, truncated short of one.
+pub fn sniff(bytes: &[u8]) -> Sniffed
+    ensures { λ r. ⌜ r ≡ sniffed (now (bytes .entry)) ⌝ }
+{
+    match header::parse_header_inner(bytes, true) {
+        HeaderRead::Header(h) => {
+            let start = h.data_offset;
+            let width = h.width;
+            let height = h.height;
+            if width > PROBE_MAX_DIMENSION {
+                return Sniffed::Neither;
+            }
+            if height > PROBE_MAX_DIMENSION {
+                return Sniffed::Neither;
+            }
+            sniff_body(width, height, &bytes[start..])
+        }
+        HeaderRead::Refused(_) => Sniffed::Neither,
+    }
+}
+
+// Whether bytes are a whole file.
+pub fn probe(bytes: &[u8]) -> bool
+    ensures { λ r. ⌜ r ≡ isExact (sniffed (now (bytes .entry))) ⌝ }
+{
+    match sniff(bytes) {
+        Sniffed::Exact => true,
+        Sniffed::Truncated => false,
+        Sniffed::Neither => false,
+    }
+}

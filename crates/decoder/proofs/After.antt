@@ -1,0 +1,95 @@
+-- Bytes that follow a file: which of them change nothing.
+use Prim.Native.Nat.{ℕ, zero, suc, _+_, _-_, _*_, _≤_}
+use mathlib.Core.Path.{_≡_, refl, sym, ap, _∙_}
+use mathlib.Core.Bool.{Bool, true, false, not}
+use mathlib.Core.List.{List, _++_}
+use native.Mathlib.Omega.{arith}
+use borrow.Author.Tests.{ltb-false, le-ltb}
+use lib.Dec.{ltb, leb}
+use lib.ListN.{length, take, drop, length-append, length-drop}
+use lib.Seq.{take-append-le, drop-append-le}
+use Rattle.error.specs.Choice.{if}
+use Rattle.error.specs.Answer.{Answer, gives, refuses, bind, map, isEnd}
+use Rattle.laws.proofs.Tests.{zero-one}
+use Rattle.ext.proofs.Prefix.{settled}
+use Rattle.header.specs.Read.{Header, Outline, outline, readHeader}
+use Rattle.header.proofs.Prefix.{header-prefix}
+use Rattle.image.specs.Geometry.{rowBytes}
+use Rattle.image.specs.Rows.{convertFormat}
+use Rattle.image.specs.declared.PixelFormat.{PixelFormat}
+use Rattle.image.specs.declared.PixelFormat.the-variants.{MonoBlack}
+use Rattle.options.specs.Limits.{Decoding, checkLimits}
+use Rattle.decoder.specs.Body.{planeOf, framesIn, planeAt, planes}
+use Rattle.decoder.specs.Image.{imageSettings, headerOf, testBody, readImage}
+use Rattle.decoder.specs.Frames.{Image, fitted, decoded}
+use Rattle.decoder.proofs.Planed.{one-less}
+
+bind-kept : {A B : Type 0} (x x′ : Answer A) (k k′ : A → Answer B) → (settled x ≡ true → x′ ≡ x) → ((a : A) → settled (k a) ≡ true → k′ a ≡ k a)
+    → settled (bind x k) ≡ true → bind x′ k′ ≡ bind x k
+bind-kept (gives a) x′ k k′ p q e = ap (λ (y : Answer _). bind y k′) (p refl) ∙ q a e
+bind-kept (refuses code offset) x′ k k′ p q e = ap (λ (y : Answer _). bind y k′) (p e)
+
+outline-settled : (x : Answer Header) → settled (map outline x) ≡ settled x
+outline-settled (gives a) = refl
+outline-settled (refuses code offset) = refl
+
+module _ (s ρ : List ℕ) where
+  pub longer : length s ≤ length (s ++ ρ)
+  longer = rw length-append (omega arith)
+
+  header-kept : (strict : Bool) → settled (headerOf strict s) ≡ true → headerOf strict (s ++ ρ) ≡ headerOf strict s
+  header-kept strict e =
+      ap (map outline)
+      (header-prefix (imageSettings strict) s ρ (sym (outline-settled (readHeader (imageSettings strict) s)) ∙ e))
+
+  body-kept : (d : Decoding) (h : Outline) → settled (testBody d (length s) h) ≡ true → testBody d (length (s ++ ρ)) h ≡ testBody d (length s) h
+  unfolding testBody
+  body-kept d h =
+      bind-kept (checkLimits d (h .width) (h .height) (planeOf h) (h .body)) (checkLimits d (h .width) (h .height) (planeOf h) (h .body)) _ _
+      (λ _. refl) (λ _. go (ltb (length s - h .body) (planeOf h)) refl)
+    where
+      go : (t : Bool) → ltb (length s - h .body) (planeOf h) ≡ t → settled {A = Outline} (if t (refuses 20 (h .body)) (gives h)) ≡ true
+          → if (ltb (length (s ++ ρ) - h .body) (planeOf h)) (refuses 20 (h .body)) (gives h) ≡ if t (refuses 20 (h .body)) (gives h)
+      go true p q = zero-one (cc)
+      go false p q =
+          let k = ltb-false (length s - h .body) (planeOf h) p in
+          let l = longer in
+          rw (le-ltb (length (s ++ ρ) - h .body) (planeOf h) (omega arith))
+
+  -- an image's answer other than an early end (1, 6, 9, 13, 20) stays
+  pub image-kept : (d : Decoding) → settled (readImage d s) ≡ true → readImage d (s ++ ρ) ≡ readImage d s
+  unfolding readImage
+  image-kept d =
+      bind-kept (headerOf (d .strict) s) (headerOf (d .strict) (s ++ ρ)) (testBody d (length s)) (testBody d (length (s ++ ρ)))
+      (header-kept (d .strict)) (body-kept d)
+
+  -- A refusal other than 1, 6, 9, 13, 20, 25 is kept when bytes follow.
+  pub refusal-kept : (ceiling : ℕ) (d : Decoding) (room code offset : ℕ) → isEnd code ≡ false → (code ≡ 25 → ⊥)
+      → decoded ceiling d s room ≡ refuses code offset → decoded ceiling d (s ++ ρ) room ≡ refuses code offset
+  unfolding decoded
+  refusal-kept ceiling d room code offset f n = go (readImage d s) refl
+    where
+      unfit : {X : Type 0} (t : Bool) (i : Image) → if t (gives i) (refuses 25 0) ≡ refuses code offset → X
+      unfit true i q = zero-one (cc)
+      unfit false i q = let e : _≡_ {A = ℕ} 25 code = cc in absurd (n (sym e))
+
+      go : (x : Answer Outline) → readImage d s ≡ x → bind x (λ h. fitted room h (framesIn ceiling (length s) h)) ≡ refuses code offset
+          → bind (readImage d (s ++ ρ)) (λ h. fitted room h (framesIn ceiling (length (s ++ ρ)) h)) ≡ refuses code offset
+      go (gives h) e q = unfit (leb (framesIn ceiling (length s) h * planeOf h) room) _ q
+      go (refuses c o) e q =
+          let same : c ≡ code = cc in
+          let met : settled (readImage d s) ≡ true = ap settled e ∙ ap (λ (k : ℕ). not (isEnd k)) same ∙ ap not f in
+          ap (λ (a : Answer Outline). bind a (λ h. fitted room h (framesIn ceiling (length (s ++ ρ)) h))) (image-kept d met ∙ e) ∙ q
+
+  part-kept : (n a : ℕ) → a + n ≤ length s → take n (drop a (s ++ ρ)) ≡ take n (drop a s)
+  part-kept n a b =
+      ap (take n) (drop-append-le a s ρ (omega arith)) ∙ take-append-le n (drop a s) ρ (rw length-drop (omega arith))
+
+  pub planes-kept : (f : PixelFormat) (h : Outline) (k : ℕ) → h .body + k * planeOf h ≤ length s → planes f (s ++ ρ) h k ≡ planes f s h k
+  unfolding planes planeAt
+  planes-kept f h zero b = refl
+  planes-kept f h (suc k) b =
+      let l = one-less (h .body) k (planeOf h) (length s) b in
+      ap (λ (p : List ℕ). p ++ planeAt f (s ++ ρ) h k) (planes-kept f h k (l .0))
+      ∙ ap (λ (p : List ℕ). planes f s h k ++ convertFormat MonoBlack f (h .width) (h .height) (rowBytes (h .width)) p)
+      (part-kept (planeOf h) (h .body + k * planeOf h) (l .1))
