@@ -5,6 +5,7 @@ use Rattle.mbi.specs.Bytes.{mbiBytes, groups}
 use Rattle.mbi.specs.Read.{readRest, readByte}
 use Rattle.ext.specs.Read.{readFields, readPairs, readPair}
 use Rattle.header.specs.Read.{readHeader}
+use Rattle.api.specs.Sniff.{sniffed, sniffBody, areClear}
 use Rattle.image.specs.Rows.{convertFormat, convertRows, convertRow, clearPadding}
 use Rattle.quantize.specs.Diffusion.{part, value, white, residual, valueFrom, handed, rowValue, above, valueAt}
 use Rattle.quantize.specs.Ordered.{number, numbers, bound}
@@ -15,6 +16,6 @@ use Rattle.conformance.specs.Table.{table}
 use Rattle.conformance.specs.Check.{allPass}
 
 pub cards : allPass table ≡ true
-unfolding mbiBytes groups readRest readByte readHeader readFields readPairs readPair convertFormat convertRows convertRow clearPadding
+unfolding sniffed sniffBody areClear mbiBytes groups readRest readByte readHeader readFields readPairs readPair convertFormat convertRows convertRow clearPadding
     part value white residual valueFrom handed rowValue above valueAt number numbers bound dot begunBytes count frame dotOf bitAt byteAt finished upto appended
 cards = refl

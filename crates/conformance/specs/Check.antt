@@ -11,13 +11,16 @@ use Rattle.mbi.specs.Read.{readMbi}
 use Rattle.ext.specs.Kinds.{Pair, Fields, none, bitfield, reserved, pairs}
 use Rattle.header.specs.Settings.{extInner}
 use Rattle.header.specs.Read.{Header, readHeader}
+use Rattle.api.specs.Sniff.{sniffed}
+use Rattle.api.specs.declared.Sniffed.{Sniffed}
+use Rattle.api.specs.declared.Sniffed.the-variants.{Exact, Truncated, Neither}
 use Rattle.image.specs.Geometry.{rowBytes}
 use Rattle.image.specs.Rows.{convertFormat}
 use Rattle.image.specs.declared.PixelFormat.the-variants.{MonoBlack, MonoWhite}
 use Rattle.quantize.specs.Diffusion.{round16}
 use Rattle.quantize.specs.Rule.{dot}
 use Rattle.quantize.specs.Finished.{finished}
-use Rattle.conformance.specs.Table.{Row, number, value, refused, header, monoWhite, plane, rounding, corner}
+use Rattle.conformance.specs.Table.{Row, number, value, refused, header, sniffing, monoWhite, plane, rounding, corner}
 
 abbrev pub same : List ℕ → List ℕ → Bool
 same [] [] = true
@@ -58,12 +61,24 @@ sameDot true d = d
 sameDot false true = false
 sameDot false false = true
 
+abbrev pub sameSniff : Sniffed → Sniffed → Bool
+sameSniff Exact Exact = true
+sameSniff Exact Truncated = false
+sameSniff Exact Neither = false
+sameSniff Truncated Exact = false
+sameSniff Truncated Truncated = true
+sameSniff Truncated Neither = false
+sameSniff Neither Exact = false
+sameSniff Neither Truncated = false
+sameSniff Neither Neither = true
+
 abbrev pub passes : Row → Bool
 passes (number n bytes) =
     same (mbiBytes n) bytes && givesValue (readMbi false bytes 0) n (length bytes) && givesValue (readMbi true bytes 0) n (length bytes)
 passes (value strict bytes v) = givesValue (readMbi strict bytes 0) v (length bytes)
 passes (refused strict bytes code offset) = isRefused (readMbi strict bytes 0) code offset
 passes (header bytes w h i v body) = givesHeader (readHeader (extInner false) bytes) w h i v body
+passes (sniffing bytes answer) = sameSniff (sniffed bytes) answer
 passes (monoWhite w h body bytes) = same (convertFormat MonoBlack MonoWhite w h (rowBytes w) body) bytes
 passes (plane rule w h samples bytes) = same (finished (record { rule = rule; width = w; height = h; frames = 1 }) samples) bytes
 passes (rounding n r) = sameNumber (round16 n) r

@@ -4,6 +4,8 @@ use mathlib.Core.Bool.{Bool, true, false}
 use mathlib.Core.List.{List, [], _∷_, _++_}
 use lib.IntN.{ℤ, pos, negsuc}
 use lib.ListN.{replicate}
+use Rattle.api.specs.declared.Sniffed.{Sniffed}
+use Rattle.api.specs.declared.Sniffed.the-variants.{Exact, Truncated, Neither}
 use Rattle.quantize.specs.Ordered.{numbers}
 use Rattle.quantize.specs.Rule.{Rule, threshold, dither, ordered}
 
@@ -16,6 +18,8 @@ pub data Row : Type 0 where
   refused : Bool → List ℕ → ℕ → ℕ → Row
   -- a header, read leniently: width, height, the identifier and the value of its one pair, and where the body starts
   header : List ℕ → ℕ → ℕ → List ℕ → List ℕ → ℕ → Row
+  -- a file, and what sniffing says of it
+  sniffing : List ℕ → Sniffed → Row
   -- a body of a width and height, and its bytes as MonoWhite
   monoWhite : ℕ → ℕ → List ℕ → List ℕ → Row
   -- samples of a width and height under a rule, and the plane's bytes
@@ -44,6 +48,9 @@ table =
     ∷ (4, refused false (replicate 7 0x80 ++ (0x05 ∷ [])) 3 8)
     ∷ (4, refused false (replicate 7 0x80) 1 7)
     ∷ (5, header (0x00 ∷ 0xE0 ∷ 0x12 ∷ 0x6B ∷ 0x31 ∷ 0x32 ∷ 0x09 ∷ 0x02 ∷ []) 9 2 (0x6B ∷ []) (0x31 ∷ 0x32 ∷ []) 8)
+    ∷ (6, sniffing (0x00 ∷ 0x00 ∷ 0x09 ∷ 0x02 ∷ 0xFF ∷ 0x80 ∷ 0x00 ∷ 0x00 ∷ []) Exact)
+    ∷ (6, sniffing (0x00 ∷ 0x00 ∷ 0x09 ∷ 0x02 ∷ 0xFF ∷ 0x80 ∷ 0x00 ∷ 0x01 ∷ []) Neither)
+    ∷ (6, sniffing (0x00 ∷ 0x00 ∷ 0x09 ∷ 0x02 ∷ 0xFF ∷ 0x80 ∷ 0x00 ∷ []) Truncated)
     ∷ (7, monoWhite 9 2 (0xFF ∷ 0x80 ∷ 0x00 ∷ 0x00 ∷ []) (0x00 ∷ 0x00 ∷ 0xFF ∷ 0x80 ∷ []))
     ∷ (8, plane dither 2 1 (127 ∷ 128 ∷ []) (0x40 ∷ []))
     ∷ (9, plane dither 1 2 (128 ∷ 128 ∷ []) (0x80 ∷ 0x00 ∷ []))

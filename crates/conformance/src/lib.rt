@@ -1,1 +1,1 @@
-// Document 01's cards P1 to P5 and P7 to P12 as one table, in specs/, and the theorem about it, in proofs/. There is no code here.
+// Document 01's cards P1 to P12 as one table, in specs/, and the theorem about it, in proofs/. There is no code here.

@@ -73,14 +73,15 @@ module _ (s ρ : List ℕ) (ceiling : ℕ) (d : Decoding) (h : Outline) (read : 
       let again : readImage d (s ++ ρ) ≡ gives h = image-kept s ρ d (ap settled read) ∙ read in
       let there = plane-there d s h read in
       let fit = frames-fit (ceiling - 1) (planeOf h) (length s - h .body) (omega arith) in
-      let inside : h .body + framesIn ceiling (length s) h * planeOf h ≤ length s = omega arith in
-      (ap (λ (a : Answer Outline). bind a (λ h. fitted room h (framesIn ceiling (length (s ++ ρ)) h))) again
-      ∙ ap (fitted room h) e
-      ∙ sym (ap (λ (a : Answer Outline). bind a (λ h. fitted room h (framesIn ceiling (length s) h))) read),
-      ap (map (λ h. planes (d .format) (s ++ ρ) h (framesIn ceiling (length (s ++ ρ)) h))) again
-      ∙ ap (λ (k : ℕ). gives (planes (d .format) (s ++ ρ) h k)) e
-      ∙ ap gives (planes-kept s ρ (d .format) h (framesIn ceiling (length s) h) inside)
-      ∙ sym (ap (map (λ h. planes (d .format) s h (framesIn ceiling (length s) h))) read))
+      let inside : h .body + framesIn ceiling (length s) h * planeOf h ≤ length s = omega arith in (
+        ap (λ (a : Answer Outline). bind a (λ h. fitted room h (framesIn ceiling (length (s ++ ρ)) h))) again
+            ∙ ap (fitted room h) e
+            ∙ sym (ap (λ (a : Answer Outline). bind a (λ h. fitted room h (framesIn ceiling (length s) h))) read),
+        ap (map (λ h. planes (d .format) (s ++ ρ) h (framesIn ceiling (length (s ++ ρ)) h))) again
+            ∙ ap (λ (k : ℕ). gives (planes (d .format) (s ++ ρ) h k)) e
+            ∙ ap gives (planes-kept s ρ (d .format) h (framesIn ceiling (length s) h) inside)
+            ∙ sym (ap (map (λ h. planes (d .format) s h (framesIn ceiling (length s) h))) read),
+      )
 
   further : length s - h .body ≤ length (s ++ ρ) - h .body
   further = let l = longer s ρ in omega arith

@@ -59,10 +59,11 @@ loop-again c =
     let k = c .before in
     let l = k .before .before in
     let a = l .before .args in
-    let p = l .before .pre in
-    (omega (arith, k .before .loop-test .taken),
-    one-more (a .width) (now (a .body)) (l .loop .y) (l .loop .inv .1)
-    (clear (a .width) (now (a .body)) (a .row) (a .mask) (l .loop .y) (p .1) (p .2) (omega (arith, k .shared-slice-known .given (l .loop .y * a .row + (a .row - 1)))) (c .if1 .left)))
+    let p = l .before .pre in (
+      omega (arith, k .before .loop-test .taken),
+      one-more (a .width) (now (a .body)) (l .loop .y) (l .loop .inv .1)
+          (clear (a .width) (now (a .body)) (a .row) (a .mask) (l .loop .y) (p .1) (p .2) (omega (arith, k .shared-slice-known .given (l .loop .y * a .row + (a .row - 1)))) (c .if1 .left)),
+    )
 
 returns-2 : tie.Need-returns-2 Inv-loop μ-loop
 returns-2 c =

@@ -27,11 +27,12 @@ are-clear-requires : tie.Need-are-clear-requires
 are-clear-requires c κs =
     let n = c .before in
     let s = n .before .before in
-    let a = s .args in
-    (row-some (a .width) (a .height) (now (a .body)) (n .new .result) (n .new .ensures) (s .pre .0),
-    row-is (a .width) (a .height) (now (a .body)) (n .new .result) (n .new .ensures),
-    mask-is (a .width) (a .height) (now (a .body)) (n .new .result) (n .new .ensures),
-    rows-in (a .width) (a .height) (now (a .body)) (n .new .result) (n .new .ensures))
+    let a = s .args in (
+      row-some (a .width) (a .height) (now (a .body)) (n .new .result) (n .new .ensures) (s .pre .0),
+      row-is (a .width) (a .height) (now (a .body)) (n .new .result) (n .new .ensures),
+      mask-is (a .width) (a .height) (now (a .body)) (n .new .result) (n .new .ensures),
+      rows-in (a .width) (a .height) (now (a .body)) (n .new .result) (n .new .ensures),
+    )
 
 returns-2 : tie.Need-returns-2
 returns-2 c =
