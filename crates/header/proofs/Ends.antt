@@ -1,13 +1,13 @@
 -- An input that ends before its header does, and the refusals that are met before that.
 use Prim.Native.Nat.{ℕ}
 use mathlib.Core.Path.{_≡_, _∙_, refl, sym, subst}
-use mathlib.Core.Bool.{true}
+use mathlib.Core.Bool.{true, false}
 use mathlib.Core.List.{[]}
 use Rattle.error.specs.Answer.{refuses, isEnd}
 use Rattle.mbi.specs.Read.{integer}
 use Rattle.ext.specs.Bytewise.{octets, octet, pairsFrom}
-use Rattle.header.specs.Settings.{Settings}
-use Rattle.header.specs.Machine.{State, inType, atFix, inOctets, atOctet, atPair, inIdentifier, inValue, inWidth, inHeight, fixFrom, resume}
+use Rattle.header.specs.Settings.{Settings, inner}
+use Rattle.header.specs.Machine.{State, inType, atFix, inOctets, atOctet, atPair, inIdentifier, inValue, inWidth, inHeight, fixFrom, resume, start}
 
 -- the code and the offset of an input that ends at a state
 abbrev pub endCode : State → ℕ
@@ -61,3 +61,7 @@ end-short o st code offset e =
     let q = sym (end-is o st) ∙ e in
     let c : endCode st ≡ code = cc in
     subst (λ (k : ℕ). isEnd k ≡ true) c (end-code st)
+
+-- an empty input ends in its type
+empty : isEnd 1 ≡ true
+empty = end-short (inner false) start 1 0 (end-is (inner false) start)

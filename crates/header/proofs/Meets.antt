@@ -6,9 +6,10 @@ use mathlib.Core.List.{List, [], _∷_, _++_}
 use Rattle.error.specs.Answer.{gives, refuses, isEnd}
 use Rattle.laws.proofs.Tests.{zero-one}
 use Rattle.mbi.specs.Read.{readByte, integer}
+use Rattle.ext.specs.Kinds.{absent}
 use Rattle.header.specs.Settings.{Settings, inner}
 use Rattle.header.specs.Read.{Outline}
-use Rattle.header.specs.Machine.{State, start, Step, more, done, refused, resume, steps, after}
+use Rattle.header.specs.Machine.{State, start, Step, more, done, refused, fixFrom, resume, steps, after}
 use Rattle.header.proofs.Machine.{steps-law, steps-all}
 use Rattle.header.proofs.Keeps.{SoundStep, sound-steps, sound-start}
 use Rattle.header.proofs.Ends.{end-is, end-short}
@@ -52,3 +53,14 @@ five-on = met (inner false) start (5 ∷ []) 5 1 five
 
 five-code : isEnd 5 ≡ false
 five-code = met-code (inner false) (5 ∷ []) 5 1 five
+
+-- a card of 9 by 2: its header is found with its fourth byte, whatever comes after it
+abbrev nine : Outline
+nine = record { width = 9; height = 2; fix = 0; fields = absent; body = 4 }
+
+nine-found : steps (inner false) start (0 ∷ 0 ∷ 9 ∷ 2 ∷ []) ≡ done nine
+unfolding resume integer readByte fixFrom
+nine-found = finds (inner false) start (0 ∷ 0 ∷ 9 ∷ 2 ∷ []) nine refl
+
+nine-on : (τ : List ℕ) → resume (inner false) start (0 ∷ 0 ∷ 9 ∷ 2 ∷ τ) ≡ gives nine
+nine-on = found (inner false) start (0 ∷ 0 ∷ 9 ∷ 2 ∷ []) nine nine-found

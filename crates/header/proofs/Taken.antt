@@ -9,10 +9,10 @@ use lib.ListN.{length}
 use Rattle.error.specs.Choice.{if}
 use Rattle.laws.proofs.Tests.{zero-one}
 use Rattle.mbi.specs.Read.{ByteRead, goes, ends, wrong, readByte}
-use Rattle.ext.specs.Kinds.{fieldsFollow, kindBits}
+use Rattle.ext.specs.Kinds.{absent, fieldsFollow, kindBits}
 use Rattle.ext.specs.Bytewise.{valueFault}
-use Rattle.header.specs.Settings.{Settings}
-use Rattle.header.specs.Machine.{State, inType, atFix, inOctets, atOctet, atPair, inIdentifier, inValue, inWidth, inHeight, Step, more, done, refused, onByte, stepOf, steps}
+use Rattle.header.specs.Settings.{Settings, inner}
+use Rattle.header.specs.Machine.{State, inType, atFix, inOctets, atOctet, atPair, inIdentifier, inValue, inWidth, inHeight, Step, more, done, refused, onByte, stepOf, steps, start}
 use Rattle.header.specs.Pieces.{onward}
 use Rattle.header.proofs.Machine.{steps-cons}
 
@@ -75,3 +75,8 @@ module _ (o : Settings) where
       go (more s) m ih q = omega (arith, m, ih s q)
       go (done h) m ih q = zero-one (cc)
       go (refused code offset) m ih q = zero-one (cc)
+
+-- behind a card's type and fix byte two bytes are taken
+two : taken (inWidth 0 absent 2 0 0) ≡ 2
+unfolding steps stepOf readByte
+two = taken-steps (inner false) (0 ∷ 0 ∷ []) start (inWidth 0 absent 2 0 0) refl
