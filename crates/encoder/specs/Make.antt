@@ -1,0 +1,46 @@
+-- Whole making (document 01, encoder.rs and "Several frames"): "Whole making takes a count and that many scans end to end, width × height
+-- samples each. Surplus is ignored; a total past 64 bits is too short".
+use Prim.Native.Nat.{ℕ, _*_}
+use mathlib.Core.Path.{_≡_}
+use mathlib.Core.List.{List}
+use lib.Dec.{ltb}
+use lib.IntN.{ℤ}
+use lib.ListN.{length, take, drop}
+use Rattle.error.specs.Choice.{if}
+use Rattle.error.specs.Answer.{Answer, gives, refuses, bind}
+use Rattle.error.specs.Emits.{Emits}
+use Rattle.options.specs.declared.EncodeOptions.{EncodeOptions}
+use Rattle.options.specs.declared.Quantize.{Quantize}
+use Rattle.options.specs.declared.Quantize.the-variants.{Dither}
+use Rattle.quantize.specs.Engine.{meaning, roomy, setting}
+use Rattle.quantize.specs.Finished.{finished}
+use Rattle.quantize.specs.Whole.{knownRule}
+use Rattle.encoder.specs.File.{checkCount, fileOf}
+
+-- "Whole making: 8, 21, 29, 28, 22", of so many samples and numbers of work
+unfoldable pub checkScans : ℕ → Quantize → ℕ → ℕ → ℕ → ℕ → ℕ → Answer (Unit {0})
+checkScans ceiling rule width height count gray work =
+    bind (checkCount ceiling width height count)
+    (λ _. if (knownRule rule)
+    (if (roomy (meaning rule) width work)
+    (if (ltb gray (count * (width * height))) (refuses 22 0) (gives tt))
+    (refuses 28 0))
+    (refuses 29 0))
+
+-- so many scans' bytes: what their samples finish
+abbrev pub scanBytes : Quantize → ℕ → ℕ → List ℕ → ℕ → List ℕ
+scanBytes rule width height gray count = finished (setting rule width height count) (take (count * (width * height)) gray)
+
+-- the file of the lent scans
+unfoldable pub fileOfScans : ℕ → EncodeOptions → ℕ → ℕ → ℕ → List ℕ → List ℕ → List ℕ → ℕ → Answer (List ℕ)
+fileOfScans ceiling o width height count gray text lengths work =
+    bind (checkScans ceiling (o .quantize) width height count (length gray) work)
+    (λ _. fileOf o width height text lengths (scanBytes (o .quantize) width height gray count))
+
+-- the file or the refusal; a work buffer is altered by dithering alone, where nothing is refused, in its first 2 × width numbers
+pub record Makes (ceiling : ℕ) (o : EncodeOptions) (width height count : ℕ) (gray text lengths out : List ℕ) (work : List ℤ) (r : Answer ℕ)
+    (out′ : List ℕ) (work′ : List ℤ) : Type 0 where
+  pub emits : Emits (fileOfScans ceiling o width height count gray text lengths (length work)) r out out′
+  pub beyond : drop (2 * width) work′ ≡ drop (2 * width) work
+  pub spared : (o .quantize ≡ Dither → ⊥) → work′ ≡ work
+  pub refused : (code place : ℕ) → r ≡ refuses code place → work′ ≡ work

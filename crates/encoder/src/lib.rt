@@ -1,0 +1,1 @@
+// Whole writing and whole making of files.
