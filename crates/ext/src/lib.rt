@@ -11,6 +11,8 @@ mod validate;
 mod write;
 
 use error::WbmpError;
+pub use class::is_rfc2234_alpha_digit;
+pub use class::is_rfc2234_char;
 pub use pairs::check_pair;
 pub use pairs::put_pair;
 pub use read::parse_ext_fields;

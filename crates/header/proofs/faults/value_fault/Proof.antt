@@ -5,16 +5,16 @@ use borrow.Author.Needs.{needs}
 use Rattle.header.proofs.faults.value_fault.Statement.{statement}
 use Rattle.header.proofs.faults.value_fault.Tie as tie
 
-letter-or-digit-requires : tie.Need-letter-or-digit-requires
-letter-or-digit-requires c κs = search needs
+is-rfc2234-alpha-digit-requires : tie.Need-is-rfc2234-alpha-digit-requires
+is-rfc2234-alpha-digit-requires c κs = search needs
 
 returns : tie.Need-returns
 unfolding valueFault
-returns c = simp (c .before .before .before .if1 .taken, eq-eqb _ _ (c .before .before .if2 .taken), sym (c .before .letter-or-digit .ensures) ∙ c .if3 .taken)
+returns c = simp (c .before .before .before .if1 .taken, eq-eqb _ _ (c .before .before .if2 .taken), sym (c .before .is-rfc2234-alpha-digit .ensures) ∙ c .if3 .taken)
 
 returns-2 : tie.Need-returns-2
 unfolding valueFault
-returns-2 c = simp (c .before .before .before .if1 .taken, eq-eqb _ _ (c .before .before .if2 .taken), sym (c .before .letter-or-digit .ensures) ∙ c .if3 .left)
+returns-2 c = simp (c .before .before .before .if1 .taken, eq-eqb _ _ (c .before .before .if2 .taken), sym (c .before .is-rfc2234-alpha-digit .ensures) ∙ c .if3 .left)
 
 returns-3 : tie.Need-returns-3
 unfolding valueFault
@@ -26,4 +26,4 @@ returns-4 c = simp (c .if1 .left)
 
 pub value-fault-spec : {M : Type 1} → statement M
 value-fault-spec =
-    tie.close (tie.spec letter-or-digit-requires returns returns-2 returns-3 returns-4)
+    tie.close (tie.spec is-rfc2234-alpha-digit-requires returns returns-2 returns-3 returns-4)
