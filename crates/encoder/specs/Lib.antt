@@ -1,3 +1,4 @@
 pub mod File
 pub mod Write
 pub mod Make
+pub mod Parts

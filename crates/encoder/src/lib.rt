@@ -1,1 +1,2 @@
 // Whole writing and whole making of files.
+mod file;

@@ -1,0 +1,74 @@
+// What every file that is written or made has: its frames are counted, and its header stands in front.
+use error::Checked;
+use error::FRAME_COUNT;
+use error::WbmpError;
+use error::Written;
+use error::ZERO_DIMENSION;
+use options::EncodeOptions;
+ghost use mathlib.Core.Path.{_≡_};
+ghost use Prim.Native.Nat.{_-_};
+ghost use Rattle.error.specs.Answer.{checked, refuses, written};
+ghost use Rattle.header.specs.Write.{extHeader};
+ghost use Rattle.encoder.specs.File.{checkCount};
+ghost use Rattle.encoder.specs.Parts.{Heads};
+
+// The main image and at most 15 that follow it.
+const MAX_FRAMES: usize = 16;
+
+// "Writers return place 0 always."
+pub(crate) fn refused(code: u8) -> Checked
+    ensures { λ r. ⌜ checked r ≡ refuses code 0 ⌝ }
+{
+    Checked::Refused(WbmpError { code, offset: 0 })
+}
+
+// Whether a file has this size and so many frames.
+pub(crate) fn check_count(width: u32, height: u32, count: usize) -> Checked
+    ensures { λ r. ⌜ checked r ≡ checkCount 16 width height count ⌝ }
+{
+    if width == 0 {
+        return refused(ZERO_DIMENSION);
+    }
+    if height == 0 {
+        return refused(ZERO_DIMENSION);
+    }
+    if count == 0 {
+        return refused(FRAME_COUNT);
+    }
+    if count > MAX_FRAMES {
+        return refused(FRAME_COUNT);
+    }
+    Checked::Accepted
+}
+
+// What a body leaves of an output: 0 where it does not fit.
+fn room_before(body: usize, out: usize) -> usize
+    ensures { λ r. ⌜ r ≡ out - body ⌝ }
+{
+    if out < body { 0 } else { out - body }
+}
+
+// The header at the front of the lent output, if it and a body of so many bytes fit.
+pub(crate) fn write_header_before(
+    body: usize,
+    width: u32,
+    height: u32,
+    options: EncodeOptions,
+    text: &[u8],
+    lengths: &[usize],
+    out: &mut [u8],
+) -> Written
+    ensures { λ r. ⌜ Heads (extHeader (options .strict) width height (options .ext) (now (text .entry)) (now (lengths .entry))) body (written r) (now (out .entry)) (now (out .exit)) ⌝ }
+{
+    let room = room_before(body, out.len());
+    let ext = options.ext;
+    header::write_header_ext_lengths(
+        width,
+        height,
+        ext,
+        text,
+        lengths,
+        options.strict,
+        &mut out[..room],
+    )
+}
