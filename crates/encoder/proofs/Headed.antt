@@ -5,14 +5,15 @@ use mathlib.Core.Bool.{Bool, true, false, _||_}
 use mathlib.Core.List.{List, _∷_, _++_, append-assoc}
 use native.Mathlib.Omega.{arith}
 use borrow.Author.Tests.{leb-true, leb-false}
+use borrow.Rule.Slice.PartMut.{midOf, putMid}
 use lib.Dec.{leb, eqb}
 use lib.ListN.{length, take, drop, length-append, length-drop, take-append-drop}
-use lib.Seq.{sets, length-take-le, take-at, drop-at, drop-append-le}
+use lib.Seq.{sets, length-take-le, take-all, take-at, drop-at, drop-append-le}
 use Rattle.error.specs.Choice.{if}
 use Rattle.error.specs.Answer.{Answer, gives, refuses, bind, map}
 use Rattle.error.specs.Emits.{Emits}
 use Rattle.laws.proofs.Tests.{zero-one}
-use Rattle.laws.proofs.Runs.{sets-append, sets-front}
+use Rattle.laws.proofs.Runs.{sets-append, sets-front, sets-part}
 use Rattle.laws.proofs.Writers.{emits-none, emits-all}
 use Rattle.mbi.specs.Bytes.{mbiBytes}
 use Rattle.ext.specs.Kinds.{Fields}
@@ -129,6 +130,13 @@ module _ (a : Answer (List ℕ)) (some : (header : List ℕ) → a ≡ gives hea
           ∙ sets-append old 0 header body
           ∙ sets-front old (header ++ body) (omega (arith, f .fits)))
       go (refuses code offset) e c = zero-one (cc (c .front .answer))
+
+-- what a function leaves that was lent the output behind the header
+pub behind : (mid body last : List ℕ) (n : ℕ) → n + length body ≤ length mid → last ≡ body ++ drop (length body) (midOf n (length mid - n) mid)
+    → putMid n (length mid - n) mid last ≡ sets mid n body
+behind mid body last n h e =
+    let d : midOf n (length mid - n) mid ≡ drop n mid = take-all (length mid - n) (drop n mid) (rw (length-drop n mid) (omega arith)) in
+    ap (putMid n (length mid - n) mid) (e ∙ ap (λ (l : List ℕ). body ++ drop (length body) l) d) ∙ sets-part mid body n h
 
 -- a refusal leaves the output as it was
 pub file-refused : (a : Answer (List ℕ)) (body old mid : List ℕ) (code offset : ℕ) → Heads a (length body) (refuses code offset) old mid

@@ -1,2 +1,5 @@
 pub mod Counted
 pub mod Headed
+pub mod Tested
+pub mod Planed
+pub mod Filed

@@ -3,6 +3,7 @@ use native.Mathlib.Omega.{arith}
 use borrow.Author.Needs.{needs}
 use denote.Ref.{now}
 use lib.Seq.{length-take-le}
+use Rattle.header.specs.Write.{extHeader}
 use Rattle.encoder.proofs.Headed.{headed}
 use Rattle.encoder.proofs.file.write_header_before.Statement.{statement}
 use Rattle.encoder.proofs.file.write_header_before.Tie as tie
@@ -28,7 +29,7 @@ returns c =
     let w = c .before .before in
     let k = w .before .before in
     let a = k .before .before .before .before .args in
-    headed _ (a .body) (now (a .out)) _ _ (k .room-before .result) (k .room-before .ensures) (w .write-header-ext-lengths .ensures)
+    headed (extHeader (a .options .strict) (a .width) (a .height) (a .options .ext) (now (a .text)) (now (a .lengths))) (a .body) (now (a .out)) _ _ (k .room-before .result) (k .room-before .ensures) (w .write-header-ext-lengths .ensures)
 
 pub write-header-before-spec : {M : Type 1} → statement M
 write-header-before-spec =

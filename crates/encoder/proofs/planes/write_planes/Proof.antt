@@ -1,0 +1,119 @@
+use Prim.Native.Nat.{_+_, _-_, _*_, _≤_, _<_}
+use mathlib.Core.Path.{refl, ap}
+use native.Mathlib.Omega.{arith}
+use borrow.Author.Needs.{needs}
+use denote.Ref.{now}
+use lib.ListN.{length}
+use Rattle.image.specs.declared.PlaneLayout.{PlaneLayout}
+use Rattle.encoder.proofs.Tested.{Tested, tested}
+use Rattle.encoder.proofs.Planed.{Planing, begun, kept-length, next-in, planed, ended}
+use Rattle.encoder.proofs.planes.write_planes.Statement.{statement}
+use Rattle.encoder.proofs.planes.write_planes.Tie as tie
+
+abbrev Inv-loop : tie.InvT-loop
+Inv-loop width height count planes stride format out₀ plane needed k₀ out k = Planing format width height stride planes out₀ count plane needed out k
+
+abbrev μ-loop : tie.MeasureT-loop
+μ-loop width height count planes stride format out₀ plane needed k₀ out k = count - k
+
+new-requires : tie.Need-new-requires Inv-loop μ-loop
+new-requires c κs = search needs
+
+-- the planes passed their tests
+passed : (s : tie.Start Inv-loop μ-loop) → Tested 16 (s .args .width) (s .args .height) (s .args .count) (s .args .stride) (length (now (s .args .planes)))
+passed s = tested 16 (s .args .width) (s .args .height) (s .args .count) (s .args .stride) (length (now (s .args .planes))) (s .pre .0)
+
+needed-bytes-requires : tie.Need-needed-bytes-requires Inv-loop μ-loop
+needed-bytes-requires c κs =
+    let s = c .before .before .before in
+    let p = passed s .plane in
+    (p .high, omega (arith, p .room, s .good))
+
+loop-holds : tie.Need-loop-holds Inv-loop μ-loop
+loop-holds c =
+    let s = c .before .before .before .before in
+    let a = s .args in
+    begun (a .format) (a .width) (a .height) (a .stride) (now (a .planes)) (now (a .out)) (a .count) (c .before .new .result .«total_bytes»)
+    (c .needed-bytes .result) (ap (λ (l : PlaneLayout). l .«total_bytes») (c .before .new .ensures)) (c .needed-bytes .ensures) (passed s .total) (s .pre .1)
+
+-- plane k is among those that are lent and has room in the output
+there : (c : tie.In-loop Inv-loop μ-loop)
+    → let l = c .before in
+    let a = l .before .before .before .before .before .args in
+    let needed = l .before .needed-bytes .result in
+    let plane = l .before .before .new .result .«total_bytes» in
+    (l .loop .k * needed + needed ≤ length (now (a .planes))) × (l .loop .k * plane + plane ≤ length (l .loop .out))
+there c = next-in (c .before .loop .inv) (c .loop-test .taken)
+
+mul-from : tie.Need-mul-from Inv-loop μ-loop
+mul-from c = omega (arith, there c .0, c .before .before .before .before .before .before .good)
+
+add-end : tie.Need-add-end Inv-loop μ-loop
+add-end c = omega (arith, there c .0, c .before .before .before .before .before .before .good)
+
+mul-to : tie.Need-mul-to Inv-loop μ-loop
+mul-to c = omega (arith, there c .1, kept-length (c .before .loop .inv), c .before .before .before .before .before .before .good)
+
+sub-wire-bits : tie.Need-sub-wire-bits Inv-loop μ-loop
+sub-wire-bits c = omega arith
+
+part-wire-bits-start : tie.Need-part-wire-bits-start Inv-loop μ-loop
+part-wire-bits-start c = omega arith
+
+part-wire-bits-end : tie.Need-part-wire-bits-end Inv-loop μ-loop
+part-wire-bits-end c = there c .0
+
+sub-wire-bits-2 : tie.Need-sub-wire-bits-2 Inv-loop μ-loop
+sub-wire-bits-2 c = omega (arith, there (c .before) .1)
+
+part-wire-bits-start-2 : tie.Need-part-wire-bits-start-2 Inv-loop μ-loop
+part-wire-bits-start-2 c = omega (arith, there (c .before) .1)
+
+part-wire-bits-end-2 : tie.Need-part-wire-bits-end-2 Inv-loop μ-loop
+part-wire-bits-end-2 c = omega arith
+
+wire-bits-requires : tie.Need-wire-bits-requires Inv-loop μ-loop
+wire-bits-requires c κs = search needs
+
+add-k : tie.Need-add-k Inv-loop μ-loop
+add-k c = search needs
+
+loop-less : tie.Need-loop-less Inv-loop μ-loop
+loop-less c = omega (arith, c .before .before .before .before .before .loop-test .taken)
+
+loop-again : tie.Need-loop-again Inv-loop μ-loop
+loop-again c =
+    let w = c .before .before in
+    let l = w .before .before .before in
+    planed (l .before .loop .inv) _ _ _ _ (l .loop-test .taken) refl refl (w .wire-bits .ensures)
+
+same-length : tie.Need-same-length Inv-loop μ-loop
+same-length c = kept-length (c .before .loop .inv)
+
+returns : tie.Need-returns Inv-loop μ-loop
+returns c = ended (c .before .loop .inv) (c .loop-test .left)
+
+pub write-planes-spec : {M : Type 1} → statement M
+write-planes-spec =
+    tie.close
+    (tie.spec
+    Inv-loop
+    μ-loop
+    new-requires
+    needed-bytes-requires
+    loop-holds
+    mul-from
+    add-end
+    mul-to
+    sub-wire-bits
+    part-wire-bits-start
+    part-wire-bits-end
+    sub-wire-bits-2
+    part-wire-bits-start-2
+    part-wire-bits-end-2
+    wire-bits-requires
+    add-k
+    loop-less
+    loop-again
+    same-length
+    returns)
