@@ -3,3 +3,5 @@ pub mod Headed
 pub mod Tested
 pub mod Planed
 pub mod Filed
+pub mod Surplus
+pub mod Examples

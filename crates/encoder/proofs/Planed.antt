@@ -1,16 +1,13 @@
 -- Planes end to end as a file has them: their bytes, and the loop of `write_planes`.
 use Prim.Native.Nat.{ℕ, zero, suc, _+_, _-_, _*_, _≤_, _<_}
 use mathlib.Core.Path.{_≡_, refl, sym, ap, _∙_, subst}
-use mathlib.Core.Bool.{Bool, true, false}
 use mathlib.Core.List.{List, _++_}
 use native.Mathlib.Nat.{mul-comm, mul-le-mul-right}
 use native.Mathlib.Numerals.{add-one}
 use native.Mathlib.Omega.{arith}
-use borrow.Author.Tests.{ltb-true, ltb-false}
 use borrow.Rule.Slice.PartMut.{midOf, putMid}
-use lib.Dec.{ltb}
-use lib.ListN.{length, take, drop, length-append, length-drop}
-use lib.Seq.{sets, length-sets, take-at, drop-at, take-length, take-append-le, drop-append-le}
+use lib.ListN.{length, take, drop, length-append}
+use lib.Seq.{sets, length-sets}
 use Rattle.error.specs.Answer.{Answer, gives}
 use Rattle.error.specs.Emits.{Emits}
 use Rattle.laws.proofs.Runs.{sets-append, sets-front, emits-part}
@@ -20,7 +17,8 @@ use Rattle.image.specs.declared.PixelFormat.{PixelFormat}
 use Rattle.image.proofs.Wiring.{wire-length}
 use Rattle.encoder.specs.Write.{lentPlane, wirePlanes}
 
-more : (k n : ℕ) → suc k * n ≡ k * n + n
+-- one more of n bytes
+pub more : (k n : ℕ) → suc k * n ≡ k * n + n
 more k n = omega arith
 
 module _ (f : PixelFormat) (w h s : ℕ) where
@@ -36,36 +34,6 @@ module _ (f : PixelFormat) (w h s : ℕ) where
         ∙ ap (λ (n : ℕ). n + length (wireBits f w h s (lentPlane w h s planes k))) (planes-length k)
         ∙ ap (λ (n : ℕ). k * planeBytes w h + n) (plane-length (lentPlane w h s planes k))
         ∙ sym (more k (planeBytes w h))
-
-    -- plane k of them
-    pub plane-of : (n k : ℕ) → k < n
-        → take (planeBytes w h) (drop (k * planeBytes w h) (wirePlanes f w h s planes n)) ≡ wireBits f w h s (lentPlane w h s planes k)
-    unfolding wirePlanes
-    plane-of (suc n) k l = go (ltb k n) refl (plane-of n k)
-      where
-        last : List ℕ
-        last = wireBits f w h s (lentPlane w h s planes n)
-
-        go : (t : Bool) → ltb k n ≡ t
-            → (k < n → take (planeBytes w h) (drop (k * planeBytes w h) (wirePlanes f w h s planes n)) ≡ wireBits f w h s (lentPlane w h s planes k))
-            → take (planeBytes w h) (drop (k * planeBytes w h) (wirePlanes f w h s planes n ++ last)) ≡ wireBits f w h s (lentPlane w h s planes k)
-        go true e ih =
-            let p = ltb-true k n e in
-            let q : suc k * planeBytes w h ≤ n * planeBytes w h = mul-le-mul-right (planeBytes w h) p in
-            let m = more k (planeBytes w h) in
-            let z = planes-length n in
-            let d = length-drop (k * planeBytes w h) (wirePlanes f w h s planes n) in
-            ap (take (planeBytes w h)) (drop-append-le (k * planeBytes w h) (wirePlanes f w h s planes n) last (omega arith))
-            ∙ take-append-le (planeBytes w h) (drop (k * planeBytes w h) (wirePlanes f w h s planes n)) last (omega arith)
-            ∙ ih p
-        go false e ih =
-            let p = ltb-false k n e in
-            let q : k ≡ n = omega arith in
-            let z : length (wirePlanes f w h s planes n) ≡ k * planeBytes w h = planes-length n ∙ ap (λ (i : ℕ). i * planeBytes w h) (sym q) in
-            ap (take (planeBytes w h)) (drop-at (wirePlanes f w h s planes n) last (k * planeBytes w h) z)
-            ∙ ap (λ (i : ℕ). take i last) (sym (plane-length (lentPlane w h s planes n)))
-            ∙ take-length last
-            ∙ ap (λ (i : ℕ). wireBits f w h s (lentPlane w h s planes i)) (sym q)
 
 -- the planes before k are written
 pub record Planing (f : PixelFormat) (w h s : ℕ) (planes out₀ : List ℕ) (count plane needed : ℕ) (out : List ℕ) (k : ℕ) : Type 0 where

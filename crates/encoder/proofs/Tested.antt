@@ -46,6 +46,7 @@ module _ (w h n s b : ℕ) where
 -- what they say of planes that they accept
 pub record Tested (ceiling w h n s b : ℕ) : Type 0 where
   pub frames : Counted ceiling w h n
+  pub geometry : checkGeometry w h s b ≡ gives tt
   pub plane : Fitting w h s b
   pub total : n * neededBytes w h s ≤ b
 
@@ -57,7 +58,7 @@ tested ceiling w h n s b = go (checkCount ceiling w h n) (checkGeometry w h s b)
         → _≡_ {A = Answer (Unit {0})} (bind x (λ _. bind y (λ _. if t (refuses 20 0) (gives tt)))) (gives tt) → Tested ceiling w h n s b
     go (gives _) (gives _) true p q r e = zero-one (cc)
     go (gives _) (gives _) false p q r e =
-        record { frames = counted ceiling w h n p; plane = fits w h s b q; total = ltb-false b (n * neededBytes w h s) r }
+        record { frames = counted ceiling w h n p; geometry = q; plane = fits w h s b q; total = ltb-false b (n * neededBytes w h s) r }
     go (gives _) (refuses code offset) t p q r e = zero-one (cc)
     go (refuses code offset) y t p q r e = zero-one (cc)
 

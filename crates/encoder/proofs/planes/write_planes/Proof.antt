@@ -61,7 +61,7 @@ part-wire-bits-start : tie.Need-part-wire-bits-start Inv-loop μ-loop
 part-wire-bits-start c = omega arith
 
 part-wire-bits-end : tie.Need-part-wire-bits-end Inv-loop μ-loop
-part-wire-bits-end c = there c .0
+part-wire-bits-end c = omega (arith, there c .0)
 
 sub-wire-bits-2 : tie.Need-sub-wire-bits-2 Inv-loop μ-loop
 sub-wire-bits-2 c = omega (arith, there (c .before) .1)

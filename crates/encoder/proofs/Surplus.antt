@@ -1,0 +1,70 @@
+-- "Surplus is ignored": bytes behind the last plane change nothing.
+use Prim.Native.Nat.{ℕ, zero, suc, _+_, _*_, _^_, _≤_}
+use mathlib.Core.Path.{_≡_, refl, sym, ap, _∙_}
+use mathlib.Core.Bool.{Bool, true, false}
+use mathlib.Core.List.{List, _++_}
+use native.Mathlib.Omega.{arith}
+use borrow.Author.Tests.{leb-true, leb-false, le-ltb}
+use lib.Dec.{leb}
+use lib.ListN.{length, take, drop, length-append, length-drop}
+use lib.Seq.{take-append-le, drop-append-le}
+use Rattle.error.specs.Answer.{Answer, gives, refuses, bind}
+use Rattle.laws.proofs.Tests.{zero-one, if-false}
+use Rattle.image.specs.Geometry.{neededBytes, checkGeometry}
+use Rattle.image.specs.Rows.{wireBits}
+use Rattle.image.specs.declared.PixelFormat.{PixelFormat}
+use Rattle.image.proofs.Tested as geometry
+use Rattle.image.proofs.Fitting.{fits}
+use Rattle.options.specs.declared.EncodeOptions.{EncodeOptions}
+use Rattle.encoder.specs.File.{checkCount, fileOf}
+use Rattle.encoder.specs.Write.{checkPlanes, lentPlane, wirePlanes, fileOfPlanes}
+use Rattle.encoder.proofs.Counted.{accepted}
+use Rattle.encoder.proofs.Planed.{more}
+use Rattle.encoder.proofs.Tested.{afterGeometry, tested}
+
+module _ (w h s : ℕ) where
+  geometry-kept : (b b′ : ℕ) → b ≤ b′ → checkGeometry w h s b ≡ gives tt → checkGeometry w h s b′ ≡ gives tt
+  geometry-kept b b′ l e = go (leb (2 ^ 64) (neededBytes w h s)) refl
+    where
+      go : (t : Bool) → leb (2 ^ 64) (neededBytes w h s) ≡ t → checkGeometry w h s b′ ≡ gives tt
+      go true p =
+          let f = fits w h s b e in
+          let r = geometry.large w h s b (f .wide) (f .high) (f .row) (leb-true (2 ^ 64) (neededBytes w h s) p) in
+          zero-one (cc)
+      go false p =
+          let f = fits w h s b e in
+          geometry.accepted w h s b′ (f .wide) (f .high) (f .row) (leb-false (2 ^ 64) (neededBytes w h s) p) (omega (arith, f .room))
+
+  tests-kept : (ceiling n b b′ : ℕ) → b ≤ b′ → checkPlanes ceiling w h n s b ≡ gives tt → checkPlanes ceiling w h n s b′ ≡ gives tt
+  unfolding checkPlanes
+  tests-kept ceiling n b b′ l e =
+      let t = tested ceiling w h n s b e in
+      ap (λ (x : Answer (Unit {0})). bind x (λ _. bind (checkGeometry w h s b′) (λ _. afterGeometry w h n s b′)))
+      (accepted ceiling w h n (t .frames .wide) (t .frames .high) (t .frames .some) (t .frames .few))
+      ∙ ap (λ (x : Answer (Unit {0})). bind x (λ _. afterGeometry w h n s b′)) (geometry-kept b b′ l (t .geometry))
+      ∙ if-false _ _ _ (le-ltb b′ (n * neededBytes w h s) (omega (arith, t .total)))
+
+  module _ (f : PixelFormat) (planes ρ : List ℕ) where
+    lent-kept : (k : ℕ) → k * neededBytes w h s + neededBytes w h s ≤ length planes → lentPlane w h s (planes ++ ρ) k ≡ lentPlane w h s planes k
+    lent-kept k b =
+        ap (take (neededBytes w h s)) (drop-append-le (k * neededBytes w h s) planes ρ (omega arith))
+        ∙ take-append-le (neededBytes w h s) (drop (k * neededBytes w h s) planes) ρ (rw length-drop (omega arith))
+
+    planes-kept : (n : ℕ) → n * neededBytes w h s ≤ length planes → wirePlanes f w h s (planes ++ ρ) n ≡ wirePlanes f w h s planes n
+    unfolding wirePlanes
+    planes-kept zero b = refl
+    planes-kept (suc n) b =
+        let e = more n (neededBytes w h s) in
+        ap (λ (p : List ℕ). p ++ wireBits f w h s (lentPlane w h s (planes ++ ρ) n)) (planes-kept n (omega arith))
+        ∙ ap (λ (p : List ℕ). wirePlanes f w h s planes n ++ wireBits f w h s p) (lent-kept n (omega arith))
+
+    pub surplus-ignored : (ceiling : ℕ) (o : EncodeOptions) (n : ℕ) (text lengths : List ℕ) → checkPlanes ceiling w h n s (length planes) ≡ gives tt
+        → fileOfPlanes ceiling o f w h n s (planes ++ ρ) text lengths ≡ fileOfPlanes ceiling o f w h n s planes text lengths
+    unfolding fileOfPlanes
+    surplus-ignored ceiling o n text lengths e =
+        let t = tested ceiling w h n s (length planes) e in
+        let l : length planes ≤ length (planes ++ ρ) = rw length-append (omega arith) in
+        ap (λ (x : Answer (Unit {0})). bind x (λ _. fileOf o w h text lengths (wirePlanes f w h s (planes ++ ρ) n)))
+        (tests-kept ceiling n (length planes) (length (planes ++ ρ)) l e)
+        ∙ ap (fileOf o w h text lengths) (planes-kept n (t .total))
+        ∙ sym (ap (λ (x : Answer (Unit {0})). bind x (λ _. fileOf o w h text lengths (wirePlanes f w h s planes n))) e)
