@@ -22,3 +22,4 @@ pub mod Ending
 pub mod Opening
 pub mod Wholes
 pub mod Residuals
+pub mod Joining

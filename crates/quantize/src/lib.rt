@@ -9,6 +9,8 @@ pub use engine::Quantizer;
 pub use engine::Ran;
 pub use whole::dither_bits;
 pub use whole::from_gray8;
+pub use whole::known_rule;
 pub use whole::ordered_bits;
 pub use whole::quantize_gray8;
+pub use whole::roomy;
 pub use whole::threshold_bits;

@@ -18,7 +18,8 @@ ghost use Rattle.quantize.specs.Engine.{meaning};
 ghost use Rattle.quantize.specs.Engine;
 ghost use Rattle.quantize.specs.Whole.{knownRule, refusedBy, quantized, Quantizes};
 
-fn known_rule(rule: Quantize) -> bool
+// Whether the rule's side is one of document 01's.
+pub fn known_rule(rule: Quantize) -> bool
     ensures { λ r. ⌜ r ≡ knownRule rule ⌝ }
 {
     match rule {
@@ -29,7 +30,7 @@ fn known_rule(rule: Quantize) -> bool
 }
 
 // Whether a work buffer of so many numbers is long enough.
-fn roomy(rule: Quantize, width: u32, work: usize) -> bool
+pub fn roomy(rule: Quantize, width: u32, work: usize) -> bool
     ensures { λ r. ⌜ r ≡ Engine.roomy (meaning rule) width work ⌝ }
 {
     match rule {
