@@ -5,3 +5,6 @@ pub mod Planed
 pub mod Filed
 pub mod Surplus
 pub mod Examples
+pub mod Scanned
+pub mod Scanning
+pub mod Made

@@ -2,3 +2,4 @@ pub mod File
 pub mod Write
 pub mod Make
 pub mod Parts
+pub mod Scans

@@ -1,0 +1,131 @@
+// Whole making: scans of gray samples, end to end, become the frames of a file.
+use crate::file::check_count;
+use crate::file::refused;
+use crate::file::write_header_before;
+use error::BUFFER_TOO_SHORT;
+use error::Checked;
+use error::GRAY_TOO_SHORT;
+use error::UNKNOWN_SETTING;
+use error::Written;
+use image::PlaneLayout;
+use options::EncodeOptions;
+use options::Quantize;
+ghost use mathlib.Core.Path.{_≡_};
+ghost use Prim.Native.Nat.{_*_, _≤_};
+ghost use lib.ListN.{length};
+ghost use Rattle.error.specs.Answer.{checked, gives, written};
+ghost use Rattle.image.specs.Geometry.{planeBytes};
+ghost use Rattle.encoder.specs.Make.{checkScans, Makes};
+ghost use Rattle.encoder.specs.Scans.{PutsScans};
+
+// Whether so many samples and numbers of work serve for so many scans.
+fn check_scans(
+    width: u32,
+    height: u32,
+    count: usize,
+    rule: Quantize,
+    gray: usize,
+    work: usize,
+) -> Checked
+    ensures { λ r. ⌜ checked r ≡ checkScans 16 rule width height count gray work ⌝ }
+{
+    let counted = check_count(width, height, count);
+    let Checked::Accepted = counted else {
+        return counted;
+    };
+    if !quantize::known_rule(rule) {
+        return refused(UNKNOWN_SETTING);
+    }
+    if !quantize::roomy(rule, width, work) {
+        return refused(BUFFER_TOO_SHORT);
+    }
+    let area = width as usize * height as usize;
+    if gray / area < count {
+        return refused(GRAY_TOO_SHORT);
+    }
+    Checked::Accepted
+}
+
+// The planes of scans that passed the test, each in its own stretch of the lent output.
+fn put_scans(
+    width: u32,
+    height: u32,
+    count: usize,
+    gray: &[u8],
+    rule: Quantize,
+    work: &mut [i16],
+    out: &mut [u8],
+)
+    requires { ⌜ (checkScans 16 rule width height count (length (now gray)) (length (now work)) ≡ gives tt) × (count * planeBytes width height ≤ length (now out)) ⌝ }
+    ensures { λ r. ⌜ PutsScans rule width height count (now (gray .entry)) (now (out .entry)) (now (work .entry)) (now (out .exit)) (now (work .exit)) ⌝ }
+{
+    let area = width as usize * height as usize;
+    let layout = PlaneLayout::new(width, height);
+    let plane = layout.total_bytes;
+    let mut k: usize = 0;
+    while k < count {
+        let from = k * area;
+        let to = k * plane;
+        quantize::quantize_gray8(width, height, &gray[from..], rule, work, &mut out[to..]);
+        k += 1;
+    }
+}
+
+// The file of scans that passed the test.
+fn make_file(
+    width: u32,
+    height: u32,
+    count: usize,
+    gray: &[u8],
+    options: EncodeOptions,
+    text: &[u8],
+    lengths: &[usize],
+    work: &mut [i16],
+    out: &mut [u8],
+) -> Written
+    requires { ⌜ checkScans 16 (options .quantize) width height count (length (now gray)) (length (now work)) ≡ gives tt ⌝ }
+    ensures { λ r. ⌜ Makes 16 options width height count (now (gray .entry)) (now (text .entry)) (now (lengths .entry)) (now (out .entry)) (now (work .entry)) (written r) (now (out .exit)) (now (work .exit)) ⌝ }
+{
+    let rule = options.quantize;
+    let layout = PlaneLayout::new(width, height);
+    let body = count * layout.total_bytes;
+    match write_header_before(body, width, height, options, text, lengths, out) {
+        Written::Bytes(start) => {
+            put_scans(width, height, count, gray, rule, work, &mut out[start..]);
+            let end = start + body;
+            Written::Bytes(end)
+        }
+        Written::Refused(e) => Written::Refused(e),
+    }
+}
+
+// A file of `count` scans, each width × height samples; surplus gray is ignored. Nothing is written on a refusal.
+pub fn encode_gray8_lengths(
+    width: u32,
+    height: u32,
+    count: usize,
+    gray: &[u8],
+    options: EncodeOptions,
+    text: &[u8],
+    lengths: &[usize],
+    work: &mut [i16],
+    out: &mut [u8],
+) -> Written
+    ensures { λ r. ⌜ Makes 16 options width height count (now (gray .entry)) (now (text .entry)) (now (lengths .entry)) (now (out .entry)) (now (work .entry)) (written r) (now (out .exit)) (now (work .exit)) ⌝ }
+{
+    let rule = options.quantize;
+    match check_scans(width, height, count, rule, gray.len(), work.len()) {
+        Checked::Accepted => make_file(
+            width,
+            height,
+            count,
+            gray,
+            options,
+            text,
+            lengths,
+            work,
+            out,
+        ),
+        Checked::Refused(e) => Written::Refused(e),
+    }
+}
