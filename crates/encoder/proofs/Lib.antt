@@ -8,3 +8,4 @@ pub mod Examples
 pub mod Scanned
 pub mod Scanning
 pub mod Made
+pub mod Makings

@@ -1,0 +1,94 @@
+-- What whole making makes: the header, and the bytes that the scans' samples finish; and cards that are made or refused.
+use Prim.Native.Nat.{ℕ, _-_, _*_, _^_}
+use mathlib.Core.Path.{_≡_, refl, ap, _∙_}
+use mathlib.Core.Bool.{false}
+use mathlib.Core.List.{List, [], _∷_, _++_}
+use lib.ListN.{length, take}
+use Rattle.error.specs.Answer.{Answer, gives, refuses, bind, map}
+use Rattle.error.specs.Emits.{emitted}
+use Rattle.mbi.specs.Bytes.{groups, mbiBytes}
+use Rattle.ext.specs.Write.{octetsBytes, fieldsBytes, lentFields}
+use Rattle.ext.specs.declared.ExtFieldType.the-variants.{Bitfield00}
+use Rattle.header.specs.Write.{extHeader}
+use Rattle.header.specs.declared.ExtPresence.the-variants.{Absent, Present}
+use Rattle.options.specs.declared.EncodeOptions.{EncodeOptions}
+use Rattle.options.specs.declared.Quantize.the-variants.{Threshold, Dither, Ordered}
+use Rattle.quantize.specs.Bits.{upto, appended}
+use Rattle.quantize.specs.Diffusion.{part, value, white, residual, valueFrom, handed, rowValue, above, valueAt}
+use Rattle.quantize.specs.Rule.{dot}
+use Rattle.quantize.specs.Engine.{setting}
+use Rattle.quantize.specs.Finished.{begunBytes, count, frame, dotOf, bitAt, byteAt, finished}
+use Rattle.encoder.specs.File.{fileOf}
+use Rattle.encoder.specs.Make.{checkScans, scanBytes, fileOfScans}
+
+-- THE FILE
+pub making-is : (ceiling : ℕ) (o : EncodeOptions) (w h n : ℕ) (gray text lengths : List ℕ) (work : ℕ) (front : List ℕ)
+    → checkScans ceiling (o .quantize) w h n (length gray) work ≡ gives tt
+    → extHeader (o .strict) w h (o .ext) text lengths ≡ gives front
+    → fileOfScans ceiling o w h n gray text lengths work ≡ gives (front ++ finished (setting (o .quantize) w h n) (take (n * (w * h)) gray))
+unfolding fileOfScans
+making-is ceiling o w h n gray text lengths work front tests header =
+    ap (λ (a : Answer (Unit {0})). bind a (λ _. fileOf o w h text lengths (scanBytes (o .quantize) w h gray n))) tests
+    ∙ ap (map (λ header. header ++ scanBytes (o .quantize) w h gray n)) header
+
+-- ---- two scans of two samples, P8's and a lighter one: the second starts clean, and surplus is ignored
+
+abbrev dithering : EncodeOptions
+dithering = record { quantize = Dither; ext = Absent; strict = false }
+
+abbrev scans : List ℕ
+scans = 127 ∷ 128 ∷ 128 ∷ 128 ∷ 255 ∷ []
+
+two-tested : checkScans 16 Dither 2 1 2 5 4 ≡ gives tt
+unfolding checkScans
+two-tested = refl
+
+two-fronted : extHeader false 2 1 Absent [] [] ≡ gives (0 ∷ 0 ∷ 2 ∷ 1 ∷ [])
+unfolding mbiBytes groups fieldsBytes
+two-fronted = refl
+
+two-finished : finished (setting Dither 2 1 2) (127 ∷ 128 ∷ 128 ∷ 128 ∷ []) ≡ 0x40 ∷ 0x80 ∷ []
+unfolding upto appended part value white residual valueFrom handed rowValue above valueAt dot begunBytes count frame dotOf bitAt byteAt finished
+two-finished = refl
+
+two-made : fileOfScans 16 dithering 2 1 2 scans [] [] 4 ≡ gives (0 ∷ 0 ∷ 2 ∷ 1 ∷ 0x40 ∷ 0x80 ∷ [])
+two-made =
+    making-is 16 dithering 2 1 2 scans [] [] 4 _ two-tested two-fronted ∙ ap (λ (body : List ℕ). gives (0 ∷ 0 ∷ 2 ∷ 1 ∷ body)) two-finished
+
+-- an output one byte short
+two-short : (old : List ℕ) → length old ≡ 5 → emitted (fileOfScans 16 dithering 2 1 2 scans [] [] 4) old ≡ refuses 25 0
+two-short old e = rw (two-made, e)
+
+-- ---- "Whole making: 8, 21, 29, 28, 22, fields", each before the next
+
+size-first : checkScans 16 (Ordered 3) 0 1 0 0 0 ≡ refuses 8 0
+unfolding checkScans
+size-first = refl
+
+then-count : checkScans 16 (Ordered 3) 1 1 17 0 0 ≡ refuses 21 0
+unfolding checkScans
+then-count = refl
+
+then-rule : checkScans 16 (Ordered 3) 1 1 16 0 0 ≡ refuses 29 0
+unfolding checkScans
+then-rule = refl
+
+then-work : checkScans 16 Dither 2 1 16 0 3 ≡ refuses 28 0
+unfolding checkScans
+then-work = refl
+
+-- a total past 64 bits is too short
+then-gray : checkScans 16 (Threshold 0) (2 ^ 32 - 1) (2 ^ 32 - 1) 16 (2 ^ 64 - 1) 0 ≡ refuses 22 0
+unfolding checkScans
+then-gray = refl
+
+abbrev empty : EncodeOptions
+empty = record { quantize = Threshold 128; ext = Present Bitfield00; strict = false }
+
+gray-before-fields : fileOfScans 16 empty 2 1 2 (1 ∷ 2 ∷ 3 ∷ []) [] [] 0 ≡ refuses 22 0
+unfolding fileOfScans checkScans
+gray-before-fields = refl
+
+then-fields : fileOfScans 16 empty 2 1 2 (1 ∷ 2 ∷ 3 ∷ 4 ∷ []) [] [] 0 ≡ refuses 23 0
+unfolding fileOfScans checkScans octetsBytes lentFields fieldsBytes
+then-fields = refl
