@@ -10,9 +10,9 @@ mod read;
 mod validate;
 mod write;
 
-use error::WbmpError;
 pub use class::is_rfc2234_alpha_digit;
 pub use class::is_rfc2234_char;
+use error::WbmpError;
 pub use pairs::check_pair;
 pub use pairs::put_pair;
 pub use read::parse_ext_fields;
