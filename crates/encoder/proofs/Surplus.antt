@@ -1,47 +1,33 @@
 -- "Surplus is ignored": bytes behind the last plane change nothing.
-use Prim.Native.Nat.{ℕ, zero, suc, _+_, _*_, _^_, _≤_}
+use Prim.Native.Nat.{ℕ, zero, suc, _+_, _*_, _≤_}
 use mathlib.Core.Path.{_≡_, refl, sym, ap, _∙_}
-use mathlib.Core.Bool.{Bool, true, false}
 use mathlib.Core.List.{List, _++_}
 use native.Mathlib.Omega.{arith}
-use borrow.Author.Tests.{leb-true, leb-false, le-ltb}
-use lib.Dec.{leb}
+use borrow.Author.Tests.{le-ltb}
 use lib.ListN.{length, take, drop, length-append, length-drop}
 use lib.Seq.{take-append-le, drop-append-le}
-use Rattle.error.specs.Answer.{Answer, gives, refuses, bind}
-use Rattle.laws.proofs.Tests.{zero-one, if-false}
+use Rattle.error.specs.Answer.{Answer, gives, bind}
+use Rattle.laws.proofs.Tests.{if-false}
 use Rattle.image.specs.Geometry.{neededBytes, checkGeometry}
 use Rattle.image.specs.Rows.{wireBits}
 use Rattle.image.specs.declared.PixelFormat.{PixelFormat}
 use Rattle.image.proofs.Tested as geometry
-use Rattle.image.proofs.Fitting.{fits}
 use Rattle.options.specs.declared.EncodeOptions.{EncodeOptions}
-use Rattle.encoder.specs.File.{checkCount, fileOf}
+use Rattle.encoder.specs.File.{fileOf}
 use Rattle.encoder.specs.Write.{checkPlanes, lentPlane, wirePlanes, fileOfPlanes}
 use Rattle.encoder.proofs.Counted.{accepted}
 use Rattle.encoder.proofs.Planed.{more}
 use Rattle.encoder.proofs.Tested.{afterGeometry, tested}
 
 module _ (w h s : ℕ) where
-  geometry-kept : (b b′ : ℕ) → b ≤ b′ → checkGeometry w h s b ≡ gives tt → checkGeometry w h s b′ ≡ gives tt
-  geometry-kept b b′ l e = go (leb (2 ^ 64) (neededBytes w h s)) refl
-    where
-      go : (t : Bool) → leb (2 ^ 64) (neededBytes w h s) ≡ t → checkGeometry w h s b′ ≡ gives tt
-      go true p =
-          let f = fits w h s b e in
-          let r = geometry.large w h s b (f .wide) (f .high) (f .row) (leb-true (2 ^ 64) (neededBytes w h s) p) in
-          zero-one (cc)
-      go false p =
-          let f = fits w h s b e in
-          geometry.accepted w h s b′ (f .wide) (f .high) (f .row) (leb-false (2 ^ 64) (neededBytes w h s) p) (omega (arith, f .room))
-
   tests-kept : (ceiling n b b′ : ℕ) → b ≤ b′ → checkPlanes ceiling w h n s b ≡ gives tt → checkPlanes ceiling w h n s b′ ≡ gives tt
   unfolding checkPlanes
   tests-kept ceiling n b b′ l e =
       let t = tested ceiling w h n s b e in
       ap (λ (x : Answer (Unit {0})). bind x (λ _. bind (checkGeometry w h s b′) (λ _. afterGeometry w h n s b′)))
       (accepted ceiling w h n (t .frames .wide) (t .frames .high) (t .frames .some) (t .frames .few))
-      ∙ ap (λ (x : Answer (Unit {0})). bind x (λ _. afterGeometry w h n s b′)) (geometry-kept b b′ l (t .geometry))
+      ∙ ap (λ (x : Answer (Unit {0})). bind x (λ _. afterGeometry w h n s b′))
+      (geometry.accepted w h s b′ (t .plane .wide) (t .plane .high) (t .plane .row) (t .small) (omega (arith, t .plane .room)))
       ∙ if-false _ _ _ (le-ltb b′ (n * neededBytes w h s) (omega (arith, t .total)))
 
   module _ (f : PixelFormat) (planes ρ : List ℕ) where

@@ -1,16 +1,17 @@
 -- The tests of planes to be written, and what they say of planes that they accept.
-use Prim.Native.Nat.{ℕ, suc, _+_, _-_, _*_, _/_, _≤_, _<_}
+use Prim.Native.Nat.{ℕ, suc, _+_, _-_, _*_, _/_, _^_, _≤_, _<_}
 use mathlib.Core.Path.{_≡_, refl, sym, ap, _∙_, subst}
 use mathlib.Core.Bool.{Bool, true, false}
 use native.Mathlib.Nat.{mul-comm, mul-le-mul-left, mul-le-mul-right, le-div-iff-mul-le, div-lt-iff-lt-mul}
 use native.Mathlib.Omega.{arith}
-use borrow.Author.Tests.{lt-ltb, le-ltb, ltb-false}
-use lib.Dec.{ltb}
+use borrow.Author.Tests.{lt-ltb, le-ltb, ltb-false, leb-true, leb-false}
+use lib.Dec.{ltb, leb}
 use Rattle.error.specs.Choice.{if}
 use Rattle.error.specs.Answer.{Answer, gives, refuses, bind, checked}
 use Rattle.error.specs.declared.Checked.{Checked}
 use Rattle.laws.proofs.Tests.{zero-one, if-true, if-false}
 use Rattle.image.specs.Geometry.{rowBytes, planeBytes, neededBytes, checkGeometry}
+use Rattle.image.proofs.Tested.{large}
 use Rattle.image.proofs.Fitting.{Fitting, fits}
 use Rattle.encoder.specs.File.{checkCount}
 use Rattle.encoder.specs.Write.{checkPlanes}
@@ -43,10 +44,21 @@ module _ (w h n s b : ℕ) where
         → bind (checkGeometry w h s b) (λ _. afterGeometry) ≡ bind (checked x) (λ _. afterGeometry)
     on-geometry r x p q = ap (λ (y : Answer (Unit {0})). bind y (λ _. afterGeometry)) (sym p ∙ ap checked q)
 
+needed-small : (w h s b : ℕ) → checkGeometry w h s b ≡ gives tt → neededBytes w h s < 2 ^ 64
+needed-small w h s b e = go (leb (2 ^ 64) (neededBytes w h s)) refl
+  where
+    go : (t : Bool) → leb (2 ^ 64) (neededBytes w h s) ≡ t → neededBytes w h s < 2 ^ 64
+    go true p =
+        let f = fits w h s b e in
+        let r = large w h s b (f .wide) (f .high) (f .row) (leb-true (2 ^ 64) (neededBytes w h s) p) in
+        zero-one (cc)
+    go false p = leb-false (2 ^ 64) (neededBytes w h s) p
+
 -- what they say of planes that they accept
 pub record Tested (ceiling w h n s b : ℕ) : Type 0 where
   pub frames : Counted ceiling w h n
   pub geometry : checkGeometry w h s b ≡ gives tt
+  pub small : neededBytes w h s < 2 ^ 64
   pub plane : Fitting w h s b
   pub total : n * neededBytes w h s ≤ b
 
@@ -58,7 +70,13 @@ tested ceiling w h n s b = go (checkCount ceiling w h n) (checkGeometry w h s b)
         → _≡_ {A = Answer (Unit {0})} (bind x (λ _. bind y (λ _. if t (refuses 20 0) (gives tt)))) (gives tt) → Tested ceiling w h n s b
     go (gives _) (gives _) true p q r e = zero-one (cc)
     go (gives _) (gives _) false p q r e =
-        record { frames = counted ceiling w h n p; geometry = q; plane = fits w h s b q; total = ltb-false b (n * neededBytes w h s) r }
+        record {
+          frames = counted ceiling w h n p;
+          geometry = q;
+          small = needed-small w h s b q;
+          plane = fits w h s b q;
+          total = ltb-false b (n * neededBytes w h s) r;
+        }
     go (gives _) (refuses code offset) t p q r e = zero-one (cc)
     go (refuses code offset) y t p q r e = zero-one (cc)
 
