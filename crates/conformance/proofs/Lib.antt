@@ -1,1 +1,7 @@
 pub mod Cards
+pub mod Joined
+pub mod Files
+pub mod ReadDots
+pub mod ReadBack
+pub mod Written
+pub mod WrittenCards

@@ -30,15 +30,15 @@ pub unless : {B P : Type 0} (t : Bool) (code offset : ℕ) (y : Answer B) (b : B
 unless true code offset y b f e = zero-one (cc)
 unless false code offset y b f e = f refl e
 
-when : {B P : Type 0} (t : Bool) (code offset : ℕ) (y : Answer B) (b : B) → (y ≡ gives b → P) → if t y (refuses code offset) ≡ gives b → P
+pub when : {B P : Type 0} (t : Bool) (code offset : ℕ) (y : Answer B) (b : B) → (y ≡ gives b → P) → if t y (refuses code offset) ≡ gives b → P
 when true code offset y b f e = f e
 when false code offset y b f e = zero-one (cc)
 
-positive : (n : ℕ) → eqb n 0 ≡ false → 0 < n
+pub positive : (n : ℕ) → eqb n 0 ≡ false → 0 < n
 positive zero e = zero-one (cc)
 positive (suc n) e = omega arith
 
-neither : (a b : Bool) → (a || b) ≡ false → (a ≡ false) × (b ≡ false)
+pub neither : (a b : Bool) → (a || b) ≡ false → (a ≡ false) × (b ≡ false)
 neither true b e = zero-one (cc)
 neither false b e = (refl, e)
 

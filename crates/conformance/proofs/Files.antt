@@ -1,0 +1,98 @@
+-- What a file that is written or made consists of.
+use Prim.Native.Nat.{ℕ, _≤_, _<_}
+use mathlib.Core.Path.{_≡_, refl, sym, subst}
+use mathlib.Core.Bool.{Bool, true, false, _&&_, _||_}
+use mathlib.Core.List.{List, [], _∷_, _++_}
+use mathlib.Core.Logic.{_⊎_, inl, inr}
+use borrow.Author.Tests.{leb-true}
+use lib.Dec.{leb, eqb}
+use lib.ListN.{length}
+use Rattle.error.specs.Choice.{if}
+use Rattle.error.specs.Answer.{Answer, gives, refuses, map}
+use Rattle.laws.proofs.Tests.{zero-one}
+use Rattle.ext.specs.Kinds.{Fields, none, bitfield, reserved, pairs}
+use Rattle.ext.specs.Write.{fieldsBytes, lentFields, cutPairs, sum}
+use Rattle.ext.specs.declared.ExtFieldType.the-variants.{Bitfield00, Reserved01, Reserved10, ParameterPairs11}
+use Rattle.header.specs.Write.{fixByte, headerBytes, fieldsHeader, presented}
+use Rattle.header.specs.declared.ExtPresence.{ExtPresence}
+use Rattle.header.specs.declared.ExtPresence.the-variants.{Absent, Present}
+use Rattle.header.proofs.RoundTrip.{Fitting}
+use Rattle.options.specs.declared.EncodeOptions.{EncodeOptions}
+use Rattle.decoder.specs.Image.{imageSettings}
+use Rattle.decoder.proofs.Shaped.{bind-gives, unless, positive, neither}
+use Rattle.encoder.specs.File.{checkCount, fileOf}
+use Rattle.conformance.specs.ReadBack.{Taken}
+
+-- the header of the fields, and the body
+pub record Filed (strict : Bool) (width height : ℕ) (fields : Fields) (body bytes : List ℕ) : Type 0 where
+  pub fieldBytes : List ℕ
+  pub wide : 0 < width
+  pub high : 0 < height
+  pub fieldsGive : fieldsBytes strict fields ≡ gives fieldBytes
+  pub bytesAre : bytes ≡ headerBytes (fixByte fields) fieldBytes width height ++ body
+
+pub map-gives : {A B P : Type 0} (f : A → B) (x : Answer A) (b : B) → ((a : A) → x ≡ gives a → f a ≡ b → P) → map f x ≡ gives b → P
+map-gives f (gives a) b g e = g a refl (cc)
+map-gives f (refuses code offset) b g e = zero-one (cc)
+
+module _ (o : EncodeOptions) (width height : ℕ) (text lengths body bytes : List ℕ) (fields : Fields) (lent : presented (o .ext) text lengths ≡ gives fields) where
+  pub filed : fileOf o width height text lengths body ≡ gives bytes → Filed (o .strict) width height fields body bytes
+  filed =
+      map-gives _ _ bytes (λ header e b.
+      unless (eqb width 0 || eqb height 0) 8 0 _ header (λ t.
+      let z = neither (eqb width 0) (eqb height 0) t in
+      bind-gives (presented (o .ext) text lengths) (fieldsHeader (o .strict) width height) header (λ f p.
+      let same : f ≡ fields = cc in
+      map-gives _ (fieldsBytes (o .strict) f) header (λ fb q r.
+      record {
+        fieldBytes = fb;
+        wide = positive width (z .0);
+        high = positive height (z .1);
+        fieldsGive = rw (← same) q;
+        bytesAre = cc;
+      }))) e)
+
+-- a single octet that is lent is of kind 01 or 10
+single : (presence : ExtPresence) (text lengths : List ℕ) (kind octet : ℕ) → presented presence text lengths ≡ gives (reserved kind octet)
+    → (kind ≡ 1) ⊎ (kind ≡ 2)
+unfolding lentFields
+single Absent text lengths kind octet e = zero-one (cc)
+single (Present Bitfield00) text lengths kind octet e = zero-one (cc)
+single (Present Reserved01) [] lengths kind octet e = zero-one (cc)
+single (Present Reserved01) (b ∷ text) lengths kind octet e = inl (cc)
+single (Present Reserved10) [] lengths kind octet e = zero-one (cc)
+single (Present Reserved10) (b ∷ text) lengths kind octet e = inr (cc)
+single (Present ParameterPairs11) text lengths kind octet e = go (eqb (sum lengths) (length text)) e
+  where
+    go : {X : Type 0} (t : Bool) → if t (gives (pairs (cutPairs lengths text))) (refuses 31 0) ≡ gives (reserved kind octet) → X
+    go true e = zero-one (cc)
+    go false e = zero-one (cc)
+
+-- a reading that takes lent fields reads them back
+pub fitting : (strict written : Bool) (presence : ExtPresence) (text lengths : List ℕ) (fields : Fields) → presented presence text lengths ≡ gives fields
+    → Taken strict fields → Fitting (imageSettings strict) written fields
+fitting true written presence text lengths fields e t = subst (Fitting (imageSettings true) written) (sym t) tt
+fitting false written presence text lengths none e t = tt
+fitting false written presence text lengths (bitfield octets) e t = (t, refl, refl, λ z. zero-one (cc))
+fitting false written presence text lengths (reserved kind octet) e t = (single presence text lengths kind octet e, refl, refl, λ z. zero-one (cc))
+fitting false written presence text lengths (pairs ps) e t = (t, refl, refl, λ z. zero-one (cc))
+
+-- every reading takes no fields
+pub plain : (strict : Bool) → Taken strict none
+plain true = refl
+plain false = tt
+
+-- the tests that come first in both orders
+pub record Counted (ceiling count : ℕ) : Type 0 where
+  pub some : 0 < count
+  pub few : count ≤ ceiling
+
+pub counted : (ceiling width height count : ℕ) → checkCount ceiling width height count ≡ gives tt → Counted ceiling count
+counted ceiling width height count =
+    unless (eqb width 0 || eqb height 0) 8 0 _ tt (λ _. go (leb 1 count) (leb count ceiling) refl refl)
+  where
+    go : (t u : Bool) → leb 1 count ≡ t → leb count ceiling ≡ u → _≡_ {A = Answer (Unit {0})} (if (t && u) (gives tt) (refuses 21 0)) (gives tt)
+        → Counted ceiling count
+    go true true p q e = record { some = leb-true 1 count p; few = leb-true count ceiling q }
+    go true false p q e = zero-one (cc)
+    go false u p q e = zero-one (cc)

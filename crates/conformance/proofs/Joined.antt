@@ -1,0 +1,45 @@
+-- Lists of one length that stand end to end: each is found again.
+use Prim.Native.Nat.{ℕ, zero, suc, _+_, _*_, _≤_, _<_}
+use mathlib.Core.Path.{_≡_, refl, sym, ap, _∙_}
+use mathlib.Core.Bool.{Bool, true, false}
+use mathlib.Core.List.{List, [], _++_}
+use native.Mathlib.Nat.{mul-le-mul-right}
+use native.Mathlib.Omega.{arith}
+use borrow.Author.Tests.{ltb-true, ltb-false}
+use lib.Dec.{ltb}
+use lib.ListN.{length, take, drop, length-append, length-drop}
+use lib.Seq.{take-append-le, drop-append-le, drop-at, take-all}
+
+module _ (size : ℕ) (piece joined : ℕ → List ℕ) (none : joined 0 ≡ []) (next : (k : ℕ) → joined (suc k) ≡ joined k ++ piece k) where
+  pub joined-length : (n : ℕ) → ((k : ℕ) → k < n → length (piece k) ≡ size) → length (joined n) ≡ n * size
+  joined-length zero sized = ap length none ∙ omega arith
+  joined-length (suc n) sized =
+      let p = joined-length n (λ k l. sized k (omega arith)) in
+      let q = sized n (omega arith) in
+      ap length (next n) ∙ length-append (joined n) (piece n) ∙ omega arith
+
+  pub piece-back : (n k : ℕ) → ((i : ℕ) → i < n → length (piece i) ≡ size) → k < n → take size (drop (k * size) (joined n)) ≡ piece k
+  piece-back zero k sized l = let z : ⊥ = omega arith in absurd z
+  piece-back (suc n) k sized l = go (ltb k n) refl (piece-back n k (λ i h. sized i (omega arith)))
+    where
+      front : length (joined n) ≡ n * size
+      front = joined-length n (λ i h. sized i (omega arith))
+
+      go : (t : Bool) → ltb k n ≡ t → (k < n → take size (drop (k * size) (joined n)) ≡ piece k)
+          → take size (drop (k * size) (joined (suc n))) ≡ piece k
+      go true e ih =
+          let h = ltb-true k n e in
+          let p : suc k * size ≤ n * size = mul-le-mul-right size h in
+          let q : suc k * size ≡ k * size + size = omega arith in
+          let f = front in
+          ap (λ (s : List ℕ). take size (drop (k * size) s)) (next n)
+          ∙ ap (take size) (drop-append-le (k * size) (joined n) (piece n) (omega arith))
+          ∙ take-append-le size (drop (k * size) (joined n)) (piece n) (rw length-drop (omega arith))
+          ∙ ih h
+      go false e ih =
+          let h : k ≡ n = omega (arith, ltb-false k n e) in
+          ap (λ (s : List ℕ). take size (drop (k * size) s)) (next n)
+          ∙ ap (λ (i : ℕ). take size (drop (i * size) (joined n ++ piece n))) h
+          ∙ ap (take size) (drop-at (joined n) (piece n) (n * size) front)
+          ∙ take-all size (piece n) (omega (arith, sized n (omega arith)))
+          ∙ ap piece (sym h)

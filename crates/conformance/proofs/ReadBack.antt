@@ -1,0 +1,191 @@
+-- A file of a header and so many planes is read back.
+use Prim.Native.Nat.{ℕ, zero, suc, _+_, _-_, _*_, _/_, _≤_, _<_}
+use mathlib.Core.Path.{_≡_, refl, sym, ap, _∙_, subst}
+use mathlib.Core.Bool.{Bool}
+use mathlib.Core.List.{List, [], _++_}
+use native.Mathlib.Nat.{mul-le-mul-right, mul-div-cancel, mul-le-mul}
+use native.Mathlib.Omega.{arith}
+use borrow.Author.Tests.{le-leb, le-ltb}
+use lib.ListN.{length, take, drop, length-append, length-drop}
+use lib.Seq.{drop-append-add, length-take-le}
+use Rattle.error.specs.Answer.{Answer, gives, bind, map}
+use Rattle.laws.proofs.Octets.{Octets}
+use Rattle.laws.proofs.Tests.{if-true}
+use Rattle.mbi.specs.Bytes.{mbiBytes, groups}
+use Rattle.ext.specs.Kinds.{Fields}
+use Rattle.header.specs.Read.{Header, Outline, outline, readHeader}
+use Rattle.header.specs.Write.{fixByte, sizeBytes, headerBytes}
+use Rattle.header.proofs.RoundTrip.{Fitting, header-back}
+use Rattle.image.specs.Geometry.{rowBytes, planeBytes}
+use Rattle.image.specs.Dots.{isWhite}
+use Rattle.image.specs.Rows.{convertFormat}
+use Rattle.image.specs.declared.PixelFormat.the-variants.{MonoBlack}
+use Rattle.image.proofs.Masked.{bytes-source}
+use Rattle.image.proofs.Wiring.{source-there}
+use Rattle.options.specs.Limits.{Decoding, checkLimits}
+use Rattle.decoder.specs.Body.{extraFrames, framesIn, sourcePlane, planeAt, planes}
+use Rattle.decoder.specs.Image.{imageSettings, testBody, readImage}
+use Rattle.decoder.specs.Frames.{imageOf, fitted, decoded, shown}
+use Rattle.decoder.proofs.Counted.{few}
+use Rattle.decoder.proofs.Planed.{plane-length}
+use Rattle.conformance.specs.ReadBack.{Admitted, planeIn, ReadsBack}
+use Rattle.conformance.proofs.Joined.{joined-length, piece-back}
+use Rattle.conformance.proofs.Files.{Filed, Counted}
+use Rattle.conformance.proofs.ReadDots.{read-dots}
+
+-- so many planes are counted
+pub planes-counted : (ceiling count plane size : ℕ) → 0 < plane → Counted ceiling count → size ≡ count * plane
+    → 1 + extraFrames (ceiling - 1) plane size ≡ count
+planes-counted ceiling zero plane size p c e = let z : ⊥ = omega (arith, c .some) in absurd z
+planes-counted ceiling (suc n) plane size p c e =
+    let m : size - plane ≡ n * plane = omega arith in
+    let q : (size - plane) / plane ≡ n = ap (λ (k : ℕ). k / plane) m ∙ mul-div-cancel n p in
+    let l : (size - plane) / plane ≤ ceiling - 1 = omega (arith, c .few) in
+    ap (λ (k : ℕ). 1 + k) (sym (few (ceiling - 1) plane size l) ∙ q) ∙ omega arith
+
+pub plane-some : (w h : ℕ) → 0 < w → 0 < h → 0 < planeBytes w h
+plane-some w h p q =
+    let m : 1 * 1 ≤ rowBytes w * h = mul-le-mul {n₁ = 1} {m₁ = 1} {n₂ = rowBytes w} {m₂ = h} (omega arith) (omega arith) in
+    omega arith
+
+header-length : (fix : ℕ) (fields : List ℕ) (w h : ℕ)
+    → length (headerBytes fix fields w h) ≡ 2 + length fields + length (mbiBytes w) + length (mbiBytes h)
+unfolding mbiBytes groups
+header-length fix fields w h =
+    omega (arith, length-append fields (sizeBytes w h), length-append (mbiBytes w) (mbiBytes h))
+
+module _ (ceiling : ℕ) (d : Decoding) (strict : Bool) (width height : ℕ) (fields : Fields) (count : ℕ) (body bytes : List ℕ)
+    (f : Filed strict width height fields body bytes) (c : Counted ceiling count) (wb : width < 4294967296) (hb : height < 4294967296)
+    (fit : Fitting (imageSettings (d .strict)) strict fields) (adm : Admitted d width height)
+    (whole : length body ≡ count * planeBytes width height) where
+  abbrev head : Header
+  head = Rattle.header.proofs.RoundTrip.shown width height fields (length (f .fieldBytes))
+
+  header-read : readHeader (imageSettings (d .strict)) bytes ≡ gives head
+  header-read =
+      ap (readHeader (imageSettings (d .strict))) (f .bytesAre)
+      ∙ header-back (imageSettings (d .strict)) strict width height fields (f .fieldBytes) body (f .wide) wb (f .high) hb fit (f .fieldsGive)
+
+  abbrev plane : ℕ
+  plane = planeBytes width height
+
+  some : 0 < plane
+  some = plane-some width height (f .wide) (f .high)
+
+  size-is : length bytes ≡ head .body + count * plane
+  size-is =
+      ap length (f .bytesAre)
+      ∙ length-append (headerBytes (fixByte fields) (f .fieldBytes) width height) body
+      ∙ omega (arith, whole, header-length (fixByte fields) (f .fieldBytes) width height)
+
+  -- all planes stand behind the header
+  left : length bytes - head .body ≡ count * plane
+  left = omega (arith, size-is)
+
+  one-there : plane ≤ count * plane
+  one-there = let m : 1 * plane ≤ count * plane = mul-le-mul-right plane (c .some) in omega arith
+
+  image-read : readImage d bytes ≡ gives (outline head)
+  unfolding readImage testBody checkLimits
+  image-read =
+      ap (λ (a : Answer Header). bind (map outline a) (testBody d (length bytes))) header-read
+      ∙ rw (adm .wide, adm .high, adm .pixels, adm .bytes, left, le-ltb (count * plane) plane one-there)
+
+  frames-are : framesIn ceiling (length bytes) (outline head) ≡ count
+  frames-are = planes-counted ceiling count plane (length bytes - head .body) some c left
+
+  -- plane k as the file has it
+  source-is : (k : ℕ) → sourcePlane bytes (outline head) k ≡ planeIn width height body k
+  source-is k =
+      let n = header-length (fixByte fields) (f .fieldBytes) width height in
+      ap (λ (s : List ℕ). take plane (drop (head .body + k * plane) s)) (f .bytesAre)
+      ∙ ap (λ (i : ℕ). take plane (drop (i + k * plane) (headerBytes (fixByte fields) (f .fieldBytes) width height ++ body))) (sym n)
+      ∙ ap (take plane) (drop-append-add (headerBytes (fixByte fields) (f .fieldBytes) width height) body (k * plane))
+
+  up-to : (k : ℕ) → k < count → k * plane + plane ≤ count * plane
+  up-to k l =
+      let p : suc k * plane ≤ count * plane = mul-le-mul-right plane l in
+      let q : suc k * plane ≡ k * plane + plane = omega arith in
+      omega arith
+
+  -- plane k as it is shown
+  abbrev shownPlanes : ℕ → List ℕ
+  shownPlanes = planes (d .format) bytes (outline head)
+
+  plane-sized : (k : ℕ) → k < count → length (planeAt (d .format) bytes (outline head) k) ≡ plane
+  plane-sized k l = plane-length (d .format) bytes (outline head) k (omega (arith, up-to k l, size-is))
+
+  none : shownPlanes 0 ≡ []
+  unfolding planes
+  none = refl
+
+  next : (k : ℕ) → shownPlanes (suc k) ≡ shownPlanes k ++ planeAt (d .format) bytes (outline head) k
+  unfolding planes
+  next k = refl
+
+  output-size : length (shownPlanes count) ≡ count * plane
+  output-size = joined-length plane (planeAt (d .format) bytes (outline head)) shownPlanes none next count plane-sized
+
+  plane-shown : (k : ℕ) → k < count
+      → planeIn width height (shownPlanes count) k ≡ convertFormat MonoBlack (d .format) width height (rowBytes width) (planeIn width height body k)
+  unfolding planeAt
+  plane-shown k l =
+      piece-back plane (planeAt (d .format) bytes (outline head)) shownPlanes none next count k plane-sized l
+      ∙ ap (convertFormat MonoBlack (d .format) width height (rowBytes width)) (source-is k)
+
+  -- the bytes of plane k
+  source-size : (k : ℕ) → k < count → length (planeIn width height body k) ≡ plane
+  source-size k l = length-take-le plane (drop (k * plane) body) (rw length-drop (omega (arith, up-to k l, whole)))
+
+  source-bytes : Octets body → (k : ℕ) → k < count → Octets (planeIn width height body k)
+  source-bytes o k l =
+      subst Octets (source-there plane plane body k (omega (arith, up-to k l, whole))) (bytes-source plane plane body k o)
+
+  pub file-back : Octets body
+      → ReadsBack ceiling d bytes width height fields count (planeIn width height body)
+      (λ k. isWhite MonoBlack width height (rowBytes width) (planeIn width height body k))
+  unfolding decoded shown
+  file-back o =
+      record {
+        image = imageOf (outline head) count;
+        output = shownPlanes count;
+        answer = λ room l.
+            ap (λ (a : Answer Outline). bind a (λ h. fitted room h (framesIn ceiling (length bytes) h))) image-read
+            ∙ ap (fitted room (outline head)) frames-are
+            ∙ if-true _ _ _ (le-leb (count * plane) room (omega (arith, output-size)));
+        shows =
+            ap (map (λ h. planes (d .format) bytes h (framesIn ceiling (length bytes) h))) image-read
+            ∙ ap (λ (n : ℕ). gives (shownPlanes n)) frames-are;
+        widthIs = refl;
+        heightIs = refl;
+        framesAre = refl;
+        writtenIs = sym output-size;
+        fixIs = refl;
+        fieldsAre = ap (map (λ (h : Header). h .fields)) header-read;
+        size = output-size;
+        planeIs = plane-shown;
+        dots = λ k x y l.
+            ap (λ (s : List ℕ). isWhite (d .format) width height (rowBytes width) s x y) (plane-shown k l)
+            ∙ read-dots width height (f .wide) (f .high) wb hb (d .format) (planeIn width height body k) (source-size k l) (source-bytes o k l) x y;
+      }
+
+-- the same by other names of the planes and dots
+pub renamed : {ceiling : ℕ} {d : Decoding} {bytes : List ℕ} {width height : ℕ} {fields : Fields} {count : ℕ} {plane plane′ : ℕ → List ℕ}
+    {white white′ : ℕ → ℕ → ℕ → Bool} → ((k : ℕ) → k < count → plane k ≡ plane′ k) → ((k x y : ℕ) → k < count → white k x y ≡ white′ k x y)
+    → ReadsBack ceiling d bytes width height fields count plane white → ReadsBack ceiling d bytes width height fields count plane′ white′
+renamed {d = d} {width = width} {height = height} p w r =
+    record {
+      image = r .image;
+      output = r .output;
+      answer = r .answer;
+      shows = r .shows;
+      widthIs = r .widthIs;
+      heightIs = r .heightIs;
+      framesAre = r .framesAre;
+      writtenIs = r .writtenIs;
+      fixIs = r .fixIs;
+      fieldsAre = r .fieldsAre;
+      size = r .size;
+      planeIs = λ k l. r .planeIs k l ∙ ap (convertFormat MonoBlack (d .format) width height (rowBytes width)) (p k l);
+      dots = λ k x y l. r .dots k x y l ∙ w k x y l;
+    }

@@ -1,0 +1,176 @@
+-- What is written is read back.
+use Prim.Native.Nat.{ℕ, zero, suc, _+_, _-_, _*_, _^_, _≤_, _<_}
+use mathlib.Core.Path.{_≡_, refl, ap, _∙_, subst}
+use mathlib.Core.Bool.{_||_}
+use mathlib.Core.List.{List, [], _∷_, _++_}
+use native.Mathlib.Nat.{mul-comm, mul-le-mul-right, div-mul-le-self}
+use native.Mathlib.Omega.{arith}
+use borrow.Author.Tests.{ltb-false, leb-false}
+use lib.Dec.{ltb, leb, eqb}
+use lib.ListN.{length, getD, drop, set, length-drop}
+use lib.Seq.{length-take-le}
+use Rattle.error.specs.Answer.{gives}
+use Rattle.laws.proofs.Octets.{Octets, octets-nil, octets-cons, octets-append}
+use Rattle.ext.specs.Kinds.{Fields, none}
+use Rattle.header.specs.Write.{presented}
+use Rattle.header.specs.declared.ExtPresence.{ExtPresence}
+use Rattle.header.specs.declared.ExtPresence.the-variants.{Absent}
+use Rattle.image.specs.Dots.{isWhite}
+use Rattle.image.specs.Geometry.{rowBytes, planeBytes, neededBytes, paddingBits, checkGeometry}
+use Rattle.image.specs.Rows.{clearLow, clearPadding, sourceRow, toNative, wireRow, wireBits}
+use Rattle.image.specs.declared.PixelFormat.{PixelFormat}
+use Rattle.image.specs.declared.PixelFormat.the-variants.{MonoBlack}
+use Rattle.image.proofs.Fitting.{fits}
+use Rattle.image.proofs.Masked.{bytes-source, bytes-native}
+use Rattle.image.proofs.Tested.{accepted}
+use Rattle.image.proofs.WireDots.{wire-dots}
+use Rattle.image.proofs.Wiring.{source-there, wire-length}
+use Rattle.options.specs.Limits.{Decoding}
+use Rattle.options.specs.declared.EncodeOptions.{EncodeOptions}
+use Rattle.decoder.proofs.Shaped.{bind-gives, unless}
+use Rattle.encoder.specs.File.{checkCount, fileOf}
+use Rattle.encoder.specs.Write.{checkPlanes, lentPlane, wirePlanes, fileOfPlanes}
+use Rattle.conformance.specs.ReadBack.{Taken, Admitted, planeIn, ReadsBack}
+use Rattle.conformance.proofs.Joined.{joined-length, piece-back}
+use Rattle.conformance.proofs.Files.{filed, fitting, plain, Counted, counted}
+use Rattle.conformance.proofs.ReadBack.{file-back, renamed}
+
+-- the bytes of wire bits are bytes
+octets-set : (l : List ℕ) (i b : ℕ) → b < 256 → Octets l → Octets (set l i b)
+octets-set [] i b h o = octets-nil
+octets-set (x ∷ l) zero b h o = octets-cons b l h (λ i. o (suc i))
+octets-set (x ∷ l) (suc i) b h o = octets-cons x (set l i b) (o 0) (octets-set l i b h (λ j. o (suc j)))
+
+octets-clear : (w : ℕ) (row : List ℕ) → Octets row → Octets (clearPadding w row)
+unfolding clearPadding
+octets-clear w row o =
+    let b = getD row (length row - 1) 0 in
+    octets-set row (length row - 1) (clearLow (paddingBits w) b)
+    (omega (arith, div-mul-le-self b (2 ^ paddingBits w), o (length row - 1))) o
+
+octets-wire : (f : PixelFormat) (w h s : ℕ) (plane : List ℕ) → Octets plane → Octets (wireBits f w h s plane)
+unfolding wireBits wireRow
+octets-wire f w zero s plane o = octets-nil
+octets-wire f w (suc h) s plane o =
+    octets-append (wireBits f w h s plane) (wireRow f w s plane h) (octets-wire f w h s plane o)
+    (octets-clear w (toNative f (sourceRow (rowBytes w) s plane h)) (bytes-native f _ (bytes-source (rowBytes w) s plane h o)))
+
+module _ (format : PixelFormat) (width height stride : ℕ) (planes : List ℕ) where
+  -- the planes of a file, as they are lent and as they are written
+  abbrev pub lent : ℕ → List ℕ
+  lent = lentPlane width height stride planes
+
+  abbrev pub wired : ℕ → List ℕ
+  wired k = wireBits format width height stride (lent k)
+
+  abbrev body : ℕ → List ℕ
+  body = wirePlanes format width height stride planes
+
+  wired-size : (k : ℕ) → length (wired k) ≡ planeBytes width height
+  wired-size k = wire-length format width stride (lent k) height ∙ mul-comm height (rowBytes width)
+
+  pub body-none : body 0 ≡ []
+  unfolding wirePlanes
+  body-none = refl
+
+  pub body-next : (k : ℕ) → body (suc k) ≡ body k ++ wired k
+  unfolding wirePlanes
+  body-next k = refl
+
+  pub body-size : (n : ℕ) → length (body n) ≡ n * planeBytes width height
+  body-size n = joined-length (planeBytes width height) wired body body-none body-next n (λ k l. wired-size k)
+
+  pub body-plane : (n k : ℕ) → k < n → planeIn width height (body n) k ≡ wired k
+  body-plane n k = piece-back (planeBytes width height) wired body body-none body-next n k (λ k l. wired-size k)
+
+  pub octets-body : (n : ℕ) → ((k : ℕ) → k < n → Octets (lent k)) → Octets (body n)
+  unfolding wirePlanes
+  octets-body zero o = octets-nil
+  octets-body (suc n) o =
+      octets-append (body n) (wired n) (octets-body n (λ k l. o k (omega arith))) (octets-wire format width height stride (lent n) (o n (omega arith)))
+
+-- the tests that a file's planes have passed
+module _ (ceiling : ℕ) (o : EncodeOptions) (format : PixelFormat) (width height count stride : ℕ) (planes text lengths bytes : List ℕ) where
+  pub record Passed : Type 0 where
+    pub isCounted : Counted ceiling count
+    pub small : neededBytes width height stride < 2 ^ 64
+    pub geometry : checkGeometry width height stride (length planes) ≡ gives tt
+    pub enough : count * neededBytes width height stride ≤ length planes
+    pub file : fileOf o width height text lengths (wirePlanes format width height stride planes count) ≡ gives bytes
+
+  needed-small : checkGeometry width height stride (length planes) ≡ gives tt → neededBytes width height stride < 2 ^ 64
+  unfolding checkGeometry
+  needed-small =
+      unless (eqb width 0 || eqb height 0) 8 0 _ tt (λ _.
+      unless (ltb stride (rowBytes width)) 26 0 _ tt (λ _.
+      unless (leb (2 ^ 64) (neededBytes width height stride)) 27 0 _ tt (λ t _. leb-false (2 ^ 64) (neededBytes width height stride) t)))
+
+  tested : fileOf o width height text lengths (wirePlanes format width height stride planes count) ≡ gives bytes
+      → checkPlanes ceiling width height count stride (length planes) ≡ gives tt → Passed
+  unfolding checkPlanes
+  tested e =
+      bind-gives (checkCount ceiling width height count) _ tt (λ _ q.
+      bind-gives (checkGeometry width height stride (length planes)) _ tt (λ _ g.
+      unless (ltb (length planes) (count * neededBytes width height stride)) 20 0 _ tt (λ t _.
+      record {
+        isCounted = counted ceiling width height count q;
+        small = needed-small g;
+        geometry = g;
+        enough = ltb-false (length planes) (count * neededBytes width height stride) t;
+        file = e;
+      })))
+
+  pub passed : fileOfPlanes ceiling o format width height count stride planes text lengths ≡ gives bytes → Passed
+  unfolding fileOfPlanes
+  passed = bind-gives (checkPlanes ceiling width height count stride (length planes)) _ bytes (λ _ p e. tested e p)
+
+  module _ (p : Passed) where
+    -- plane k is lent whole
+    lent-there : (k : ℕ) → k < count → k * neededBytes width height stride + neededBytes width height stride ≤ length planes
+    lent-there k l =
+        let n = neededBytes width height stride in
+        let m : suc k * n ≤ count * n = mul-le-mul-right n l in
+        let e : suc k * n ≡ k * n + n = omega arith in
+        omega (arith, p .enough)
+
+    pub lent-passes : (k : ℕ) → k < count → checkGeometry width height stride (length (lent format width height stride planes k)) ≡ gives tt
+    lent-passes k l =
+        let n = neededBytes width height stride in
+        let g = fits width height stride (length planes) (p .geometry) in
+        let e : length (lent format width height stride planes k) ≡ n =
+        length-take-le n (drop (k * n) planes) (rw length-drop (omega (arith, lent-there k l))) in
+        accepted width height stride _ (g .wide) (g .high) (g .row) (p .small) (omega arith)
+
+    pub lent-octets : Octets planes → (k : ℕ) → k < count → Octets (lent format width height stride planes k)
+    lent-octets b k l =
+        let n = neededBytes width height stride in
+        subst Octets (source-there n n planes k (lent-there k l)) (bytes-source n n planes k b)
+
+-- Whole reading that takes the fields and admits the size shows what was lent.
+pub written-back : (ceiling : ℕ) (d : Decoding) (o : EncodeOptions) (format : PixelFormat) (width height count stride : ℕ)
+    (planes text lengths bytes : List ℕ) (fields : Fields) → width < 4294967296 → height < 4294967296 → Octets planes
+    → presented (o .ext) text lengths ≡ gives fields → Taken (d .strict) fields → Admitted d width height
+    → fileOfPlanes ceiling o format width height count stride planes text lengths ≡ gives bytes
+    → ReadsBack ceiling d bytes width height fields count (λ k. wireBits format width height stride (lentPlane width height stride planes k))
+    (λ k. isWhite format width height stride (lentPlane width height stride planes k))
+written-back ceiling d o format width height count stride planes text lengths bytes fields wb hb b e t a w =
+    let p = passed ceiling o format width height count stride planes text lengths bytes w in
+    let body = wirePlanes format width height stride planes count in
+    let octets = lent-octets ceiling o format width height count stride planes text lengths bytes p b in
+    renamed (body-plane format width height stride planes count)
+    (λ k x y l.
+    ap (λ (s : List ℕ). isWhite MonoBlack width height (rowBytes width) s x y) (body-plane format width height stride planes count k l)
+    ∙ wire-dots format width height stride _ (lent-passes ceiling o format width height count stride planes text lengths bytes p k l) (octets k l) x y)
+    (file-back ceiling d (o .strict) width height fields count body bytes (filed o width height text lengths body bytes fields e (p .file))
+    (p .isCounted) wb hb (fitting (d .strict) (o .strict) (o .ext) text lengths fields e t) a (body-size format width height stride planes count)
+    (octets-body format width height stride planes count octets))
+
+-- What has no fields is read back strictly too.
+pub written-plain : (ceiling : ℕ) (d : Decoding) (o : EncodeOptions) (format : PixelFormat) (width height count stride : ℕ)
+    (planes text lengths bytes : List ℕ) → width < 4294967296 → height < 4294967296 → Octets planes → o .ext ≡ Absent → Admitted d width height
+    → fileOfPlanes ceiling o format width height count stride planes text lengths ≡ gives bytes
+    → ReadsBack ceiling d bytes width height none count (λ k. wireBits format width height stride (lentPlane width height stride planes k))
+    (λ k. isWhite format width height stride (lentPlane width height stride planes k))
+written-plain ceiling d o format width height count stride planes text lengths bytes wb hb b e a w =
+    written-back ceiling d o format width height count stride planes text lengths bytes none wb hb b
+    (ap (λ (p : ExtPresence). presented p text lengths) e) (plain (d .strict)) a w

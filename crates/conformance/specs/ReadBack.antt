@@ -1,0 +1,58 @@
+-- What it is for a file to be read back.
+use Prim.Native.Nat.{ℕ, _*_, _≤_, _<_}
+use mathlib.Core.Path.{_≡_}
+use mathlib.Core.Bool.{Bool, true, false}
+use mathlib.Core.List.{List}
+use lib.ListN.{length, take, drop}
+use Rattle.error.specs.Answer.{gives}
+use Rattle.ext.specs.Kinds.{Fields, none, bitfield, reserved, pairs}
+use Rattle.ext.specs.Ceiling.{StartsBelow}
+use Rattle.header.specs.Write.{fixByte}
+use Rattle.image.specs.Dots.{isWhite}
+use Rattle.image.specs.Geometry.{rowBytes, planeBytes}
+use Rattle.image.specs.Rows.{convertFormat}
+use Rattle.image.specs.declared.PixelFormat.the-variants.{MonoBlack}
+use Rattle.options.specs.Limits.{Decoding, admits}
+use Rattle.decoder.specs.Image.{fieldsOf}
+use Rattle.decoder.specs.Frames.{Image, shown, decoded}
+
+-- fields within the ceiling of 4,096, or none: lenient reading takes what is written with these
+abbrev pub Within : Fields → Type 0
+Within none = Unit {0}
+Within (bitfield octets) = length octets ≤ 4096
+Within (reserved kind octet) = Unit {0}
+Within (pairs ps) = StartsBelow 0 ps
+
+-- what a strict reading takes, and a lenient one
+abbrev pub Taken : Bool → Fields → Type 0
+Taken true fields = fields ≡ none
+Taken false fields = Within fields
+
+-- no limit of the reading refuses the size
+pub record Admitted (d : Decoding) (width height : ℕ) : Type 0 where
+  pub wide : admits (d .maxWidth) width ≡ true
+  pub high : admits (d .maxHeight) height ≡ true
+  pub pixels : admits (d .maxPixels) (width * height) ≡ true
+  pub bytes : admits (d .maxBytes) (planeBytes width height) ≡ true
+
+-- plane k of those that stand end to end
+abbrev pub planeIn : ℕ → ℕ → List ℕ → ℕ → List ℕ
+planeIn width height planes k = take (planeBytes width height) (drop (k * planeBytes width height) planes)
+
+-- Whole reading shows this size, these fields and so many frames. Plane k is `plane k` in the asked format, and its dot at column x of
+-- row y is white where `white k x y` says so.
+pub record ReadsBack (ceiling : ℕ) (d : Decoding) (bytes : List ℕ) (width height : ℕ) (fields : Fields) (count : ℕ) (plane : ℕ → List ℕ)
+    (white : ℕ → ℕ → ℕ → Bool) : Type 0 where
+  pub image : Image
+  pub output : List ℕ
+  pub answer : (room : ℕ) → length output ≤ room → decoded ceiling d bytes room ≡ gives image
+  pub shows : shown ceiling d bytes ≡ gives output
+  pub widthIs : image .width ≡ width
+  pub heightIs : image .height ≡ height
+  pub framesAre : image .frames ≡ count
+  pub writtenIs : image .written ≡ length output
+  pub fixIs : image .fix ≡ fixByte fields
+  pub fieldsAre : fieldsOf (d .strict) bytes ≡ gives fields
+  pub size : length output ≡ count * planeBytes width height
+  pub planeIs : (k : ℕ) → k < count → planeIn width height output k ≡ convertFormat MonoBlack (d .format) width height (rowBytes width) (plane k)
+  pub dots : (k x y : ℕ) → k < count → isWhite (d .format) width height (rowBytes width) (planeIn width height output k) x y ≡ white k x y
