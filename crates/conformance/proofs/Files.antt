@@ -1,22 +1,27 @@
 -- What a file that is written or made consists of.
-use Prim.Native.Nat.{ℕ, _≤_, _<_}
-use mathlib.Core.Path.{_≡_, refl, sym, subst}
+use Prim.Native.Nat.{ℕ, _+_, _≤_, _<_}
+use mathlib.Core.Path.{_≡_, refl, sym, ap, _∙_, subst}
 use mathlib.Core.Bool.{Bool, true, false, _&&_, _||_}
 use mathlib.Core.List.{List, [], _∷_, _++_}
 use mathlib.Core.Logic.{_⊎_, inl, inr}
+use native.Mathlib.Omega.{arith}
 use borrow.Author.Tests.{leb-true}
 use lib.Dec.{leb, eqb}
-use lib.ListN.{length}
+use lib.ListN.{length, drop, length-append}
+use lib.Seq.{drop-at}
 use Rattle.error.specs.Choice.{if}
 use Rattle.error.specs.Answer.{Answer, gives, refuses, map}
 use Rattle.laws.proofs.Tests.{zero-one}
+use Rattle.mbi.specs.Bytes.{mbiBytes, groups}
 use Rattle.ext.specs.Kinds.{Fields, none, bitfield, reserved, pairs}
 use Rattle.ext.specs.Write.{fieldsBytes, lentFields, cutPairs, sum}
 use Rattle.ext.specs.declared.ExtFieldType.the-variants.{Bitfield00, Reserved01, Reserved10, ParameterPairs11}
-use Rattle.header.specs.Write.{fixByte, headerBytes, fieldsHeader, presented}
+use Rattle.header.specs.Settings.{Settings}
+use Rattle.header.specs.Read.{Header, readHeader}
+use Rattle.header.specs.Write.{fixByte, sizeBytes, headerBytes, fieldsHeader, presented}
 use Rattle.header.specs.declared.ExtPresence.{ExtPresence}
 use Rattle.header.specs.declared.ExtPresence.the-variants.{Absent, Present}
-use Rattle.header.proofs.RoundTrip.{Fitting}
+use Rattle.header.proofs.RoundTrip.{shown, Fitting, header-back}
 use Rattle.options.specs.declared.EncodeOptions.{EncodeOptions}
 use Rattle.decoder.specs.Image.{imageSettings}
 use Rattle.decoder.proofs.Shaped.{bind-gives, unless, positive, neither}
@@ -51,6 +56,33 @@ module _ (o : EncodeOptions) (width height : ℕ) (text lengths body bytes : Lis
         fieldsGive = rw (← same) q;
         bytesAre = cc;
       }))) e)
+
+-- the header is read, and the body stands behind it
+header-length : (fix : ℕ) (fields : List ℕ) (w h : ℕ)
+    → length (headerBytes fix fields w h) ≡ 2 + length fields + length (mbiBytes w) + length (mbiBytes h)
+unfolding mbiBytes groups
+header-length fix fields w h =
+    omega (arith, length-append fields (sizeBytes w h), length-append (mbiBytes w) (mbiBytes h))
+
+module _ (strict : Bool) (width height : ℕ) (fields : Fields) (body bytes : List ℕ) (f : Filed strict width height fields body bytes) where
+  abbrev pub head : Header
+  head = shown width height fields (length (f .fieldBytes))
+
+  pub header-read : (s : Settings) → width < 4294967296 → height < 4294967296 → Fitting s strict fields → readHeader s bytes ≡ gives head
+  header-read s wb hb fit =
+      ap (readHeader s) (f .bytesAre)
+      ∙ header-back s strict width height fields (f .fieldBytes) body (f .wide) wb (f .high) hb fit (f .fieldsGive)
+
+  abbrev front : List ℕ
+  front = headerBytes (fixByte fields) (f .fieldBytes) width height
+
+  pub behind : drop (head .body) bytes ≡ body
+  behind = ap (drop (head .body)) (f .bytesAre) ∙ drop-at front body (head .body) (header-length (fixByte fields) (f .fieldBytes) width height)
+
+  pub size-is : length bytes ≡ head .body + length body
+  size-is =
+      ap length (f .bytesAre) ∙ length-append front body
+      ∙ ap (λ (n : ℕ). n + length body) (header-length (fixByte fields) (f .fieldBytes) width height)
 
 -- a single octet that is lent is of kind 01 or 10
 single : (presence : ExtPresence) (text lengths : List ℕ) (kind octet : ℕ) → presented presence text lengths ≡ gives (reserved kind octet)

@@ -10,6 +10,13 @@ use lib.Dec.{ltb}
 use lib.ListN.{length, take, drop, length-append, length-drop}
 use lib.Seq.{take-append-le, drop-append-le, drop-at, take-all}
 
+-- the first k + 1 of n are among them
+pub up-to : (size k n : ℕ) → k < n → k * size + size ≤ n * size
+up-to size k n l =
+    let p : suc k * size ≤ n * size = mul-le-mul-right size l in
+    let q : suc k * size ≡ k * size + size = omega arith in
+    omega arith
+
 module _ (size : ℕ) (piece joined : ℕ → List ℕ) (none : joined 0 ≡ []) (next : (k : ℕ) → joined (suc k) ≡ joined k ++ piece k) where
   pub joined-length : (n : ℕ) → ((k : ℕ) → k < n → length (piece k) ≡ size) → length (joined n) ≡ n * size
   joined-length zero sized = ap length none ∙ omega arith
@@ -29,8 +36,7 @@ module _ (size : ℕ) (piece joined : ℕ → List ℕ) (none : joined 0 ≡ [])
           → take size (drop (k * size) (joined (suc n))) ≡ piece k
       go true e ih =
           let h = ltb-true k n e in
-          let p : suc k * size ≤ n * size = mul-le-mul-right size h in
-          let q : suc k * size ≡ k * size + size = omega arith in
+          let p = up-to size k n h in
           let f = front in
           ap (λ (s : List ℕ). take size (drop (k * size) s)) (next n)
           ∙ ap (take size) (drop-append-le (k * size) (joined n) (piece n) (omega arith))

@@ -1,7 +1,9 @@
 pub mod Cards
 pub mod Joined
 pub mod Files
+pub mod Rows
 pub mod ReadDots
 pub mod ReadBack
 pub mod Written
 pub mod WrittenCards
+pub mod SniffsExact

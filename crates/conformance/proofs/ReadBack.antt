@@ -6,16 +6,14 @@ use mathlib.Core.List.{List, [], _++_}
 use native.Mathlib.Nat.{mul-le-mul-right, mul-div-cancel, mul-le-mul}
 use native.Mathlib.Omega.{arith}
 use borrow.Author.Tests.{le-leb, le-ltb}
-use lib.ListN.{length, take, drop, length-append, length-drop}
-use lib.Seq.{drop-append-add, length-take-le}
+use lib.ListN.{length, take, drop, length-drop}
+use lib.Seq.{drop-drop, length-take-le}
 use Rattle.error.specs.Answer.{Answer, gives, bind, map}
 use Rattle.laws.proofs.Octets.{Octets}
 use Rattle.laws.proofs.Tests.{if-true}
-use Rattle.mbi.specs.Bytes.{mbiBytes, groups}
 use Rattle.ext.specs.Kinds.{Fields}
 use Rattle.header.specs.Read.{Header, Outline, outline, readHeader}
-use Rattle.header.specs.Write.{fixByte, sizeBytes, headerBytes}
-use Rattle.header.proofs.RoundTrip.{Fitting, header-back}
+use Rattle.header.proofs.RoundTrip.{Fitting}
 use Rattle.image.specs.Geometry.{rowBytes, planeBytes}
 use Rattle.image.specs.Dots.{isWhite}
 use Rattle.image.specs.Rows.{convertFormat}
@@ -27,10 +25,10 @@ use Rattle.decoder.specs.Body.{extraFrames, framesIn, sourcePlane, planeAt, pla
 use Rattle.decoder.specs.Image.{imageSettings, testBody, readImage}
 use Rattle.decoder.specs.Frames.{imageOf, fitted, decoded, shown}
 use Rattle.decoder.proofs.Counted.{few}
-use Rattle.decoder.proofs.Planed.{plane-length}
+use Rattle.decoder.proofs.Planed.{plane-length, planes-length}
 use Rattle.conformance.specs.ReadBack.{Admitted, planeIn, ReadsBack}
-use Rattle.conformance.proofs.Joined.{joined-length, piece-back}
-use Rattle.conformance.proofs.Files.{Filed, Counted}
+use Rattle.conformance.proofs.Joined.{up-to, piece-back}
+use Rattle.conformance.proofs.Files.{Filed, head, header-read, behind, size-is, Counted}
 use Rattle.conformance.proofs.ReadDots.{read-dots}
 
 -- so many planes are counted
@@ -48,23 +46,15 @@ plane-some w h p q =
     let m : 1 * 1 ≤ rowBytes w * h = mul-le-mul {n₁ = 1} {m₁ = 1} {n₂ = rowBytes w} {m₂ = h} (omega arith) (omega arith) in
     omega arith
 
-header-length : (fix : ℕ) (fields : List ℕ) (w h : ℕ)
-    → length (headerBytes fix fields w h) ≡ 2 + length fields + length (mbiBytes w) + length (mbiBytes h)
-unfolding mbiBytes groups
-header-length fix fields w h =
-    omega (arith, length-append fields (sizeBytes w h), length-append (mbiBytes w) (mbiBytes h))
-
 module _ (ceiling : ℕ) (d : Decoding) (strict : Bool) (width height : ℕ) (fields : Fields) (count : ℕ) (body bytes : List ℕ)
     (f : Filed strict width height fields body bytes) (c : Counted ceiling count) (wb : width < 4294967296) (hb : height < 4294967296)
     (fit : Fitting (imageSettings (d .strict)) strict fields) (adm : Admitted d width height)
     (whole : length body ≡ count * planeBytes width height) where
-  abbrev head : Header
-  head = Rattle.header.proofs.RoundTrip.shown width height fields (length (f .fieldBytes))
+  abbrev header : Header
+  header = head strict width height fields body bytes f
 
-  header-read : readHeader (imageSettings (d .strict)) bytes ≡ gives head
-  header-read =
-      ap (readHeader (imageSettings (d .strict))) (f .bytesAre)
-      ∙ header-back (imageSettings (d .strict)) strict width height fields (f .fieldBytes) body (f .wide) wb (f .high) hb fit (f .fieldsGive)
+  read : readHeader (imageSettings (d .strict)) bytes ≡ gives header
+  read = header-read strict width height fields body bytes f (imageSettings (d .strict)) wb hb fit
 
   abbrev plane : ℕ
   plane = planeBytes width height
@@ -72,74 +62,64 @@ module _ (ceiling : ℕ) (d : Decoding) (strict : Bool) (width height : ℕ) (fi
   some : 0 < plane
   some = plane-some width height (f .wide) (f .high)
 
-  size-is : length bytes ≡ head .body + count * plane
-  size-is =
-      ap length (f .bytesAre)
-      ∙ length-append (headerBytes (fixByte fields) (f .fieldBytes) width height) body
-      ∙ omega (arith, whole, header-length (fixByte fields) (f .fieldBytes) width height)
-
   -- all planes stand behind the header
-  left : length bytes - head .body ≡ count * plane
-  left = omega (arith, size-is)
+  all-there : length bytes ≡ header .body + count * plane
+  all-there = size-is strict width height fields body bytes f ∙ ap (λ (n : ℕ). header .body + n) whole
+
+  left : length bytes - header .body ≡ count * plane
+  left = omega (arith, all-there)
 
   one-there : plane ≤ count * plane
   one-there = let m : 1 * plane ≤ count * plane = mul-le-mul-right plane (c .some) in omega arith
 
-  image-read : readImage d bytes ≡ gives (outline head)
+  image-read : readImage d bytes ≡ gives (outline header)
   unfolding readImage testBody checkLimits
   image-read =
-      ap (λ (a : Answer Header). bind (map outline a) (testBody d (length bytes))) header-read
+      ap (λ (a : Answer Header). bind (map outline a) (testBody d (length bytes))) read
       ∙ rw (adm .wide, adm .high, adm .pixels, adm .bytes, left, le-ltb (count * plane) plane one-there)
 
-  frames-are : framesIn ceiling (length bytes) (outline head) ≡ count
-  frames-are = planes-counted ceiling count plane (length bytes - head .body) some c left
+  frames-are : framesIn ceiling (length bytes) (outline header) ≡ count
+  frames-are = planes-counted ceiling count plane (length bytes - header .body) some c left
 
   -- plane k as the file has it
-  source-is : (k : ℕ) → sourcePlane bytes (outline head) k ≡ planeIn width height body k
+  source-is : (k : ℕ) → sourcePlane bytes (outline header) k ≡ planeIn width height body k
   source-is k =
-      let n = header-length (fixByte fields) (f .fieldBytes) width height in
-      ap (λ (s : List ℕ). take plane (drop (head .body + k * plane) s)) (f .bytesAre)
-      ∙ ap (λ (i : ℕ). take plane (drop (i + k * plane) (headerBytes (fixByte fields) (f .fieldBytes) width height ++ body))) (sym n)
-      ∙ ap (take plane) (drop-append-add (headerBytes (fixByte fields) (f .fieldBytes) width height) body (k * plane))
-
-  up-to : (k : ℕ) → k < count → k * plane + plane ≤ count * plane
-  up-to k l =
-      let p : suc k * plane ≤ count * plane = mul-le-mul-right plane l in
-      let q : suc k * plane ≡ k * plane + plane = omega arith in
-      omega arith
+      ap (take plane)
+      (sym (drop-drop (k * plane) (header .body) bytes)
+      ∙ ap (drop (k * plane)) (behind strict width height fields body bytes f))
 
   -- plane k as it is shown
   abbrev shownPlanes : ℕ → List ℕ
-  shownPlanes = planes (d .format) bytes (outline head)
+  shownPlanes = planes (d .format) bytes (outline header)
 
-  plane-sized : (k : ℕ) → k < count → length (planeAt (d .format) bytes (outline head) k) ≡ plane
-  plane-sized k l = plane-length (d .format) bytes (outline head) k (omega (arith, up-to k l, size-is))
+  plane-sized : (k : ℕ) → k < count → length (planeAt (d .format) bytes (outline header) k) ≡ plane
+  plane-sized k l = plane-length (d .format) bytes (outline header) k (omega (arith, up-to plane k count l, all-there))
 
   none : shownPlanes 0 ≡ []
   unfolding planes
   none = refl
 
-  next : (k : ℕ) → shownPlanes (suc k) ≡ shownPlanes k ++ planeAt (d .format) bytes (outline head) k
+  next : (k : ℕ) → shownPlanes (suc k) ≡ shownPlanes k ++ planeAt (d .format) bytes (outline header) k
   unfolding planes
   next k = refl
 
   output-size : length (shownPlanes count) ≡ count * plane
-  output-size = joined-length plane (planeAt (d .format) bytes (outline head)) shownPlanes none next count plane-sized
+  output-size = planes-length (d .format) bytes (outline header) count (omega (arith, all-there))
 
   plane-shown : (k : ℕ) → k < count
       → planeIn width height (shownPlanes count) k ≡ convertFormat MonoBlack (d .format) width height (rowBytes width) (planeIn width height body k)
   unfolding planeAt
   plane-shown k l =
-      piece-back plane (planeAt (d .format) bytes (outline head)) shownPlanes none next count k plane-sized l
+      piece-back plane (planeAt (d .format) bytes (outline header)) shownPlanes none next count k plane-sized l
       ∙ ap (convertFormat MonoBlack (d .format) width height (rowBytes width)) (source-is k)
 
   -- the bytes of plane k
   source-size : (k : ℕ) → k < count → length (planeIn width height body k) ≡ plane
-  source-size k l = length-take-le plane (drop (k * plane) body) (rw length-drop (omega (arith, up-to k l, whole)))
+  source-size k l = length-take-le plane (drop (k * plane) body) (rw length-drop (omega (arith, up-to plane k count l, whole)))
 
   source-bytes : Octets body → (k : ℕ) → k < count → Octets (planeIn width height body k)
   source-bytes o k l =
-      subst Octets (source-there plane plane body k (omega (arith, up-to k l, whole))) (bytes-source plane plane body k o)
+      subst Octets (source-there plane plane body k (omega (arith, up-to plane k count l, whole))) (bytes-source plane plane body k o)
 
   pub file-back : Octets body
       → ReadsBack ceiling d bytes width height fields count (planeIn width height body)
@@ -147,11 +127,11 @@ module _ (ceiling : ℕ) (d : Decoding) (strict : Bool) (width height : ℕ) (fi
   unfolding decoded shown
   file-back o =
       record {
-        image = imageOf (outline head) count;
+        image = imageOf (outline header) count;
         output = shownPlanes count;
         answer = λ room l.
             ap (λ (a : Answer Outline). bind a (λ h. fitted room h (framesIn ceiling (length bytes) h))) image-read
-            ∙ ap (fitted room (outline head)) frames-are
+            ∙ ap (fitted room (outline header)) frames-are
             ∙ if-true _ _ _ (le-leb (count * plane) room (omega (arith, output-size)));
         shows =
             ap (map (λ h. planes (d .format) bytes h (framesIn ceiling (length bytes) h))) image-read
@@ -161,7 +141,7 @@ module _ (ceiling : ℕ) (d : Decoding) (strict : Bool) (width height : ℕ) (fi
         framesAre = refl;
         writtenIs = sym output-size;
         fixIs = refl;
-        fieldsAre = ap (map (λ (h : Header). h .fields)) header-read;
+        fieldsAre = ap (map (λ (h : Header). h .fields)) read;
         size = output-size;
         planeIs = plane-shown;
         dots = λ k x y l.

@@ -3,7 +3,7 @@ use Prim.Native.Nat.{ℕ, zero, suc, _+_, _-_, _*_, _^_, _≤_, _<_}
 use mathlib.Core.Path.{_≡_, refl, ap, _∙_, subst}
 use mathlib.Core.Bool.{_||_}
 use mathlib.Core.List.{List, [], _∷_, _++_}
-use native.Mathlib.Nat.{mul-comm, mul-le-mul-right, div-mul-le-self}
+use native.Mathlib.Nat.{mul-comm, div-mul-le-self}
 use native.Mathlib.Omega.{arith}
 use borrow.Author.Tests.{ltb-false, leb-false}
 use lib.Dec.{ltb, leb, eqb}
@@ -31,7 +31,7 @@ use Rattle.decoder.proofs.Shaped.{bind-gives, unless}
 use Rattle.encoder.specs.File.{checkCount, fileOf}
 use Rattle.encoder.specs.Write.{checkPlanes, lentPlane, wirePlanes, fileOfPlanes}
 use Rattle.conformance.specs.ReadBack.{Taken, Admitted, planeIn, ReadsBack}
-use Rattle.conformance.proofs.Joined.{joined-length, piece-back}
+use Rattle.conformance.proofs.Joined.{up-to, joined-length, piece-back}
 use Rattle.conformance.proofs.Files.{filed, fitting, plain, Counted, counted}
 use Rattle.conformance.proofs.ReadBack.{file-back, renamed}
 
@@ -127,11 +127,7 @@ module _ (ceiling : ℕ) (o : EncodeOptions) (format : PixelFormat) (width heigh
   module _ (p : Passed) where
     -- plane k is lent whole
     lent-there : (k : ℕ) → k < count → k * neededBytes width height stride + neededBytes width height stride ≤ length planes
-    lent-there k l =
-        let n = neededBytes width height stride in
-        let m : suc k * n ≤ count * n = mul-le-mul-right n l in
-        let e : suc k * n ≡ k * n + n = omega arith in
-        omega (arith, p .enough)
+    lent-there k l = omega (arith, up-to (neededBytes width height stride) k count l, p .enough)
 
     pub lent-passes : (k : ℕ) → k < count → checkGeometry width height stride (length (lent format width height stride planes k)) ≡ gives tt
     lent-passes k l =
