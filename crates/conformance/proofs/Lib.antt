@@ -7,3 +7,6 @@ pub mod ReadBack
 pub mod Written
 pub mod WrittenCards
 pub mod SniffsExact
+pub mod ScanDots
+pub mod Made
+pub mod MadeCards

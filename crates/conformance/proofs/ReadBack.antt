@@ -2,7 +2,7 @@
 use Prim.Native.Nat.{ℕ, zero, suc, _+_, _-_, _*_, _/_, _≤_, _<_}
 use mathlib.Core.Path.{_≡_, refl, sym, ap, _∙_, subst}
 use mathlib.Core.Bool.{Bool}
-use mathlib.Core.List.{List, [], _++_}
+use mathlib.Core.List.{List, _++_}
 use native.Mathlib.Nat.{mul-le-mul-right, mul-div-cancel, mul-le-mul}
 use native.Mathlib.Omega.{arith}
 use borrow.Author.Tests.{le-leb, le-ltb}
@@ -25,7 +25,7 @@ use Rattle.decoder.specs.Body.{extraFrames, framesIn, sourcePlane, planeAt, pla
 use Rattle.decoder.specs.Image.{imageSettings, testBody, readImage}
 use Rattle.decoder.specs.Frames.{imageOf, fitted, decoded, shown}
 use Rattle.decoder.proofs.Counted.{few}
-use Rattle.decoder.proofs.Planed.{plane-length, planes-length}
+use Rattle.decoder.proofs.Planed.{planes-length}
 use Rattle.conformance.specs.ReadBack.{Admitted, planeIn, ReadsBack}
 use Rattle.conformance.proofs.Joined.{up-to, piece-back}
 use Rattle.conformance.proofs.Files.{Filed, head, header-read, behind, size-is, Counted}
@@ -92,25 +92,20 @@ module _ (ceiling : ℕ) (d : Decoding) (strict : Bool) (width height : ℕ) (fi
   abbrev shownPlanes : ℕ → List ℕ
   shownPlanes = planes (d .format) bytes (outline header)
 
-  plane-sized : (k : ℕ) → k < count → length (planeAt (d .format) bytes (outline header) k) ≡ plane
-  plane-sized k l = plane-length (d .format) bytes (outline header) k (omega (arith, up-to plane k count l, all-there))
+  long : (k : ℕ) → k ≤ count → length (shownPlanes k) ≡ k * plane
+  long k l =
+      let m : k * plane ≤ count * plane = mul-le-mul-right plane l in
+      planes-length (d .format) bytes (outline header) k (omega (arith, all-there))
 
-  none : shownPlanes 0 ≡ []
+  next : (k : ℕ) → k < count → shownPlanes (suc k) ≡ shownPlanes k ++ planeAt (d .format) bytes (outline header) k
   unfolding planes
-  none = refl
-
-  next : (k : ℕ) → shownPlanes (suc k) ≡ shownPlanes k ++ planeAt (d .format) bytes (outline header) k
-  unfolding planes
-  next k = refl
-
-  output-size : length (shownPlanes count) ≡ count * plane
-  output-size = planes-length (d .format) bytes (outline header) count (omega (arith, all-there))
+  next k l = refl
 
   plane-shown : (k : ℕ) → k < count
       → planeIn width height (shownPlanes count) k ≡ convertFormat MonoBlack (d .format) width height (rowBytes width) (planeIn width height body k)
   unfolding planeAt
   plane-shown k l =
-      piece-back plane (planeAt (d .format) bytes (outline header)) shownPlanes none next count k plane-sized l
+      piece-back plane count (planeAt (d .format) bytes (outline header)) shownPlanes long next count k (omega arith) l
       ∙ ap (convertFormat MonoBlack (d .format) width height (rowBytes width)) (source-is k)
 
   -- the bytes of plane k
@@ -132,17 +127,17 @@ module _ (ceiling : ℕ) (d : Decoding) (strict : Bool) (width height : ℕ) (fi
         answer = λ room l.
             ap (λ (a : Answer Outline). bind a (λ h. fitted room h (framesIn ceiling (length bytes) h))) image-read
             ∙ ap (fitted room (outline header)) frames-are
-            ∙ if-true _ _ _ (le-leb (count * plane) room (omega (arith, output-size)));
+            ∙ if-true _ _ _ (le-leb (count * plane) room (omega (arith, long count (omega arith))));
         shows =
             ap (map (λ h. planes (d .format) bytes h (framesIn ceiling (length bytes) h))) image-read
             ∙ ap (λ (n : ℕ). gives (shownPlanes n)) frames-are;
         widthIs = refl;
         heightIs = refl;
         framesAre = refl;
-        writtenIs = sym output-size;
+        writtenIs = sym (long count (omega arith));
         fixIs = refl;
         fieldsAre = ap (map (λ (h : Header). h .fields)) read;
-        size = output-size;
+        size = long count (omega arith);
         planeIs = plane-shown;
         dots = λ k x y l.
             ap (λ (s : List ℕ). isWhite (d .format) width height (rowBytes width) s x y) (plane-shown k l)

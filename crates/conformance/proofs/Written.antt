@@ -7,7 +7,7 @@ use native.Mathlib.Nat.{mul-comm, div-mul-le-self}
 use native.Mathlib.Omega.{arith}
 use borrow.Author.Tests.{ltb-false, leb-false}
 use lib.Dec.{ltb, leb, eqb}
-use lib.ListN.{length, getD, drop, set, length-drop}
+use lib.ListN.{length, getD, drop, set, length-append, length-drop}
 use lib.Seq.{length-take-le}
 use Rattle.error.specs.Answer.{gives}
 use Rattle.laws.proofs.Octets.{Octets, octets-nil, octets-cons, octets-append}
@@ -31,7 +31,7 @@ use Rattle.decoder.proofs.Shaped.{bind-gives, unless}
 use Rattle.encoder.specs.File.{checkCount, fileOf}
 use Rattle.encoder.specs.Write.{checkPlanes, lentPlane, wirePlanes, fileOfPlanes}
 use Rattle.conformance.specs.ReadBack.{Taken, Admitted, planeIn, ReadsBack}
-use Rattle.conformance.proofs.Joined.{up-to, joined-length, piece-back}
+use Rattle.conformance.proofs.Joined.{up-to, piece-back}
 use Rattle.conformance.proofs.Files.{filed, fitting, plain, Counted, counted}
 use Rattle.conformance.proofs.ReadBack.{file-back, renamed}
 
@@ -69,19 +69,17 @@ module _ (format : PixelFormat) (width height stride : ℕ) (planes : List ℕ) 
   wired-size : (k : ℕ) → length (wired k) ≡ planeBytes width height
   wired-size k = wire-length format width stride (lent k) height ∙ mul-comm height (rowBytes width)
 
-  pub body-none : body 0 ≡ []
+  pub body-size : (n : ℕ) → length (body n) ≡ n * planeBytes width height
   unfolding wirePlanes
-  body-none = refl
+  body-size zero = omega arith
+  body-size (suc n) = length-append (body n) (wired n) ∙ omega (arith, body-size n, wired-size n)
 
-  pub body-next : (k : ℕ) → body (suc k) ≡ body k ++ wired k
+  body-next : (k : ℕ) → body (suc k) ≡ body k ++ wired k
   unfolding wirePlanes
   body-next k = refl
 
-  pub body-size : (n : ℕ) → length (body n) ≡ n * planeBytes width height
-  body-size n = joined-length (planeBytes width height) wired body body-none body-next n (λ k l. wired-size k)
-
   pub body-plane : (n k : ℕ) → k < n → planeIn width height (body n) k ≡ wired k
-  body-plane n k = piece-back (planeBytes width height) wired body body-none body-next n k (λ k l. wired-size k)
+  body-plane n k = piece-back (planeBytes width height) n wired body (λ k l. body-size k) (λ k l. body-next k) n k (omega arith)
 
   pub octets-body : (n : ℕ) → ((k : ℕ) → k < n → Octets (lent k)) → Octets (body n)
   unfolding wirePlanes

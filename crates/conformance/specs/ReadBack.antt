@@ -1,8 +1,9 @@
 -- What it is for a file to be read back.
 use Prim.Native.Nat.{ℕ, _*_, _≤_, _<_}
 use mathlib.Core.Path.{_≡_}
-use mathlib.Core.Bool.{Bool, true, false}
+use mathlib.Core.Bool.{Bool, true, false, _&&_}
 use mathlib.Core.List.{List}
+use lib.Dec.{ltb}
 use lib.ListN.{length, take, drop}
 use Rattle.error.specs.Answer.{gives}
 use Rattle.ext.specs.Kinds.{Fields, none, bitfield, reserved, pairs}
@@ -13,6 +14,10 @@ use Rattle.image.specs.Geometry.{rowBytes, planeBytes}
 use Rattle.image.specs.Rows.{convertFormat}
 use Rattle.image.specs.declared.PixelFormat.the-variants.{MonoBlack}
 use Rattle.options.specs.Limits.{Decoding, admits}
+use Rattle.options.specs.declared.Quantize.{Quantize}
+use Rattle.quantize.specs.Rule.{dot}
+use Rattle.quantize.specs.Finished.{frame}
+use Rattle.quantize.specs.Engine.{meaning}
 use Rattle.decoder.specs.Image.{fieldsOf}
 use Rattle.decoder.specs.Frames.{Image, shown, decoded}
 
@@ -38,6 +43,13 @@ pub record Admitted (d : Decoding) (width height : ℕ) : Type 0 where
 -- plane k of those that stand end to end
 abbrev pub planeIn : ℕ → ℕ → List ℕ → ℕ → List ℕ
 planeIn width height planes k = take (planeBytes width height) (drop (k * planeBytes width height) planes)
+
+-- scan k of those that are lent, and the dot that the rule gives it at column x of row y: none outside the image
+abbrev pub lentScan : ℕ → ℕ → List ℕ → ℕ → List ℕ
+lentScan width height gray k = take (width * height) (drop (k * (width * height)) gray)
+
+abbrev pub scanWhite : Quantize → ℕ → ℕ → List ℕ → ℕ → ℕ → Bool
+scanWhite rule width height scan x y = ltb x width && ltb y height && dot (meaning rule) width (frame width height scan 0) x y
 
 -- Whole reading shows this size, these fields and so many frames. Plane k is `plane k` in the asked format, and its dot at column x of
 -- row y is white where `white k x y` says so.

@@ -20,7 +20,7 @@ pub bit-past : (w : ℕ) (d : ℕ → ℕ) (r c : ℕ) → w ≤ c → bitAt w d
 unfolding bitAt
 bit-past w d r c h = rw (le-ltb c w h)
 
-byte-at : (w : ℕ) (d : ℕ → ℕ) (q b : ℕ) → b < rowBytes w → byteAt w d (q * rowBytes w + b) ≡ digits (λ i. bitAt w d q (8 * b + i)) 8
+pub byte-at : (w : ℕ) (d : ℕ → ℕ) (q b : ℕ) → b < rowBytes w → byteAt w d (q * rowBytes w + b) ≡ digits (λ i. bitAt w d q (8 * b + i)) 8
 unfolding byteAt
 byte-at w d q b h = rw (div-at (rowBytes w) q b h, mod-at (rowBytes w) q b h)
 

@@ -1,0 +1,137 @@
+-- What is made is read back, and sniffing says exact of it without fields and with sizes up to 16,384.
+use Prim.Native.Nat.{ℕ, _-_, _*_, _≤_, _<_}
+use mathlib.Core.Path.{_≡_, ap, _∙_}
+use mathlib.Core.Bool.{true}
+use mathlib.Core.List.{List}
+use native.Mathlib.Nat.{mul-le-mul-right}
+use native.Mathlib.Omega.{arith}
+use borrow.Author.Tests.{ltb-false}
+use lib.Dec.{ltb}
+use lib.ListN.{length, drop, length-drop}
+use Rattle.error.specs.Answer.{gives}
+use Rattle.ext.specs.Kinds.{Fields, none}
+use Rattle.header.specs.Write.{presented}
+use Rattle.header.specs.declared.ExtPresence.{ExtPresence}
+use Rattle.header.specs.declared.ExtPresence.the-variants.{Absent}
+use Rattle.image.specs.Dots.{isWhite}
+use Rattle.image.specs.Geometry.{rowBytes, planeBytes}
+use Rattle.image.specs.declared.PixelFormat.the-variants.{MonoBlack}
+use Rattle.options.specs.Limits.{Decoding}
+use Rattle.options.specs.declared.EncodeOptions.{EncodeOptions}
+use Rattle.options.specs.declared.Quantize.{Quantize}
+use Rattle.quantize.specs.Engine.{meaning, roomy, setting}
+use Rattle.quantize.specs.Finished.{finished}
+use Rattle.quantize.specs.Whole.{knownRule}
+use Rattle.quantize.proofs.Joining.{scans-long, scans-more}
+use Rattle.quantize.proofs.Wholes.{plane-long}
+use Rattle.decoder.proofs.Shaped.{bind-gives, unless, when}
+use Rattle.encoder.specs.File.{checkCount, fileOf}
+use Rattle.encoder.specs.Make.{checkScans, scanBytes, fileOfScans}
+use Rattle.api.specs.Sniff.{isClear, sniffed}
+use Rattle.api.specs.declared.Sniffed.the-variants.{Exact}
+use Rattle.conformance.specs.ReadBack.{Taken, Admitted, planeIn, lentScan, scanWhite, ReadsBack}
+use Rattle.conformance.proofs.Joined.{up-to, piece-back}
+use Rattle.conformance.proofs.Files.{filed, fitting, plain, Counted, counted}
+use Rattle.conformance.proofs.ReadBack.{file-back, renamed}
+use Rattle.conformance.proofs.ScanDots.{finished-octets, finished-last, scan-dots}
+use Rattle.conformance.proofs.SniffsExact.{cleared, file-exact}
+
+-- the tests that a file's scans have passed
+module _ (ceiling : ℕ) (o : EncodeOptions) (width height count : ℕ) (gray text lengths : List ℕ) (work : ℕ) (bytes : List ℕ) where
+  pub record Passed : Type 0 where
+    pub isCounted : Counted ceiling count
+    pub enough : count * (width * height) ≤ length gray
+    pub file : fileOf o width height text lengths (scanBytes (o .quantize) width height gray count) ≡ gives bytes
+
+  tested : fileOf o width height text lengths (scanBytes (o .quantize) width height gray count) ≡ gives bytes
+      → checkScans ceiling (o .quantize) width height count (length gray) work ≡ gives tt → Passed
+  unfolding checkScans
+  tested e =
+      bind-gives (checkCount ceiling width height count) _ tt (λ _ q.
+      when (knownRule (o .quantize)) 29 0 _ tt (
+      when (roomy (meaning (o .quantize)) width work) 28 0 _ tt (
+      unless (ltb (length gray) (count * (width * height))) 22 0 _ tt (λ t _.
+      record {
+        isCounted = counted ceiling width height count q;
+        enough = ltb-false (length gray) (count * (width * height)) t;
+        file = e;
+      }))))
+
+  pub passed : fileOfScans ceiling o width height count gray text lengths work ≡ gives bytes → Passed
+  unfolding fileOfScans
+  passed = bind-gives (checkScans ceiling (o .quantize) width height count (length gray) work) _ bytes (λ _ p e. tested e p)
+
+-- the planes of so many scans
+module _ (rule : Quantize) (width height : ℕ) (gray : List ℕ) (wide : 0 < width) (high : 0 < height) (count : ℕ)
+    (enough : count * (width * height) ≤ length gray) where
+  abbrev body : ℕ → List ℕ
+  body = scanBytes rule width height gray
+
+  abbrev made : ℕ → List ℕ
+  made k = finished (setting rule width height 1) (lentScan width height gray k)
+
+  there : (k : ℕ) → k ≤ count → k * (width * height) ≤ length gray
+  there k l = let m : k * (width * height) ≤ count * (width * height) = mul-le-mul-right (width * height) l in omega arith
+
+  pub body-size : (k : ℕ) → k ≤ count → length (body k) ≡ k * planeBytes width height
+  body-size k l = scans-long rule width height gray wide high k (there k l)
+
+  pub body-plane : (k : ℕ) → k < count → planeIn width height (body count) k ≡ made k
+  body-plane k =
+      piece-back (planeBytes width height) count made body body-size (λ k l. scans-more rule width height gray wide high k (there k (omega arith)))
+      count k (omega arith)
+
+  pub made-size : (k : ℕ) → k < count → length (made k) ≡ height * rowBytes width
+  made-size k l =
+      plane-long rule width height wide high (drop (k * (width * height)) gray)
+      (rw length-drop (omega (arith, up-to (width * height) k count l)))
+
+  pub body-clear : (r : ℕ) → r < count * height → isClear width (body count) r ≡ true
+  body-clear r l =
+      let e : count * height * rowBytes width ≡ count * planeBytes width height = omega arith in
+      cleared width (body count) r _
+      (finished-last (setting rule width height count) _ r wide (omega (arith, up-to (rowBytes width) r (count * height) l, body-size count (omega arith))))
+
+-- Whole reading that takes the fields and admits the size shows the dots that the rule gives each scan.
+pub made-back : (ceiling : ℕ) (d : Decoding) (o : EncodeOptions) (width height count : ℕ) (gray text lengths : List ℕ) (work : ℕ) (bytes : List ℕ)
+    (fields : Fields) → width < 4294967296 → height < 4294967296
+    → presented (o .ext) text lengths ≡ gives fields → Taken (d .strict) fields → Admitted d width height
+    → fileOfScans ceiling o width height count gray text lengths work ≡ gives bytes
+    → ReadsBack ceiling d bytes width height fields count (λ k. finished (setting (o .quantize) width height 1) (lentScan width height gray k))
+    (λ k. scanWhite (o .quantize) width height (lentScan width height gray k))
+made-back ceiling d o width height count gray text lengths work bytes fields wb hb e t a w =
+    let p = passed ceiling o width height count gray text lengths work bytes w in
+    let rule = o .quantize in
+    let body = scanBytes rule width height gray count in
+    let f = filed o width height text lengths body bytes fields e (p .file) in
+    let planes = body-plane rule width height gray (f .wide) (f .high) count (p .enough) in
+    renamed planes
+    (λ k x y l.
+    ap (λ (s : List ℕ). isWhite MonoBlack width height (rowBytes width) s x y) (planes k l)
+    ∙ scan-dots rule width height (lentScan width height gray k) (made-size rule width height gray (f .wide) (f .high) count (p .enough) k l) x y)
+    (file-back ceiling d (o .strict) width height fields count body bytes f (p .isCounted) wb hb
+    (fitting (d .strict) (o .strict) (o .ext) text lengths fields e t) a
+    (body-size rule width height gray (f .wide) (f .high) count (p .enough) count (omega arith))
+    (finished-octets (setting rule width height count) _))
+
+-- What has no fields is read back strictly too.
+pub made-plain : (ceiling : ℕ) (d : Decoding) (o : EncodeOptions) (width height count : ℕ) (gray text lengths : List ℕ) (work : ℕ) (bytes : List ℕ)
+    → width < 4294967296 → height < 4294967296 → o .ext ≡ Absent → Admitted d width height
+    → fileOfScans ceiling o width height count gray text lengths work ≡ gives bytes
+    → ReadsBack ceiling d bytes width height none count (λ k. finished (setting (o .quantize) width height 1) (lentScan width height gray k))
+    (λ k. scanWhite (o .quantize) width height (lentScan width height gray k))
+made-plain ceiling d o width height count gray text lengths work bytes wb hb e a w =
+    made-back ceiling d o width height count gray text lengths work bytes none wb hb
+    (ap (λ (p : ExtPresence). presented p text lengths) e) (plain (d .strict)) a w
+
+pub made-exact : (o : EncodeOptions) (width height count : ℕ) (gray text lengths : List ℕ) (work : ℕ) (bytes : List ℕ)
+    → o .ext ≡ Absent → width ≤ 16384 → height ≤ 16384 → fileOfScans 16 o width height count gray text lengths work ≡ gives bytes
+    → sniffed bytes ≡ Exact
+made-exact o width height count gray text lengths work bytes e wb hb w =
+    let p = passed 16 o width height count gray text lengths work bytes w in
+    let rule = o .quantize in
+    let body = scanBytes rule width height gray count in
+    let f = filed o width height text lengths body bytes none (ap (λ (p : ExtPresence). presented p text lengths) e) (p .file) in
+    file-exact (o .strict) width height count body bytes f (p .isCounted) wb hb
+    (body-size rule width height gray (f .wide) (f .high) count (p .enough) count (omega arith))
+    (body-clear rule width height gray (f .wide) (f .high) count (p .enough))
