@@ -2,15 +2,15 @@
 use Prim.Native.Nat.{ℕ, _-_, _*_, _≤_, _<_}
 use mathlib.Core.Path.{_≡_, ap, _∙_}
 use mathlib.Core.Bool.{true}
-use mathlib.Core.List.{List}
+use mathlib.Core.List.{List, _++_}
 use native.Mathlib.Nat.{mul-le-mul-right}
 use native.Mathlib.Omega.{arith}
 use borrow.Author.Tests.{ltb-false}
 use lib.Dec.{ltb}
-use lib.ListN.{length, drop, length-drop}
+use lib.ListN.{length, take, drop, length-drop}
 use Rattle.error.specs.Answer.{gives}
 use Rattle.ext.specs.Kinds.{Fields, none}
-use Rattle.header.specs.Write.{presented}
+use Rattle.header.specs.Write.{presented, extHeader}
 use Rattle.header.specs.declared.ExtPresence.{ExtPresence}
 use Rattle.header.specs.declared.ExtPresence.the-variants.{Absent}
 use Rattle.image.specs.Dots.{isWhite}
@@ -91,6 +91,15 @@ module _ (rule : Quantize) (width height : ℕ) (gray : List ℕ) (wide : 0 < wi
       let e : count * height * rowBytes width ≡ count * planeBytes width height = omega arith in
       cleared width (body count) r _
       (finished-last (setting rule width height count) _ r wide (omega (arith, up-to (rowBytes width) r (count * height) l, body-size count (omega arith))))
+
+-- Making gives the header and the bytes that the samples of all scans finish.
+pub made-is : (ceiling : ℕ) (o : EncodeOptions) (width height count : ℕ) (gray text lengths : List ℕ) (work : ℕ) (header : List ℕ)
+    → checkScans ceiling (o .quantize) width height count (length gray) work ≡ gives tt
+    → extHeader (o .strict) width height (o .ext) text lengths ≡ gives header
+    → fileOfScans ceiling o width height count gray text lengths work
+    ≡ gives (header ++ finished (setting (o .quantize) width height count) (take (count * (width * height)) gray))
+unfolding fileOfScans
+made-is ceiling o width height count gray text lengths work header p e = rw (p, e)
 
 -- Whole reading that takes the fields and admits the size shows the dots that the rule gives each scan.
 pub made-back : (ceiling : ℕ) (d : Decoding) (o : EncodeOptions) (width height count : ℕ) (gray text lengths : List ℕ) (work : ℕ) (bytes : List ℕ)

@@ -2,7 +2,7 @@
 use Prim.Native.Nat.{ℕ}
 use mathlib.Core.Path.{_≡_, refl}
 use mathlib.Core.Bool.{Bool, true, false}
-use mathlib.Core.List.{List, [], _∷_}
+use mathlib.Core.List.{List, [], _∷_, _++_}
 use native.Mathlib.Omega.{arith}
 use Rattle.error.specs.Answer.{gives}
 use Rattle.mbi.specs.Bytes.{mbiBytes, groups}
@@ -23,7 +23,7 @@ use Rattle.encoder.specs.Make.{checkScans, fileOfScans}
 use Rattle.api.specs.Sniff.{sniffed}
 use Rattle.api.specs.declared.Sniffed.the-variants.{Exact}
 use Rattle.conformance.specs.ReadBack.{Admitted, lentScan, scanWhite, ReadsBack}
-use Rattle.conformance.proofs.Made.{made-back, made-plain, made-exact}
+use Rattle.conformance.proofs.Made.{made-is, made-back, made-plain, made-exact}
 
 abbrev scans : List ℕ
 scans = 127 ∷ 128 ∷ 128 ∷ 128 ∷ 255 ∷ []
@@ -41,6 +41,10 @@ fielded-made : fileOfScans 16 (maker (Present Bitfield00)) 2 1 2 scans (5 ∷ []
 unfolding fileOfScans checkScans lentFields fieldsBytes octetsBytes mbiBytes groups part value white residual valueFrom handed rowValue above valueAt dot begunBytes count frame dotOf bitAt byteAt
     finished upto appended
 fielded-made = refl
+
+by-parts : fileOfScans 16 (maker Absent) 2 1 2 scans [] [] 4 ≡ gives ((0x00 ∷ 0x00 ∷ 0x02 ∷ 0x01 ∷ []) ++ finished (setting Dither 2 1 2) (127 ∷ 128 ∷ 128 ∷ 128 ∷ []))
+unfolding checkScans fieldsBytes mbiBytes groups
+by-parts = made-is 16 (maker Absent) 2 1 2 scans [] [] 4 (0x00 ∷ 0x00 ∷ 0x02 ∷ 0x01 ∷ []) refl refl
 
 bare-made : fileOfScans 16 (maker Absent) 2 1 2 scans [] [] 4 ≡ gives bare
 unfolding fileOfScans checkScans fieldsBytes mbiBytes groups part value white residual valueFrom handed rowValue above valueAt dot begunBytes count frame dotOf bitAt byteAt finished upto appended

@@ -137,6 +137,7 @@ module _ (ceiling : ℕ) (d : Decoding) (strict : Bool) (width height : ℕ) (fi
         writtenIs = sym (long count (omega arith));
         fixIs = refl;
         fieldsAre = ap (map (λ (h : Header). h .fields)) read;
+        bodyIs = omega (arith, all-there, long count (omega arith));
         size = long count (omega arith);
         planeIs = plane-shown;
         dots = λ k x y l.
@@ -160,6 +161,7 @@ renamed {d = d} {width = width} {height = height} p w r =
       writtenIs = r .writtenIs;
       fixIs = r .fixIs;
       fieldsAre = r .fieldsAre;
+      bodyIs = r .bodyIs;
       size = r .size;
       planeIs = λ k l. r .planeIs k l ∙ ap (convertFormat MonoBlack (d .format) width height (rowBytes width)) (p k l);
       dots = λ k x y l. r .dots k x y l ∙ w k x y l;

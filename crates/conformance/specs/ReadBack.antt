@@ -1,5 +1,5 @@
 -- What it is for a file to be read back.
-use Prim.Native.Nat.{ℕ, _*_, _≤_, _<_}
+use Prim.Native.Nat.{ℕ, _+_, _*_, _≤_, _<_}
 use mathlib.Core.Path.{_≡_}
 use mathlib.Core.Bool.{Bool, true, false, _&&_}
 use mathlib.Core.List.{List}
@@ -51,7 +51,7 @@ lentScan width height gray k = take (width * height) (drop (k * (width * height)
 abbrev pub scanWhite : Quantize → ℕ → ℕ → List ℕ → ℕ → ℕ → Bool
 scanWhite rule width height scan x y = ltb x width && ltb y height && dot (meaning rule) width (frame width height scan 0) x y
 
--- Whole reading shows this size, these fields and so many frames. Plane k is `plane k` in the asked format, and its dot at column x of
+-- Whole reading shows this size, these fields and so many frames, and the body ends with the file. Plane k is `plane k` in the asked format, and its dot at column x of
 -- row y is white where `white k x y` says so.
 pub record ReadsBack (ceiling : ℕ) (d : Decoding) (bytes : List ℕ) (width height : ℕ) (fields : Fields) (count : ℕ) (plane : ℕ → List ℕ)
     (white : ℕ → ℕ → ℕ → Bool) : Type 0 where
@@ -65,6 +65,7 @@ pub record ReadsBack (ceiling : ℕ) (d : Decoding) (bytes : List ℕ) (width he
   pub writtenIs : image .written ≡ length output
   pub fixIs : image .fix ≡ fixByte fields
   pub fieldsAre : fieldsOf (d .strict) bytes ≡ gives fields
+  pub bodyIs : image .body + length output ≡ length bytes
   pub size : length output ≡ count * planeBytes width height
   pub planeIs : (k : ℕ) → k < count → planeIn width height output k ≡ convertFormat MonoBlack (d .format) width height (rowBytes width) (plane k)
   pub dots : (k x y : ℕ) → k < count → isWhite (d .format) width height (rowBytes width) (planeIn width height output k) x y ≡ white k x y

@@ -7,7 +7,7 @@ use native.Mathlib.Nat.{div-zero, mul-zero, div-mul-le-self, le-div-iff-mul-le, 
 use native.Mathlib.Omega.{arith}
 use borrow.Author.Tests.{leb-true}
 use lib.Dec.{leb}
-use lib.ListN.{length}
+use lib.ListN.{length, replicate}
 use Rattle.error.specs.Choice.{if}
 use Rattle.error.specs.Answer.{Answer, gives, refuses, bind, map}
 use Rattle.mbi.specs.Read.{readRest, readByte}
@@ -111,6 +111,18 @@ eight-read = refl
 main-image : (ρ : List ℕ) (room : ℕ) → decoded 1 defaults (eight ++ ρ) room ≡ decoded 1 defaults eight room
 unfolding eight
 main-image ρ room = past-ceiling eight ρ 1 defaults _ eight-read (omega arith) refl room .0
+
+-- sixteen frames of eight by one, and anything behind them
+sixteen : List ℕ
+sixteen = 0 ∷ 0 ∷ 8 ∷ 1 ∷ replicate 16 0xFF
+
+sixteen-read : readImage defaults sixteen ≡ gives (record { width = 8; height = 1; fix = 0; fields = absent; body = 4 })
+unfolding sixteen readImage testBody checkLimits readHeader readRest readByte readFields
+sixteen-read = refl
+
+after-sixteen : (ρ : List ℕ) (room : ℕ) → Unaffected sixteen ρ 16 defaults _ sixteen-read room
+unfolding sixteen
+after-sixteen ρ = past-ceiling sixteen ρ 16 defaults _ sixteen-read (omega arith) refl
 
 -- P6 and a byte that completes no second plane
 nine : List ℕ
