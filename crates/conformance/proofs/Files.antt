@@ -10,15 +10,16 @@ use lib.Dec.{leb, eqb}
 use lib.ListN.{length, drop, length-append}
 use lib.Seq.{drop-at}
 use Rattle.error.specs.Choice.{if}
-use Rattle.error.specs.Answer.{Answer, gives, refuses, map}
+use Rattle.error.specs.Answer.{Answer, gives, refuses}
 use Rattle.laws.proofs.Tests.{zero-one}
 use Rattle.mbi.specs.Bytes.{mbiBytes, groups}
 use Rattle.ext.specs.Kinds.{Fields, none, bitfield, reserved, pairs}
 use Rattle.ext.specs.Write.{fieldsBytes, lentFields, cutPairs, sum}
+use Rattle.ext.proofs.Answers.{map-gives}
 use Rattle.ext.specs.declared.ExtFieldType.the-variants.{Bitfield00, Reserved01, Reserved10, ParameterPairs11}
 use Rattle.header.specs.Settings.{Settings}
 use Rattle.header.specs.Read.{Header, readHeader}
-use Rattle.header.specs.Write.{fixByte, sizeBytes, headerBytes, fieldsHeader, presented}
+use Rattle.header.specs.Write.{fixByte, sizeBytes, headerBytes, fieldsHeader, presented, extHeader}
 use Rattle.header.specs.declared.ExtPresence.{ExtPresence}
 use Rattle.header.specs.declared.ExtPresence.the-variants.{Absent, Present}
 use Rattle.header.proofs.RoundTrip.{shown, Fitting, header-back}
@@ -36,26 +37,23 @@ pub record Filed (strict : Bool) (width height : ℕ) (fields : Fields) (body by
   pub fieldsGive : fieldsBytes strict fields ≡ gives fieldBytes
   pub bytesAre : bytes ≡ headerBytes (fixByte fields) fieldBytes width height ++ body
 
-pub map-gives : {A B P : Type 0} (f : A → B) (x : Answer A) (b : B) → ((a : A) → x ≡ gives a → f a ≡ b → P) → map f x ≡ gives b → P
-map-gives f (gives a) b g e = g a refl (cc)
-map-gives f (refuses code offset) b g e = zero-one (cc)
-
-module _ (o : EncodeOptions) (width height : ℕ) (text lengths body bytes : List ℕ) (fields : Fields) (lent : presented (o .ext) text lengths ≡ gives fields) where
-  pub filed : fileOf o width height text lengths body ≡ gives bytes → Filed (o .strict) width height fields body bytes
-  filed =
-      map-gives _ _ bytes (λ header e b.
-      unless (eqb width 0 || eqb height 0) 8 0 _ header (λ t.
-      let z = neither (eqb width 0) (eqb height 0) t in
-      bind-gives (presented (o .ext) text lengths) (fieldsHeader (o .strict) width height) header (λ f p.
-      let same : f ≡ fields = cc in
-      map-gives _ (fieldsBytes (o .strict) f) header (λ fb q r.
-      record {
-        fieldBytes = fb;
-        wide = positive width (z .0);
-        high = positive height (z .1);
-        fieldsGive = rw (← same) q;
-        bytesAre = cc;
-      }))) e)
+pub filed : (o : EncodeOptions) (width height : ℕ) (text lengths body bytes : List ℕ) (fields : Fields)
+    → presented (o .ext) text lengths ≡ gives fields → fileOf o width height text lengths body ≡ gives bytes
+    → Filed (o .strict) width height fields body bytes
+filed o width height text lengths body bytes fields lent e =
+    let m = map-gives (λ (header : List ℕ). header ++ body) (extHeader (o .strict) width height (o .ext) text lengths) bytes e in
+    unless (eqb width 0 || eqb height 0) 8 0 _ (m .0) (λ t.
+    let z = neither (eqb width 0) (eqb height 0) t in
+    bind-gives (presented (o .ext) text lengths) (fieldsHeader (o .strict) width height) (m .0) (λ f p q.
+    let same : f ≡ fields = cc in
+    let n = map-gives (λ (fb : List ℕ). headerBytes (fixByte f) fb width height) (fieldsBytes (o .strict) f) (m .0) q in
+    record {
+      fieldBytes = n .0;
+      wide = positive width (z .0);
+      high = positive height (z .1);
+      fieldsGive = rw (← same) (n .1);
+      bytesAre = sym (m .2) ∙ ap (λ (l : List ℕ). l ++ body) (sym (n .2)) ∙ ap (λ (g : Fields). headerBytes (fixByte g) (n .0) width height ++ body) same;
+    })) (m .1)
 
 -- the header is read, and the body stands behind it
 header-length : (fix : ℕ) (fields : List ℕ) (w h : ℕ)

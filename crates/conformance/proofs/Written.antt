@@ -56,18 +56,15 @@ octets-wire f w (suc h) s plane o =
     (octets-clear w (toNative f (sourceRow (rowBytes w) s plane h)) (bytes-native f _ (bytes-source (rowBytes w) s plane h o)))
 
 module _ (format : PixelFormat) (width height stride : ℕ) (planes : List ℕ) where
-  -- the planes of a file, as they are lent and as they are written
-  abbrev pub lent : ℕ → List ℕ
-  lent = lentPlane width height stride planes
-
-  abbrev pub wired : ℕ → List ℕ
-  wired k = wireBits format width height stride (lent k)
+  -- the planes as a file has them, each and end to end
+  abbrev wired : ℕ → List ℕ
+  wired k = wireBits format width height stride (lentPlane width height stride planes k)
 
   abbrev body : ℕ → List ℕ
   body = wirePlanes format width height stride planes
 
   wired-size : (k : ℕ) → length (wired k) ≡ planeBytes width height
-  wired-size k = wire-length format width stride (lent k) height ∙ mul-comm height (rowBytes width)
+  wired-size k = wire-length format width stride (lentPlane width height stride planes k) height ∙ mul-comm height (rowBytes width)
 
   pub body-size : (n : ℕ) → length (body n) ≡ n * planeBytes width height
   unfolding wirePlanes
@@ -81,11 +78,12 @@ module _ (format : PixelFormat) (width height stride : ℕ) (planes : List ℕ) 
   pub body-plane : (n k : ℕ) → k < n → planeIn width height (body n) k ≡ wired k
   body-plane n k = piece-back (planeBytes width height) n wired body (λ k l. body-size k) (λ k l. body-next k) n k (omega arith)
 
-  pub octets-body : (n : ℕ) → ((k : ℕ) → k < n → Octets (lent k)) → Octets (body n)
+  pub octets-body : (n : ℕ) → ((k : ℕ) → k < n → Octets (lentPlane width height stride planes k)) → Octets (body n)
   unfolding wirePlanes
   octets-body zero o = octets-nil
   octets-body (suc n) o =
-      octets-append (body n) (wired n) (octets-body n (λ k l. o k (omega arith))) (octets-wire format width height stride (lent n) (o n (omega arith)))
+      octets-append (body n) (wired n) (octets-body n (λ k l. o k (omega arith)))
+      (octets-wire format width height stride (lentPlane width height stride planes n) (o n (omega arith)))
 
 -- the tests that a file's planes have passed
 module _ (ceiling : ℕ) (o : EncodeOptions) (format : PixelFormat) (width height count stride : ℕ) (planes text lengths bytes : List ℕ) where
@@ -127,15 +125,15 @@ module _ (ceiling : ℕ) (o : EncodeOptions) (format : PixelFormat) (width heigh
     lent-there : (k : ℕ) → k < count → k * neededBytes width height stride + neededBytes width height stride ≤ length planes
     lent-there k l = omega (arith, up-to (neededBytes width height stride) k count l, p .enough)
 
-    pub lent-passes : (k : ℕ) → k < count → checkGeometry width height stride (length (lent format width height stride planes k)) ≡ gives tt
+    pub lent-passes : (k : ℕ) → k < count → checkGeometry width height stride (length (lentPlane width height stride planes k)) ≡ gives tt
     lent-passes k l =
         let n = neededBytes width height stride in
         let g = fits width height stride (length planes) (p .geometry) in
-        let e : length (lent format width height stride planes k) ≡ n =
+        let e : length (lentPlane width height stride planes k) ≡ n =
         length-take-le n (drop (k * n) planes) (rw length-drop (omega (arith, lent-there k l))) in
         accepted width height stride _ (g .wide) (g .high) (g .row) (p .small) (omega arith)
 
-    pub lent-octets : Octets planes → (k : ℕ) → k < count → Octets (lent format width height stride planes k)
+    pub lent-octets : Octets planes → (k : ℕ) → k < count → Octets (lentPlane width height stride planes k)
     lent-octets b k l =
         let n = neededBytes width height stride in
         subst Octets (source-there n n planes k (lent-there k l)) (bytes-source n n planes k b)
