@@ -11,7 +11,7 @@ use Rattle.image.specs.Geometry.{checkGeometry}
 use Rattle.image.specs.Rows.{clearPadding, convertRow, convertRows, convertFormat, wireRow, wireBits}
 use Rattle.image.specs.declared.PixelFormat.the-variants.{MonoBlack, MonoWhite}
 use Rattle.image.proofs.ConvertDots.{Converts, cleared, converted-twice, converted-dots}
-use Rattle.image.proofs.WireDots.{wire-dots, wire-padding}
+use Rattle.image.proofs.WireDots.{wire-dots, shown-dots, wire-padding}
 
 abbrev plane : List ℕ
 plane = 255 ∷ 129 ∷ 77 ∷ 0 ∷ 1 ∷ []
@@ -50,6 +50,10 @@ wired = refl
 
 wired-dot : isWhite MonoBlack 9 2 2 (wireBits MonoWhite 9 2 3 plane) 8 1 ≡ isWhite MonoWhite 9 2 3 plane 8 1
 wired-dot = wire-dots MonoWhite 9 2 3 plane passes bytes 8 1
+
+-- inverted wire bits of a native plane, taken to be MonoWhite
+shown-dot : isWhite MonoWhite 9 2 2 (wireBits MonoWhite 9 2 3 plane) 8 1 ≡ isWhite MonoBlack 9 2 3 plane 8 1
+shown-dot = shown-dots MonoWhite 9 2 3 plane passes bytes 8 1
 
 clear-bit : bitAt 2 (wireBits MonoWhite 9 2 3 plane) 15 1 ≡ 0
 clear-bit = wire-padding MonoWhite 9 2 3 plane 15 1 (omega arith) (omega arith) (omega arith)
