@@ -2,7 +2,7 @@
 -- Assumes nothing.
 use Prim.Native.Nat.{ℕ, zero, suc, _+_, _*_, _/_, _%_, _^_, _≤_, _<_}
 use mathlib.Core.Path.{_≡_, refl, sym, ap, _∙_, subst}
-use mathlib.Core.Logic.{⊎-elim}
+use mathlib.Core.Logic.{⊎-elim, inr}
 use mathlib.Core.List.{List, [], _∷_}
 use native.Mathlib.Nat.{div-eq-of-lt, div-add-mod', mod-lt, mul-le-mul, mul-le-mul-left, mul-suc, mul-comm, mul-assoc, pow-suc}
 use native.Mathlib.Numerals.{add-one}
@@ -92,6 +92,10 @@ cell-more side x y n q h p c l e = record { small = omega (arith, c .small, area
         let m : q ≡ quarter (x / 2 ^ k) (y / 2 ^ k) = subst (λ (s : ℕ). q ≡ quarter (x / s) (y / s)) f e in
         rw (← j, ← m)
 
+-- an example: the upper right number of side 2
+two-wide : Cell 2 1 0 2
+two-wide = cell-more 2 1 0 0 2 (λ e. omega arith) (omega arith) (cell-one 0 0) (omega arith) refl
+
 -- a number for a half of at most 4
 pub cell-small : (s x y n : ℕ) → s ≤ 4 → Cell s x y n → n < 16
 cell-small s x y n h c = omega (arith, c .small, mul-le-mul {n₁ = s} {m₁ = s} {n₂ = 4} {m₂ = 4} h h)
@@ -137,6 +141,10 @@ product-form s n g h =
     (λ l. lt-leb (bound s n) g (product-black s n g h l) ∙ sym (lt-leb (256 * n + 128) (g * (s * s)) l))
     (λ l. le-leb (bound s n) g (product-white s n g h l) ∙ sym (le-leb (256 * n + 128) (g * (s * s)) l))
     (lt-or-le (g * (s * s)) (256 * n + 128))
+
+-- an example: at the number 0 of side 8, gray 2 is white (P11)
+two-white : leb (bound 8 0) 2 ≡ leb (256 * 0 + 128) (2 * (8 * 8))
+two-white = product-form 8 0 2 (inr (inr refl))
 
 -- only the table's front is looked at
 pub cell-front : (s : ℕ) (t : List ℕ) (x y : ℕ) → 0 < s → cell s (take (s * s) t) x y ≡ cell s t x y
