@@ -13,7 +13,7 @@ use Rattle.error.specs.Answer.{Answer, gives, refuses, bind, map, isEnd}
 use Rattle.laws.proofs.Tests.{zero-one}
 use Rattle.ext.proofs.Prefix.{settled}
 use Rattle.header.specs.Read.{Header, Outline, outline, readHeader}
-use Rattle.header.proofs.Prefix.{header-prefix}
+use Rattle.header.proofs.Prefix.{bind-prefix, header-prefix}
 use Rattle.image.specs.Geometry.{rowBytes}
 use Rattle.image.specs.Rows.{convertFormat}
 use Rattle.image.specs.declared.PixelFormat.{PixelFormat}
@@ -23,11 +23,6 @@ use Rattle.decoder.specs.Body.{planeOf, framesIn, planeAt, planes}
 use Rattle.decoder.specs.Image.{imageSettings, headerOf, testBody, readImage}
 use Rattle.decoder.specs.Frames.{Image, fitted, decoded}
 use Rattle.decoder.proofs.Planed.{one-less}
-
-bind-kept : {A B : Type 0} (x x′ : Answer A) (k k′ : A → Answer B) → (settled x ≡ true → x′ ≡ x) → ((a : A) → settled (k a) ≡ true → k′ a ≡ k a)
-    → settled (bind x k) ≡ true → bind x′ k′ ≡ bind x k
-bind-kept (gives a) x′ k k′ p q e = ap (λ (y : Answer _). bind y k′) (p refl) ∙ q a e
-bind-kept (refuses code offset) x′ k k′ p q e = ap (λ (y : Answer _). bind y k′) (p e)
 
 outline-settled : (x : Answer Header) → settled (map outline x) ≡ settled x
 outline-settled (gives a) = refl
@@ -45,7 +40,7 @@ module _ (s ρ : List ℕ) where
   body-kept : (d : Decoding) (h : Outline) → settled (testBody d (length s) h) ≡ true → testBody d (length (s ++ ρ)) h ≡ testBody d (length s) h
   unfolding testBody
   body-kept d h =
-      bind-kept (checkLimits d (h .width) (h .height) (planeOf h) (h .body)) (checkLimits d (h .width) (h .height) (planeOf h) (h .body)) _ _
+      bind-prefix (checkLimits d (h .width) (h .height) (planeOf h) (h .body)) (checkLimits d (h .width) (h .height) (planeOf h) (h .body)) _ _
       (λ _. refl) (λ _. go (ltb (length s - h .body) (planeOf h)) refl)
     where
       go : (t : Bool) → ltb (length s - h .body) (planeOf h) ≡ t → settled {A = Outline} (if t (refuses 20 (h .body)) (gives h)) ≡ true
@@ -60,7 +55,7 @@ module _ (s ρ : List ℕ) where
   pub image-kept : (d : Decoding) → settled (readImage d s) ≡ true → readImage d (s ++ ρ) ≡ readImage d s
   unfolding readImage
   image-kept d =
-      bind-kept (headerOf (d .strict) s) (headerOf (d .strict) (s ++ ρ)) (testBody d (length s)) (testBody d (length (s ++ ρ)))
+      bind-prefix (headerOf (d .strict) s) (headerOf (d .strict) (s ++ ρ)) (testBody d (length s)) (testBody d (length (s ++ ρ)))
       (header-kept (d .strict)) (body-kept d)
 
   -- A refusal other than 1, 6, 9, 13, 20, 25 is kept when bytes follow.

@@ -19,7 +19,7 @@ use Rattle.header.specs.Settings.{Settings, extInner}
 use Rattle.header.specs.Read.{readHeader, readFix, readAfterFix}
 
 -- a part and what follows it
-bind-prefix : {A B : Type 0} (x x′ : Answer A) (k k′ : A → Answer B)
+pub bind-prefix : {A B : Type 0} (x x′ : Answer A) (k k′ : A → Answer B)
     → (settled x ≡ true → x′ ≡ x) → ((a : A) → settled (k a) ≡ true → k′ a ≡ k a)
     → settled (bind x k) ≡ true → bind x′ k′ ≡ bind x k
 bind-prefix (gives a) x′ k k′ p q e = ap (λ (y : Answer _). bind y k′) (p refl) ∙ q a e
