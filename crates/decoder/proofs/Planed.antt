@@ -1,64 +1,24 @@
 -- Planes end to end: their bytes, and the loop of `write_planes`.
 use Prim.Native.Nat.{ℕ, zero, suc, _+_, _-_, _*_, _≤_, _<_}
 use mathlib.Core.Path.{_≡_, refl, sym, ap, _∙_}
-use mathlib.Core.Bool.{Bool, true, false}
 use mathlib.Core.List.{List, _++_}
 use native.Mathlib.Nat.{mul-le-mul-right}
 use native.Mathlib.Numerals.{add-one}
 use native.Mathlib.Omega.{arith}
-use borrow.Author.Tests.{leb-true, leb-false}
 use borrow.Rule.Slice.PartMut.{midOf, putMid}
-use lib.Dec.{leb}
 use lib.ListN.{length, take, drop, length-append, length-drop}
-use lib.Seq.{sets, length-sets, length-take-le, take-all, take-at, drop-at}
+use lib.Seq.{sets, length-sets, length-take-le, take-all}
 use Rattle.laws.proofs.Runs.{sets-append, sets-front, sets-part}
 use Rattle.header.specs.Read.{Outline}
 use Rattle.image.specs.Geometry.{rowBytes}
-use Rattle.image.specs.Rows.{convertRow, convertRows, convertFormat}
+use Rattle.image.specs.Rows.{convertFormat}
 use Rattle.image.specs.declared.PixelFormat.{PixelFormat}
-use Rattle.image.specs.declared.PixelFormat.the-variants.{MonoBlack, MonoWhite}
-use Rattle.image.proofs.Converted.{row-length}
-use Rattle.image.proofs.Converting.{rows-next, rows-stop}
+use Rattle.image.specs.declared.PixelFormat.the-variants.{MonoBlack}
+use Rattle.image.proofs.Converted.{format-length}
 use Rattle.decoder.specs.Body.{planeOf, sourcePlane, planeAt, planes}
-
--- converting keeps the length
-rows-length : (w s n y : ℕ) (plane : List ℕ) → length (convertRows w s n y plane) ≡ length plane
-unfolding convertRows
-rows-length w s zero y plane = refl
-rows-length w s (suc n) y plane = go (leb (y * s + rowBytes w) (length plane)) refl (rows-length w s n (y + 1))
-  where
-    go : (t : Bool) → leb (y * s + rowBytes w) (length plane) ≡ t → ((p : List ℕ) → length (convertRows w s n (y + 1) p) ≡ length p)
-        → length (convertRows w s (suc n) y plane) ≡ length plane
-    go true e ih =
-        let h = leb-true (y * s + rowBytes w) (length plane) e in
-        ap length (rows-next w s plane y n h) ∙ ih (convertRow w s plane y) ∙ row-length w s plane y h
-    go false e ih = ap length (rows-stop w s plane y n (leb-false (y * s + rowBytes w) (length plane) e))
-
-pub format-length : (f : PixelFormat) (w h s : ℕ) (plane : List ℕ) → length (convertFormat MonoBlack f w h s plane) ≡ length plane
-unfolding convertFormat
-format-length MonoBlack w h s plane = refl
-format-length MonoWhite w h s plane = rows-length w s h 0 plane
 
 part-length : (n a : ℕ) (s : List ℕ) → a + n ≤ length s → length (take n (drop a s)) ≡ n
 part-length n a s b = length-take-le n (drop a s) (rw length-drop (omega arith))
-
--- what `write_plane` leaves: a copy at the front, then converted there
-module _ (plane out last : List ℕ) (copied : last ≡ plane) where
-  front-is : take (length plane) (last ++ drop (length plane) out) ≡ plane
-  front-is = ap (λ (l : List ℕ). take (length plane) (l ++ drop (length plane) out)) copied ∙ take-at plane (drop (length plane) out) (length plane) refl
-
-  pub front-length : length plane ≡ length (take (length plane) (last ++ drop (length plane) out))
-  front-length = sym (ap length front-is)
-
-  pub plane-written : (f : PixelFormat) (w h s : ℕ) (new : List ℕ) → s ≡ rowBytes w
-      → new ≡ convertFormat MonoBlack f w h s (take (length plane) (last ++ drop (length plane) out))
-      → new ++ drop (length plane) (last ++ drop (length plane) out) ≡ convertFormat MonoBlack f w h (rowBytes w) plane ++ drop (length plane) out
-  plane-written f w h s new p q =
-      let rest : drop (length plane) (last ++ drop (length plane) out) ≡ drop (length plane) out =
-      ap (λ (l : List ℕ). drop (length plane) (l ++ drop (length plane) out)) copied ∙ drop-at plane (drop (length plane) out) (length plane) refl in
-      ap (λ (l : List ℕ). new ++ l) rest
-      ∙ ap (λ (l : List ℕ). l ++ drop (length plane) out)
-      (q ∙ ap (convertFormat MonoBlack f w h s) front-is ∙ ap (λ (k : ℕ). convertFormat MonoBlack f w h k plane) p)
 
 -- the stretch that is lent has room for a plane
 pub lent-room : (from plane to : ℕ) (bytes out : List ℕ) → from + plane ≤ length bytes → to + plane ≤ length out
@@ -79,7 +39,7 @@ module _ (f : PixelFormat) (bytes : List ℕ) (h : Outline) where
   pub plane-length : (k : ℕ) → h .body + k * planeOf h + planeOf h ≤ length bytes → length (planeAt f bytes h k) ≡ planeOf h
   unfolding planeAt
   plane-length k b =
-      format-length f (h .width) (h .height) (rowBytes (h .width)) (sourcePlane bytes h k)
+      format-length MonoBlack f (h .width) (h .height) (rowBytes (h .width)) (sourcePlane bytes h k)
       ∙ part-length (planeOf h) (h .body + k * planeOf h) bytes b
 
   pub planes-length : (k : ℕ) → h .body + k * planeOf h ≤ length bytes → length (planes f bytes h k) ≡ k * planeOf h

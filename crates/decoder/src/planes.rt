@@ -11,33 +11,12 @@ ghost use Rattle.image.specs.Geometry.{rowBytes};
 ghost use Rattle.image.specs.Rows.{convertFormat};
 ghost use Rattle.decoder.specs.Body.{planeOf, planes};
 
-fn copy(from: &[u8], to: &mut [u8])
-    requires { ⌜ length (now from) ≡ length (now to) ⌝ }
-    ensures { λ r. ⌜ now (to .exit) ≡ now (from .entry) ⌝ }
-{
-    let mut i: usize = 0;
-    while i < to.len() {
-        to[i] = from[i];
-        i += 1;
-    }
-}
-
 // A plane as the file has it, in the asked format, at the front of the lent output.
 fn write_plane(plane: &[u8], width: u32, height: u32, format: PixelFormat, out: &mut [u8])
     requires { ⌜ length (now plane) ≤ length (now out) ⌝ }
     ensures { λ r. ⌜ now (out .exit) ≡ convertFormat PixelFormat.MonoBlack format width height (rowBytes width) (now (plane .entry)) ++ drop (length (now (plane .entry))) (now (out .entry)) ⌝ }
 {
-    let n = plane.len();
-    copy(plane, &mut out[..n]);
-    let stride = image::row_stride(width);
-    image::convert_format(
-        &mut out[..n],
-        width,
-        height,
-        stride,
-        PixelFormat::MonoBlack,
-        format,
-    );
+    image::into_format(plane, width, height, PixelFormat::MonoBlack, format, out);
 }
 
 // The first `frames` planes, each in its own stretch of the lent output.

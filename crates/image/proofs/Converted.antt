@@ -6,15 +6,17 @@ use mathlib.Core.List.{List, _++_}
 use mathlib.Core.Logic.{_⊎_, inl, inr}
 use native.Mathlib.Nat.{mul-le-mul-right}
 use native.Mathlib.Omega.{arith}
-use borrow.Author.Tests.{eqb-true, eqb-false}
+use borrow.Author.Tests.{eqb-true, eqb-false, leb-true, leb-false}
 use lib.Arith.{lt-of-le-ne}
-use lib.Dec.{eqb}
+use lib.Dec.{eqb, leb}
 use lib.ListN.{length, getD, take, drop, length-append, length-drop, length-set, List·getD-append}
 use lib.Seq.{length-take-le, getD-append-add, getD-take, getD-drop}
 use Rattle.image.specs.Geometry.{rowBytes}
-use Rattle.image.specs.Rows.{clearLow, clearPadding, invert, rowAt, convertRow, convertRows}
+use Rattle.image.specs.Rows.{clearLow, clearPadding, invert, rowAt, convertRow, convertRows, convertFormat}
+use Rattle.image.specs.declared.PixelFormat.{PixelFormat}
+use Rattle.image.specs.declared.PixelFormat.the-variants.{MonoBlack, MonoWhite}
 use Rattle.image.proofs.Cleared.{paddingAt, cleared-at}
-use Rattle.image.proofs.Converting.{rows-next}
+use Rattle.image.proofs.Converting.{rows-next, rows-stop}
 use Rattle.image.proofs.Inverted.{invert-length, invert-at}
 
 -- an index that is not in row y
@@ -132,3 +134,23 @@ module _ (w s : ℕ) where
     rows-inside zero y plane all z a b = let f : ⊥ = omega arith in absurd f
     rows-inside (suc n) y plane all z a b =
         by-row n y plane all z a b (eqb y z) refl (λ p there l. rows-inside n (y + 1) p there z l (omega arith))
+
+-- converting keeps the length, whatever is there
+kept-length : (w s n y : ℕ) (plane : List ℕ) → length (convertRows w s n y plane) ≡ length plane
+unfolding convertRows
+kept-length w s zero y plane = refl
+kept-length w s (suc n) y plane = go (leb (y * s + rowBytes w) (length plane)) refl (kept-length w s n (y + 1))
+  where
+    go : (t : Bool) → leb (y * s + rowBytes w) (length plane) ≡ t → ((p : List ℕ) → length (convertRows w s n (y + 1) p) ≡ length p)
+        → length (convertRows w s (suc n) y plane) ≡ length plane
+    go true e ih =
+        let h = leb-true (y * s + rowBytes w) (length plane) e in
+        ap length (rows-next w s plane y n h) ∙ ih (convertRow w s plane y) ∙ row-length w s plane y h
+    go false e ih = ap length (rows-stop w s plane y n (leb-false (y * s + rowBytes w) (length plane) e))
+
+pub format-length : (f g : PixelFormat) (w h s : ℕ) (plane : List ℕ) → length (convertFormat f g w h s plane) ≡ length plane
+unfolding convertFormat
+format-length MonoBlack MonoBlack w h s plane = refl
+format-length MonoBlack MonoWhite w h s plane = kept-length w s h 0 plane
+format-length MonoWhite MonoBlack w h s plane = kept-length w s h 0 plane
+format-length MonoWhite MonoWhite w h s plane = refl

@@ -13,4 +13,5 @@ pub mod Cleared
 pub mod WireDots
 pub mod Converted
 pub mod ConvertDots
+pub mod AtOnce
 pub mod Examples

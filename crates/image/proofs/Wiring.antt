@@ -12,7 +12,7 @@ use lib.ListN.{length, drop, length-set, replicate, length-append, length-replic
 use lib.Seq.{take-at, drop-drop, drop-append-add, length-take-le}
 use Rattle.error.specs.Choice.{if}
 use Rattle.laws.proofs.Octets.{Octets}
-use Rattle.image.specs.Geometry.{rowBytes, paddingMask, layoutOf}
+use Rattle.image.specs.Geometry.{rowBytes, planeBytes, paddingMask, layoutOf}
 use Rattle.image.specs.Parts.{maskLast}
 use Rattle.image.specs.Rows.{clearPadding, rowAt, isPresent, sourceRow, toNative, wireRow, wireBits}
 use Rattle.image.specs.declared.PixelFormat.{PixelFormat}
@@ -62,10 +62,9 @@ pub record Wiring (plane : List ℕ) (w h s : ℕ) (f : PixelFormat) (out₀ : L
   pub now-is : out ≡ wireBits f w y s plane ++ drop at out₀
 
 pub begun : (plane : List ℕ) (w h s : ℕ) (f : PixelFormat) (out : List ℕ) (l : PlaneLayout) → l ≡ layoutOf w h
-    → l .«total_bytes» ≤ length out → Wiring plane w h s f out (l .stride) (l .«last_byte_pad_mask») out 0 0
+    → planeBytes w h ≤ length out → Wiring plane w h s f out (l .stride) (l .«last_byte_pad_mask») out 0 0
 unfolding wireBits
 begun plane w h s f out l e k =
-    let t : l .«total_bytes» ≡ rowBytes w * h = ap (λ (l : PlaneLayout). l .«total_bytes») e in
     let m = mul-comm (rowBytes w) h in
     record {
       row-is = ap (λ (l : PlaneLayout). l .stride) e;
@@ -117,8 +116,8 @@ module _ {plane : List ℕ} {w h s : ℕ} {f : PixelFormat} {out₀ : List ℕ} 
             (sym (append-assoc (wireBits f w y s plane) (wireRow f w s plane y) (drop (at + row) out₀)));
       }
 
-  pub ended : h ≤ y → out ≡ wireBits f w h s plane ++ drop (length (wireBits f w h s plane)) out₀
+  pub ended : h ≤ y → out ≡ wireBits f w h s plane ++ drop (planeBytes w h) out₀
   ended k =
       let e : y ≡ h = omega (arith, c .turn) in
-      let n : at ≡ length (wireBits f w h s plane) = c .place ∙ ap (λ (k : ℕ). k * rowBytes w) e ∙ sym (wire-length f w s plane h) in
+      let n : at ≡ planeBytes w h = c .place ∙ ap (λ (k : ℕ). k * rowBytes w) e ∙ mul-comm h (rowBytes w) in
       c .now-is ∙ ap (λ (k : ℕ). wireBits f w k s plane ++ drop at out₀) e ∙ ap (λ (k : ℕ). wireBits f w h s plane ++ drop k out₀) n

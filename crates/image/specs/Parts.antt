@@ -1,10 +1,12 @@
 -- What the private functions give.
-use Prim.Native.Nat.{ℕ, _+_, _-_, _*_}
+use Prim.Native.Nat.{ℕ, zero, suc, _+_, _-_, _*_}
 use mathlib.Core.List.{List}
 use lib.Bits.{bitAnd}
 use lib.Dec.{leb}
 use lib.ListN.{length, getD, set}
 use Rattle.error.specs.Choice.{if}
+use Rattle.image.specs.Geometry.{rowBytes, paddingBits}
+use Rattle.image.specs.Rows.{clearLow}
 use Rattle.image.specs.declared.RowStart.{RowStart}
 use Rattle.image.specs.declared.RowStart.the-variants.{At, Missing}
 
@@ -15,3 +17,10 @@ rowStart bytes stride y count = if (leb (y * stride + count) bytes) (At (y * str
 -- a row whose last byte is masked
 abbrev pub maskLast : ℕ → List ℕ → List ℕ
 maskLast mask row = set row (length row - 1) (bitAnd (getD row (length row - 1) 0) mask)
+
+-- a plane without gaps whose first rows have their padding cleared
+unfoldable pub clearRows : ℕ → ℕ → List ℕ → List ℕ
+clearRows width zero plane = plane
+clearRows width (suc y) plane =
+    let last = y * rowBytes width + (rowBytes width - 1) in
+    set (clearRows width y plane) last (clearLow (paddingBits width) (getD (clearRows width y plane) last 0))

@@ -3,17 +3,58 @@ use crate::PixelFormat;
 use crate::PlaneLayout;
 use crate::RowStart;
 use crate::geometry::row_start;
+use crate::packed::clear_rows;
+use crate::rows::copy;
 use crate::rows::invert;
+use crate::rows::invert_from;
 use crate::rows::mask_last;
+use error::OUTPUT_TOO_SHORT;
+use error::WbmpError;
+use error::Written;
 ghost use mathlib.Core.Path.{_≡_};
-ghost use Rattle.image.specs.Parts.{maskLast};
-ghost use Rattle.image.specs.Rows.{convertFormat, invert};
+ghost use lib.ListN.{length};
+ghost use Rattle.error.specs.Answer.{gives, written};
+ghost use Rattle.error.specs.Emits.{Emits};
+ghost use Rattle.image.specs.Geometry.{rowBytes, planeBytes, paddingMask};
+ghost use Rattle.image.specs.Parts.{maskLast, clearRows};
+ghost use Rattle.image.specs.Rows.{convertFormat, convertRows, invert};
 
 fn invert_row(row: &mut [u8], mask: u8)
     ensures { λ r. ⌜ now (row .exit) ≡ maskLast mask (invert (now (row .entry))) ⌝ }
 {
     invert(row);
     mask_last(row, mask);
+}
+
+// Rows from the top, each at its own place, up to the first that is not wholly there.
+fn convert_rows(plane: &mut [u8], width: u32, height: u32, stride: usize)
+    ensures { λ r. ⌜ now (plane .exit) ≡ convertRows width stride height 0 (now (plane .entry)) ⌝ }
+{
+    let layout = PlaneLayout::new(width, height);
+    let row = layout.stride;
+    let mask = layout.last_byte_pad_mask;
+    let mut y: u32 = 0;
+    while y < height {
+        match row_start(plane.len(), stride, y as usize, row) {
+            RowStart::At(at) => {
+                let end = at + row;
+                invert_row(&mut plane[at..end], mask);
+            }
+            RowStart::Missing => {
+                return;
+            }
+        }
+        y += 1;
+    }
+}
+
+// All rows of a plane without gaps at once.
+fn convert_packed(plane: &mut [u8], width: u32, height: u32)
+    requires { ⌜ length (now plane) ≡ planeBytes width height ⌝ }
+    ensures { λ r. ⌜ now (plane .exit) ≡ clearRows width height (invert (now (plane .entry))) ⌝ }
+{
+    invert(plane);
+    clear_rows(plane, width, height);
 }
 
 // Rows are converted from the top, up to the first that is not wholly there; nothing is changed where the format stays the same.
@@ -31,19 +72,61 @@ pub fn convert_format(
         return;
     }
     let layout = PlaneLayout::new(width, height);
-    let row = layout.stride;
-    let mask = layout.last_byte_pad_mask;
-    let mut y: u32 = 0;
-    while y < height {
-        match row_start(plane.len(), stride, y as usize, row) {
-            RowStart::At(at) => {
-                let end = at + row;
-                invert_row(&mut plane[at..end], mask);
-            }
-            RowStart::Missing => {
-                return;
-            }
+    let total = layout.total_bytes;
+    if stride == layout.stride {
+        if total <= plane.len() {
+            convert_packed(&mut plane[..total], width, height);
+            return;
         }
-        y += 1;
     }
+    convert_rows(plane, width, height, stride);
+}
+
+// A plane without gaps, written to another place of as many bytes.
+fn convert_from(
+    plane: &[u8],
+    width: u32,
+    height: u32,
+    from: PixelFormat,
+    to: PixelFormat,
+    out: &mut [u8],
+)
+    requires { ⌜ length (now plane) ≡ length (now out) ⌝ }
+    ensures { λ r. ⌜ now (out .exit) ≡ convertFormat from to width height (rowBytes width) (now (plane .entry)) ⌝ }
+{
+    let layout = PlaneLayout::new(width, height);
+    let row = layout.stride;
+    if to.white_bit() == from.white_bit() {
+        copy(plane, out);
+        return;
+    }
+    if plane.len() == layout.total_bytes {
+        invert_from(plane, out);
+        clear_rows(out, width, height);
+        return;
+    }
+    copy(plane, out);
+    convert_rows(out, width, height, row);
+}
+
+// A plane without gaps in another format, at the front of the lent output; nothing is written where it does not fit.
+pub fn into_format(
+    plane: &[u8],
+    width: u32,
+    height: u32,
+    from: PixelFormat,
+    to: PixelFormat,
+    out: &mut [u8],
+) -> Written
+    ensures { λ r. ⌜ Emits (gives (convertFormat from to width height (rowBytes width) (now (plane .entry)))) (written r) (now (out .entry)) (now (out .exit)) ⌝ }
+{
+    let n = plane.len();
+    if out.len() < n {
+        return Written::Refused(WbmpError {
+            code: OUTPUT_TOO_SHORT,
+            offset: 0,
+        });
+    }
+    convert_from(plane, width, height, from, to, &mut out[..n]);
+    Written::Bytes(n)
 }

@@ -6,10 +6,12 @@ ghost use Rattle.image.specs.Geometry.{layoutOf};
 mod convert;
 mod dots;
 mod geometry;
+mod packed;
 mod rows;
 mod wire;
 
 pub use convert::convert_format;
+pub use convert::into_format;
 pub use dots::is_white;
 pub use geometry::check_geometry;
 pub use geometry::row_stride;

@@ -1,4 +1,4 @@
-// Work on the bytes of one row.
+// Work on bytes: those of a row, or of many.
 ghost use mathlib.Core.Path.{_≡_};
 ghost use lib.ListN.{length, replicate};
 ghost use Rattle.image.specs.Parts.{maskLast};
@@ -10,6 +10,30 @@ pub(crate) fn zero(row: &mut [u8])
     let mut i: usize = 0;
     while i < row.len() {
         row[i] = 0;
+        i += 1;
+    }
+}
+
+// The bytes of another list.
+pub(crate) fn copy(from: &[u8], to: &mut [u8])
+    requires { ⌜ length (now from) ≡ length (now to) ⌝ }
+    ensures { λ r. ⌜ now (to .exit) ≡ now (from .entry) ⌝ }
+{
+    let mut i: usize = 0;
+    while i < to.len() {
+        to[i] = from[i];
+        i += 1;
+    }
+}
+
+// The inverted bytes of another list.
+pub(crate) fn invert_from(from: &[u8], to: &mut [u8])
+    requires { ⌜ length (now from) ≡ length (now to) ⌝ }
+    ensures { λ r. ⌜ now (to .exit) ≡ invert (now (from .entry)) ⌝ }
+{
+    let mut i: usize = 0;
+    while i < to.len() {
+        to[i] = 255 - from[i];
         i += 1;
     }
 }

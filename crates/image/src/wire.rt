@@ -3,29 +3,24 @@ use crate::PixelFormat;
 use crate::PlaneLayout;
 use crate::RowStart;
 use crate::geometry::row_start;
+use crate::packed::clear_rows;
+use crate::rows::copy;
 use crate::rows::invert;
+use crate::rows::invert_from;
 use crate::rows::mask_last;
 use crate::rows::zero;
 use error::OUTPUT_TOO_SHORT;
 use error::WbmpError;
 use error::Written;
 ghost use mathlib.Core.Path.{_≡_};
-ghost use lib.ListN.{length};
+ghost use mathlib.Core.List.{_++_};
+ghost use Prim.Native.Nat.{_≤_};
+ghost use lib.ListN.{length, drop};
 ghost use Rattle.error.specs.Answer.{gives, written};
 ghost use Rattle.error.specs.Emits.{Emits};
-ghost use Rattle.image.specs.Parts.{maskLast};
+ghost use Rattle.image.specs.Geometry.{planeBytes};
+ghost use Rattle.image.specs.Parts.{maskLast, clearRows};
 ghost use Rattle.image.specs.Rows.{sourceRow, toNative, wireBits};
-
-fn copy(from: &[u8], to: &mut [u8])
-    requires { ⌜ length (now from) ≡ length (now to) ⌝ }
-    ensures { λ r. ⌜ now (to .exit) ≡ now (from .entry) ⌝ }
-{
-    let mut i: usize = 0;
-    while i < to.len() {
-        to[i] = from[i];
-        i += 1;
-    }
-}
 
 // Row y of a plane, or zeros where it is not wholly there.
 fn take_row(plane: &[u8], stride: usize, y: usize, row: &mut [u8])
@@ -62,6 +57,55 @@ fn wire_row(plane: &[u8], stride: usize, y: usize, format: PixelFormat, mask: u8
     mask_last(row, mask);
 }
 
+// So many rows of a plane, each from its own place.
+fn wire_rows(
+    plane: &[u8],
+    width: u32,
+    height: u32,
+    stride: usize,
+    format: PixelFormat,
+    out: &mut [u8],
+)
+    requires { ⌜ planeBytes width height ≤ length (now out) ⌝ }
+    ensures { λ r. ⌜ now (out .exit) ≡ wireBits format width height stride (now (plane .entry)) ++ drop (planeBytes width height) (now (out .entry)) ⌝ }
+{
+    let layout = PlaneLayout::new(width, height);
+    let row = layout.stride;
+    let mask = layout.last_byte_pad_mask;
+    let mut at: usize = 0;
+    let mut y: u32 = 0;
+    while y < height {
+        let end = at + row;
+        wire_row(plane, stride, y as usize, format, mask, &mut out[at..end]);
+        at = end;
+        y += 1;
+    }
+}
+
+// The bytes of a plane, in the native format.
+fn native_from(format: PixelFormat, from: &[u8], to: &mut [u8])
+    requires { ⌜ length (now from) ≡ length (now to) ⌝ }
+    ensures { λ r. ⌜ now (to .exit) ≡ toNative format (now (from .entry)) ⌝ }
+{
+    match format {
+        PixelFormat::MonoBlack => {
+            copy(from, to);
+        }
+        PixelFormat::MonoWhite => {
+            invert_from(from, to);
+        }
+    }
+}
+
+// All rows of a plane without gaps at once.
+fn wire_packed(plane: &[u8], width: u32, height: u32, format: PixelFormat, out: &mut [u8])
+    requires { ⌜ (length (now plane) ≡ planeBytes width height) × (length (now out) ≡ planeBytes width height) ⌝ }
+    ensures { λ r. ⌜ now (out .exit) ≡ clearRows width height (toNative format (now (plane .entry))) ⌝ }
+{
+    native_from(format, plane, out);
+    clear_rows(out, width, height);
+}
+
 // Rows end to end without gaps, 1 for white and padding 0; nothing is written where they do not fit.
 pub fn wire_bits(
     plane: &[u8],
@@ -75,7 +119,6 @@ pub fn wire_bits(
 {
     let layout = PlaneLayout::new(width, height);
     let row = layout.stride;
-    let mask = layout.last_byte_pad_mask;
     let total = layout.total_bytes;
     if out.len() < total {
         return Written::Refused(WbmpError {
@@ -83,13 +126,12 @@ pub fn wire_bits(
             offset: 0,
         });
     }
-    let mut at: usize = 0;
-    let mut y: u32 = 0;
-    while y < height {
-        let end = at + row;
-        wire_row(plane, stride, y as usize, format, mask, &mut out[at..end]);
-        at = end;
-        y += 1;
+    if stride == row {
+        if total <= plane.len() {
+            wire_packed(&plane[..total], width, height, format, &mut out[..total]);
+            return Written::Bytes(total);
+        }
     }
+    wire_rows(plane, width, height, stride, format, out);
     Written::Bytes(total)
 }

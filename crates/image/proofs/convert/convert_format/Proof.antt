@@ -1,38 +1,22 @@
-use Prim.Native.Nat.{_-_}
-use mathlib.Core.Path.{_≡_, sym, _∙_}
+use Prim.Native.Nat.{ℕ}
+use mathlib.Core.Path.{_≡_, ap, sym, _∙_}
+use mathlib.Core.List.{List, _++_}
 use native.Mathlib.Omega.{arith}
-use borrow.Author.Needs.{needs}
 use denote.Ref.{now}
-use lib.ListN.{length}
-use Rattle.image.specs.Rows.{convertRows, convertFormat}
-use Rattle.image.proofs.Converting.{Converting, begun, converted, stopped, ended, unchanged, changed}
-use Rattle.image.proofs.Starts.{Started, started, missed}
+use lib.ListN.{length, take, drop}
+use lib.Seq.{length-take-le}
+use Rattle.image.specs.Geometry.{planeBytes}
+use Rattle.image.specs.Parts.{clearRows}
+use Rattle.image.specs.Rows.{invert, convertRows, convertFormat}
+use Rattle.image.specs.declared.PlaneLayout.{PlaneLayout}
+use Rattle.image.proofs.AtOnce.{converts-at-once}
+use Rattle.image.proofs.Converting.{unchanged, changed}
+use borrow.Author.Needs.{needs}
 use Rattle.image.proofs.convert.convert_format.Statement.{statement}
 use Rattle.image.proofs.convert.convert_format.Tie as tie
 
-abbrev Inv-loop : tie.InvT-loop
-Inv-loop plane₀ width height stride row mask y₀ plane y = Converting plane₀ width height stride row mask plane y
-
-abbrev μ-loop : tie.MeasureT-loop
-μ-loop plane₀ width height stride row mask y₀ plane y = height - y
-
-white-bit-requires : tie.Need-white-bit-requires Inv-loop μ-loop
-white-bit-requires c κs = search needs
-
-white-bit-requires-2 : tie.Need-white-bit-requires-2 Inv-loop μ-loop
-white-bit-requires-2 c κs = search needs
-
-returns : tie.Need-returns Inv-loop μ-loop
-returns c =
-    let a = c .before .before .before .before .args in
-    unchanged (a .from) (a .to) (a .width) (a .height) (a .stride) (now (a .plane))
-    (sym (c .before .before .white-bit .ensures) ∙ c .if1 .taken ∙ c .before .white-bit2 .ensures)
-
-new-requires : tie.Need-new-requires Inv-loop μ-loop
-new-requires c κs = search needs
-
 -- the formats differ
-other : (c : tie.After-new Inv-loop μ-loop)
+other : (c : tie.After-new)
     → let a = c .before .before .before .before .before .args in
     convertRows (a .width) (a .stride) (a .height) 0 (now (a .plane)) ≡ convertFormat (a .from) (a .to) (a .width) (a .height) (a .stride) (now (a .plane))
 other c =
@@ -40,95 +24,79 @@ other c =
     changed (a .from) (a .to) (a .width) (a .height) (a .stride) (now (a .plane))
     (λ e. c .before .if1 .left (c .before .before .before .white-bit .ensures ∙ e ∙ sym (c .before .before .white-bit2 .ensures)))
 
-loop-holds : tie.Need-loop-holds Inv-loop μ-loop
-loop-holds c =
-    let a = c .before .before .before .before .before .args in
-    begun (now (a .plane)) (a .width) (a .height) (a .stride) (c .new .result) (c .new .ensures)
+total-is : (c : tie.After-new) → let a = c .before .before .before .before .before .args in c .new .result .«total_bytes» ≡ planeBytes (a .width) (a .height)
+total-is c = ap (λ (l : PlaneLayout). l .«total_bytes») (c .new .ensures)
 
-cast-row-start : tie.Need-cast-row-start Inv-loop μ-loop
-cast-row-start c = search needs
+-- the rows are all there
+front-long : (c : tie.Then3)
+    → let n = c .before .before .before in
+    length (take (n .new .result .«total_bytes») (now (n .before .before .before .before .before .args .plane))) ≡ n .new .result .«total_bytes»
+front-long c = length-take-le _ _ (c .if3 .taken)
 
-row-start-requires : tie.Need-row-start-requires Inv-loop μ-loop
-row-start-requires c κs = search needs
+white-bit-requires : tie.Need-white-bit-requires
+white-bit-requires c κs = search needs
 
-enum-known-at : tie.Need-enum-known-at Inv-loop μ-loop
-enum-known-at c = search needs
+white-bit-requires-2 : tie.Need-white-bit-requires-2
+white-bit-requires-2 c κs = search needs
 
--- the row is in the plane
-there : (c : tie.After-at Inv-loop μ-loop)
-    → let l = c .before .before .before .before in
-    Started (length (l .loop .plane)) (l .before .before .before .before .before .before .args .stride) (l .loop .y) (l .before .new .result .stride) (c .at .given .0 .0)
-there c = started _ _ _ _ _ _ (c .before .before .row-start .ensures) (c .at .given .1)
+returns : tie.Need-returns
+returns c =
+    let a = c .before .before .before .before .args in
+    unchanged (a .from) (a .to) (a .width) (a .height) (a .stride) (now (a .plane))
+    (sym (c .before .before .white-bit .ensures) ∙ c .if1 .taken ∙ c .before .white-bit2 .ensures)
 
-add-end : tie.Need-add-end Inv-loop μ-loop
-add-end c = omega (arith, there (c .before))
+new-requires : tie.Need-new-requires
+new-requires c κs = search needs
 
-sub-invert-row : tie.Need-sub-invert-row Inv-loop μ-loop
-sub-invert-row c = search needs
+slice-relend-prefix-convert-packed : tie.Need-slice-relend-prefix-convert-packed
+slice-relend-prefix-convert-packed c = search needs
 
-part-invert-row-start : tie.Need-part-invert-row-start Inv-loop μ-loop
-part-invert-row-start c = search needs
+slice-aggregate-convert-packed : tie.Need-slice-aggregate-convert-packed
+slice-aggregate-convert-packed c = sym (front-long (c .before))
 
-part-invert-row-end : tie.Need-part-invert-row-end Inv-loop μ-loop
-part-invert-row-end c = let p = there (c .before) in omega arith
+convert-packed-requires : tie.Need-convert-packed-requires
+convert-packed-requires c κs = front-long (c .before) ∙ total-is (c .before .before .before .before)
 
-invert-row-requires : tie.Need-invert-row-requires Inv-loop μ-loop
-invert-row-requires c κs = search needs
+same-length : tie.Need-same-length
+same-length c = search needs
 
-enum-told : tie.Need-enum-told Inv-loop μ-loop
-enum-told c = search needs
-
-same-length : tie.Need-same-length Inv-loop μ-loop
-same-length c = c .before .before .before .before .loop .inv .same
-
-returns-2 : tie.Need-returns-2 Inv-loop μ-loop
+returns-2 : tie.Need-returns-2
 returns-2 c =
-    let l = c .before .before .before .before in
-    stopped (l .loop .inv) (c .before .before .before .loop-test .taken) (missed _ _ _ _ _ (c .before .before .row-start .ensures) (c .enum-told .given .1))
-    ∙ other (l .before)
+    let k = c .before .before in
+    let t = k .before .before in
+    let n = t .before .before .before in
+    let a = n .before .before .before .before .before .args in
+    let e = total-is n in
+    ap (λ l. l ++ drop (n .new .result .«total_bytes») (now (a .plane))) (k .convert-packed .ensures)
+    ∙ ap (λ m. clearRows (a .width) (a .height) (invert (take m (now (a .plane)))) ++ drop m (now (a .plane))) e
+    ∙ converts-at-once (a .width) (a .height) (now (a .plane)) (omega (arith, e, t .if3 .taken))
+    ∙ ap (λ s. convertRows (a .width) s (a .height) 0 (now (a .plane))) (sym (ap (λ l. l .stride) (n .new .ensures)) ∙ sym (t .before .if2 .taken))
+    ∙ other n
 
-add-y : tie.Need-add-y Inv-loop μ-loop
-add-y c = search needs
+convert-rows-requires : tie.Need-convert-rows-requires
+convert-rows-requires c κs = search needs
 
-loop-less : tie.Need-loop-less Inv-loop μ-loop
-loop-less c = omega arith
+same-length-2 : tie.Need-same-length-2
+same-length-2 c = search needs
 
-loop-again : tie.Need-loop-again Inv-loop μ-loop
-loop-again c =
-    let t = c .before .before .before .before .before in
-    let l = t .before .before .before .before in
-    converted (l .loop .inv) _ _ (t .before .before .before .loop-test .taken) (there t) (c .before .before .invert-row .ensures)
-
-same-length-2 : tie.Need-same-length-2 Inv-loop μ-loop
-same-length-2 c = c .before .loop .inv .same
-
-returns-3 : tie.Need-returns-3 Inv-loop μ-loop
-returns-3 c = ended (c .before .loop .inv) (c .loop-test .left) ∙ other (c .before .before)
+returns-3 : tie.Need-returns-3
+returns-3 c =
+    let k = c .before .before in
+    k .convert-rows .ensures ∙ other (k .before .before .before .before)
 
 pub convert-format-spec : {M : Type 1} → statement M
 convert-format-spec =
     tie.close
     (tie.spec
-    Inv-loop
-    μ-loop
     white-bit-requires
     white-bit-requires-2
     returns
     new-requires
-    loop-holds
-    cast-row-start
-    row-start-requires
-    enum-known-at
-    add-end
-    sub-invert-row
-    part-invert-row-start
-    part-invert-row-end
-    invert-row-requires
-    enum-told
+    slice-relend-prefix-convert-packed
+    slice-aggregate-convert-packed
+    convert-packed-requires
     same-length
     returns-2
-    add-y
-    loop-less
-    loop-again
+    convert-rows-requires
     same-length-2
     returns-3)

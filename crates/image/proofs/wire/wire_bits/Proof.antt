@@ -1,104 +1,108 @@
-use Prim.Native.Nat.{_-_}
+use Prim.Native.Nat.{ℕ, _≤_}
 use mathlib.Core.Path.{_≡_, ap, sym, _∙_}
+use mathlib.Core.List.{List, _++_}
 use native.Mathlib.Nat.{mul-comm}
 use native.Mathlib.Omega.{arith}
-use borrow.Author.Needs.{needs}
 use denote.Ref.{now}
-use lib.ListN.{length}
+use lib.ListN.{length, take, drop}
+use lib.Seq.{length-take-le}
+use Rattle.error.specs.Answer.{gives}
+use Rattle.error.specs.Emits.{Emits}
 use Rattle.laws.proofs.Writers.{emits-none, emits-all}
-use Rattle.image.specs.Geometry.{rowBytes}
-use Rattle.image.specs.Rows.{wireBits}
+use Rattle.image.specs.Geometry.{rowBytes, planeBytes}
+use Rattle.image.specs.Parts.{clearRows}
+use Rattle.image.specs.Rows.{toNative, wireBits}
 use Rattle.image.specs.declared.PlaneLayout.{PlaneLayout}
-use Rattle.image.proofs.Wiring.{Wiring, begun, kept-length, next-fits, wired, ended, wire-length}
+use Rattle.image.proofs.AtOnce.{wires-at-once}
+use Rattle.image.proofs.Wiring.{wire-length}
+use borrow.Author.Needs.{needs}
 use Rattle.image.proofs.wire.wire_bits.Statement.{statement}
 use Rattle.image.proofs.wire.wire_bits.Tie as tie
 
-abbrev Inv-loop : tie.InvT-loop
-Inv-loop plane width height stride format out₀ row mask total at₀ y₀ out at y = Wiring plane width height stride format out₀ row mask out at y
+abbrev start : tie.After-new → tie.Start
+start c = c .before .before .before
 
-abbrev μ-loop : tie.MeasureT-loop
-μ-loop plane width height stride format out₀ row mask total at₀ y₀ out at y = height - y
+abbrev whole : tie.After-new → List ℕ
+whole c = let a = start c .args in wireBits (a .format) (a .width) (a .height) (a .stride) (now (a .plane))
 
-new-requires : tie.Need-new-requires Inv-loop μ-loop
-new-requires c κs = search needs
+total-is : (c : tie.After-new) → c .new .result .«total_bytes» ≡ planeBytes (start c .args .width) (start c .args .height)
+total-is c = ap (λ (l : PlaneLayout). l .«total_bytes») (c .new .ensures)
 
 -- the layout has as many bytes as the rows
-whole : (c : tie.After-new Inv-loop μ-loop)
-    → let a = c .before .before .before .args in
-    c .new .result .«total_bytes» ≡ length (wireBits (a .format) (a .width) (a .height) (a .stride) (now (a .plane)))
-whole c =
-    let a = c .before .before .before .args in
-    ap (λ (l : PlaneLayout). l .«total_bytes») (c .new .ensures)
-    ∙ mul-comm (rowBytes (a .width)) (a .height)
-    ∙ sym (wire-length (a .format) (a .width) (a .stride) (now (a .plane)) (a .height))
+long : (c : tie.After-new) → length (whole c) ≡ planeBytes (start c .args .width) (start c .args .height)
+long c = let a = start c .args in wire-length (a .format) (a .width) (a .stride) (now (a .plane)) (a .height) ∙ mul-comm (a .height) (rowBytes (a .width))
 
-returns : tie.Need-returns Inv-loop μ-loop
+done : (c : tie.After-new) {new : List ℕ} → let n = c .new .result .«total_bytes» in let old = now (start c .args .out) in
+    n ≤ length old → new ≡ whole c ++ drop n old → Emits (gives (whole c)) (gives n) old new
+done c h e =
+    let s : c .new .result .«total_bytes» ≡ length (whole c) = total-is c ∙ sym (long c) in
+    emits-all (whole c) (now (start c .args .out)) _ _ (omega arith) s (e ∙ ap (λ n. whole c ++ drop n (now (start c .args .out))) s)
+
+new-requires : tie.Need-new-requires
+new-requires c κs = search needs
+
+returns : tie.Need-returns
 returns c =
-    let a = c .before .before .before .before .args in
-    emits-none (wireBits (a .format) (a .width) (a .height) (a .stride) (now (a .plane))) (now (a .out)) (omega (arith, whole (c .before), c .if1 .taken))
+    let n = c .before in
+    emits-none (whole n) (now (start n .args .out)) (omega (arith, long n, total-is n, c .if1 .taken))
 
-loop-holds : tie.Need-loop-holds Inv-loop μ-loop
-loop-holds c =
-    let a = c .before .before .before .before .args in
-    begun (now (a .plane)) (a .width) (a .height) (a .stride) (a .format) (now (a .out)) (c .before .new .result) (c .before .new .ensures) (c .if1 .left)
+slice-aggregate-wire-packed : tie.Need-slice-aggregate-wire-packed
+slice-aggregate-wire-packed c = sym (length-take-le _ _ (c .before .if3 .taken))
 
-add-end : tie.Need-add-end Inv-loop μ-loop
-add-end c = omega (arith, next-fits (c .before .loop .inv) (c .loop-test .taken), kept-length (c .before .loop .inv))
+slice-relend-prefix-wire-packed : tie.Need-slice-relend-prefix-wire-packed
+slice-relend-prefix-wire-packed c = search needs
 
-cast-wire-row : tie.Need-cast-wire-row Inv-loop μ-loop
-cast-wire-row c = search needs
+slice-aggregate-wire-packed-2 : tie.Need-slice-aggregate-wire-packed-2
+slice-aggregate-wire-packed-2 c = sym (length-take-le _ _ (c .before .before .before .before .if1 .left))
 
-sub-wire-row : tie.Need-sub-wire-row Inv-loop μ-loop
-sub-wire-row c = search needs
+wire-packed-requires : tie.Need-wire-packed-requires
+wire-packed-requires c κs =
+    let t = c .before .before in
+    let n = t .before .before .before in
+    (length-take-le _ _ (t .if3 .taken) ∙ total-is n, length-take-le _ _ (t .before .before .if1 .left) ∙ total-is n)
 
-part-wire-row-start : tie.Need-part-wire-row-start Inv-loop μ-loop
-part-wire-row-start c = search needs
+same-length : tie.Need-same-length
+same-length c = search needs
 
-part-wire-row-end : tie.Need-part-wire-row-end Inv-loop μ-loop
-part-wire-row-end c = next-fits (c .before .loop .inv) (c .loop-test .taken)
-
-wire-row-requires : tie.Need-wire-row-requires Inv-loop μ-loop
-wire-row-requires c κs = search needs
-
-add-y : tie.Need-add-y Inv-loop μ-loop
-add-y c = search needs
-
-loop-less : tie.Need-loop-less Inv-loop μ-loop
-loop-less c = omega arith
-
-loop-again : tie.Need-loop-again Inv-loop μ-loop
-loop-again c =
-    let l = c .before .before .before .before .before in
-    let k = l .before .before .before .before in
-    wired (l .loop .inv) _ (λ i. let f = k .shared-slice-known .given i in omega arith) (c .before .before .before .before .loop-test .taken) (c .before .before .wire-row .ensures)
-
-same-length : tie.Need-same-length Inv-loop μ-loop
-same-length c = kept-length (c .before .loop .inv)
-
-returns-2 : tie.Need-returns-2 Inv-loop μ-loop
+returns-2 : tie.Need-returns-2
 returns-2 c =
-    let n = c .before .before .before in
-    let a = n .before .before .before .args in
-    emits-all (wireBits (a .format) (a .width) (a .height) (a .stride) (now (a .plane))) (now (a .out)) (c .before .loop .out) (n .new .result .«total_bytes»)
-    (omega (arith, whole n, c .before .before .if1 .left)) (whole n) (ended (c .before .loop .inv) (c .loop-test .left))
+    let k = c .before .before in
+    let t = k .before .before .before in
+    let n = t .before .before .before in
+    let a = start n .args in
+    let s : a .stride ≡ rowBytes (a .width) = t .before .if2 .taken ∙ ap (λ (l : PlaneLayout). l .stride) (n .new .ensures) in
+    done n (t .before .before .if1 .left)
+    (ap (λ l. l ++ drop (n .new .result .«total_bytes») (now (a .out)))
+    (k .wire-packed .ensures
+    ∙ ap (λ m. clearRows (a .width) (a .height) (toNative (a .format) (take m (now (a .plane))))) (total-is n)
+    ∙ wires-at-once (a .width) (a .height) (now (a .plane)) (omega (arith, total-is n, t .if3 .taken)) (a .format)
+    ∙ ap (λ k. wireBits (a .format) (a .width) (a .height) k (now (a .plane))) (sym s)))
+
+wire-rows-requires : tie.Need-wire-rows-requires
+wire-rows-requires c κs = let n = c .before .before .before in omega (arith, total-is n, c .before .before .if1 .left)
+
+same-length-2 : tie.Need-same-length-2
+same-length-2 c = search needs
+
+returns-3 : tie.Need-returns-3
+returns-3 c =
+    let k = c .before .before in
+    let e = k .before .before .before in
+    let n = e .before in
+    done n (e .if1 .left) (k .wire-rows .ensures ∙ ap (λ m. whole n ++ drop m (now (start n .args .out))) (sym (total-is n)))
 
 pub wire-bits-spec : {M : Type 1} → statement M
 wire-bits-spec =
     tie.close
     (tie.spec
-    Inv-loop
-    μ-loop
     new-requires
     returns
-    loop-holds
-    add-end
-    cast-wire-row
-    sub-wire-row
-    part-wire-row-start
-    part-wire-row-end
-    wire-row-requires
-    add-y
-    loop-less
-    loop-again
+    slice-aggregate-wire-packed
+    slice-relend-prefix-wire-packed
+    slice-aggregate-wire-packed-2
+    wire-packed-requires
     same-length
-    returns-2)
+    returns-2
+    wire-rows-requires
+    same-length-2
+    returns-3)

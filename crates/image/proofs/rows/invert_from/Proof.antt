@@ -1,22 +1,27 @@
 use Prim.Native.Nat.{_-_}
-use mathlib.Core.Path.{refl}
+use mathlib.Core.Path.{sym, _∙_}
 use native.Mathlib.Omega.{arith}
 use lib.ListN.{length}
+use Rattle.image.specs.Rows.{invert}
+use Rattle.image.proofs.Inverted.{invert-length, invert-at}
 use Rattle.image.proofs.Filled.{Filled, begun, kept-length, filled, done}
-use Rattle.decoder.proofs.planes.copy.Statement.{statement}
-use Rattle.decoder.proofs.planes.copy.Tie as tie
+use Rattle.image.proofs.rows.invert_from.Statement.{statement}
+use Rattle.image.proofs.rows.invert_from.Tie as tie
 
 abbrev Inv-loop : tie.InvT-loop
-Inv-loop from to₀ i₀ to i = Filled from to₀ to i
+Inv-loop from to₀ i₀ to i = Filled (invert from) to₀ to i
 
 abbrev μ-loop : tie.MeasureT-loop
 μ-loop from to₀ i₀ to i = length to₀ - i
 
 loop-holds : tie.Need-loop-holds Inv-loop μ-loop
-loop-holds c = begun (c .pre)
+loop-holds c = begun (invert-length (c .args .from .now) ∙ c .pre)
 
 shared-slice-read-to : tie.Need-shared-slice-read-to Inv-loop μ-loop
 shared-slice-read-to c = omega (arith, kept-length (c .before .before .loop .inv))
+
+sub-to : tie.Need-sub-to Inv-loop μ-loop
+sub-to c = omega (arith, c .shared-slice-known .given (c .before .before .loop .i))
 
 slice-write-to : tie.Need-slice-write-to Inv-loop μ-loop
 slice-write-to c = omega arith
@@ -31,7 +36,7 @@ loop-again : tie.Need-loop-again Inv-loop μ-loop
 loop-again c =
     let i = c .before .before .loop .inv in
     let e = kept-length i in
-    filled i _ (omega arith) refl
+    filled i _ (omega arith) (sym (invert-at (c .before .before .before .args .from .now) (c .before .before .loop .i) (omega arith)))
 
 same-length : tie.Need-same-length Inv-loop μ-loop
 same-length c = kept-length (c .before .loop .inv)
@@ -39,14 +44,15 @@ same-length c = kept-length (c .before .loop .inv)
 returns : tie.Need-returns Inv-loop μ-loop
 returns c = done (c .before .loop .inv) (omega (arith, kept-length (c .before .loop .inv)))
 
-pub copy-spec : {M : Type 1} → statement M
-copy-spec =
+pub invert-from-spec : {M : Type 1} → statement M
+invert-from-spec =
     tie.close
     (tie.spec
     Inv-loop
     μ-loop
     loop-holds
     shared-slice-read-to
+    sub-to
     slice-write-to
     add-i
     loop-less

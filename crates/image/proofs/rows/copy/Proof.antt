@@ -3,8 +3,8 @@ use mathlib.Core.Path.{refl}
 use native.Mathlib.Omega.{arith}
 use lib.ListN.{length}
 use Rattle.image.proofs.Filled.{Filled, begun, kept-length, filled, done}
-use Rattle.image.proofs.wire.copy.Statement.{statement}
-use Rattle.image.proofs.wire.copy.Tie as tie
+use Rattle.image.proofs.rows.copy.Statement.{statement}
+use Rattle.image.proofs.rows.copy.Tie as tie
 
 abbrev Inv-loop : tie.InvT-loop
 Inv-loop from to₀ i₀ to i = Filled from to₀ to i
