@@ -3,23 +3,51 @@ use crate::Sniffed;
 use header::HeaderRead;
 use image::PlaneLayout;
 ghost use mathlib.Core.Path.{_≡_};
-ghost use Prim.Native.Nat.{_<_, _≤_, _*_};
+ghost use Prim.Native.Nat.{_<_, _≤_, _+_, _-_, _*_};
 ghost use lib.ListN.{length};
-ghost use Rattle.image.specs.Geometry.{rowBytes, paddingMask};
-ghost use Rattle.api.specs.Sniff.{areClear, sniffLength, sniffBody, sniffed, isExact};
+ghost use Rattle.api.specs.Sniff.{isClear, areClear, sniffLength, sniffBody, sniffed, isExact};
+ghost use Rattle.api.specs.Parts.{Rows};
 
 // The largest width and height that are taken for an image's.
 pub const PROBE_MAX_DIMENSION: u32 = 16384;
 
-// Whether the padding of a body's first rows is clear.
+// Whether the padding of row y of a body is clear.
+fn is_clear(body: &[u8], width: u32, row: usize, mask: u8, y: usize) -> bool
+    requires { ⌜ Rows width row mask ⌝ }
+    requires { ⌜ y * row + (row - 1) < length (now body) ⌝ }
+    ensures { λ r. ⌜ r ≡ isClear width (now (body .entry)) y ⌝ }
+{
+    let last = body[y * row + (row - 1)];
+    last & mask == last
+}
+
+// Whether the padding of a body's first rows is clear: four rows a turn, and then the others.
 fn are_clear(body: &[u8], width: u32, row: usize, mask: u8, rows: usize) -> bool
-    requires { ⌜ (0 < row) × (row ≡ rowBytes width) × (mask ≡ paddingMask width) × (rows * row ≤ length (now body)) ⌝ }
+    requires { ⌜ Rows width row mask ⌝ }
+    requires { ⌜ rows * row ≤ length (now body) ⌝ }
     ensures { λ r. ⌜ r ≡ areClear width (now (body .entry)) rows ⌝ }
 {
+    if width % 8 == 0 {
+        return true;
+    }
     let mut y: usize = 0;
+    while 3 < rows - y {
+        if !is_clear(body, width, row, mask, y) {
+            return false;
+        }
+        if !is_clear(body, width, row, mask, y + 1) {
+            return false;
+        }
+        if !is_clear(body, width, row, mask, y + 2) {
+            return false;
+        }
+        if !is_clear(body, width, row, mask, y + 3) {
+            return false;
+        }
+        y += 4;
+    }
     while y < rows {
-        let last = body[y * row + (row - 1)];
-        if last & mask != last {
+        if !is_clear(body, width, row, mask, y) {
             return false;
         }
         y += 1;

@@ -1,11 +1,12 @@
 use Prim.Native.Nat.{ℕ, _+_, _-_, _*_, _≤_, _<_}
-use mathlib.Core.Path.{_≡_, subst}
-use mathlib.Core.Bool.{true}
+use mathlib.Core.Path.{_≡_, sym, _∙_, subst}
+use mathlib.Core.Bool.{true, false}
 use native.Mathlib.Omega.{arith}
+use borrow.Author.Tests.{not-true, not-false}
 use denote.Ref.{now}
 use lib.ListN.{length}
-use Rattle.api.specs.Sniff.{areClear}
-use Rattle.api.proofs.Cleared.{last-in, clear, unclear, none, one-more, found}
+use Rattle.api.specs.Sniff.{isClear, areClear}
+use Rattle.api.proofs.Cleared.{last-in, none, all, one-more, four, found}
 use Rattle.api.proofs.sniffing.are_clear.Statement.{statement}
 use Rattle.api.proofs.sniffing.are_clear.Tie as tie
 
@@ -15,61 +16,130 @@ Inv-loop body width row mask rows y₀ y = (y ≤ rows) × (true ≡ areClear wi
 abbrev μ-loop : tie.MeasureT-loop
 μ-loop body width row mask rows y₀ y = rows - y
 
-loop-holds : tie.Need-loop-holds Inv-loop μ-loop
-loop-holds c = (omega arith, none (c .args .width) (now (c .args .body)))
+abbrev Inv-loop2 : tie.InvT-loop2
+Inv-loop2 body width row mask rows y₀ y = (y ≤ rows) × (true ≡ areClear width body y)
 
-inside : (c : tie.In-loop Inv-loop μ-loop)
-    → let a = c .before .before .args in
-    c .before .loop .y * a .row + (a .row - 1) < length (now (a .body))
-inside c =
-    let a = c .before .before .args in
-    let p = c .before .before .pre in
-    last-in (a .rows) (a .row) (length (now (a .body))) (c .before .loop .y) (p .0) (p .3) (c .loop-test .taken)
+abbrev μ-loop2 : tie.MeasureT-loop2
+μ-loop2 body width row mask rows y₀ y = rows - y
 
-mul-last : tie.Need-mul-last Inv-loop μ-loop
-mul-last c = omega (arith, inside c, c .before .before .good)
+abbrev start : tie.In-loop Inv-loop μ-loop Inv-loop2 μ-loop2 → tie.Start Inv-loop μ-loop Inv-loop2 μ-loop2
+start c = c .before .before .before .before
 
-sub-last : tie.Need-sub-last Inv-loop μ-loop
-sub-last c = omega (arith, c .before .before .pre)
+abbrev start2 : tie.In-loop2 Inv-loop μ-loop Inv-loop2 μ-loop2 → tie.Start Inv-loop μ-loop Inv-loop2 μ-loop2
+start2 c = c .before .before .before .before .before .before
 
-add-last : tie.Need-add-last Inv-loop μ-loop
-add-last c = omega (arith, inside c, c .before .before .good)
+-- a row is in the body
+in-body : (c : tie.In-loop Inv-loop μ-loop Inv-loop2 μ-loop2) (z : ℕ)
+    → let a = start c .args in
+    z < a .rows → z * a .row + (a .row - 1) < length (now (a .body))
+in-body c z h =
+    let s = start c in
+    last-in (s .args .rows) (s .args .row) (length (now (s .args .body))) z (s .pre .0 .some) (s .pre .1) h
 
-shared-slice-read-last : tie.Need-shared-slice-read-last Inv-loop μ-loop
-shared-slice-read-last c = inside (c .before)
+missed : (c : tie.In-loop Inv-loop μ-loop Inv-loop2 μ-loop2) (z : ℕ)
+    → let a = start c .args in
+    z < a .rows → isClear (a .width) (now (a .body)) z ≡ false → false ≡ areClear (a .width) (now (a .body)) (a .rows)
+missed c z h e =
+    let a = start c .args in
+    found (a .width) (now (a .body)) z (a .rows) e h
 
-returns : tie.Need-returns Inv-loop μ-loop
-returns c =
-    let k = c .before in
-    let l = k .before .before in
-    let a = l .before .args in
-    let p = l .before .pre in
-    found (a .width) (now (a .body)) (l .loop .y) (a .rows)
-    (unclear (a .width) (now (a .body)) (a .row) (a .mask) (l .loop .y) (p .1) (p .2) (omega (arith, k .shared-slice-known .given (l .loop .y * a .row + (a .row - 1)))) (c .if1 .taken))
-    (k .before .loop-test .taken)
+returns : tie.Need-returns Inv-loop μ-loop Inv-loop2 μ-loop2
+returns c = let a = c .before .before .args in all (a .width) (now (a .body)) (c .if1 .taken) (a .rows)
 
-add-y : tie.Need-add-y Inv-loop μ-loop
-add-y c = omega (arith, c .before .before .before .before .fits)
+loop-holds : tie.Need-loop-holds Inv-loop μ-loop Inv-loop2 μ-loop2
+loop-holds c = let a = c .before .before .args in (omega arith, none (a .width) (now (a .body)))
 
-loop-less : tie.Need-loop-less Inv-loop μ-loop
-loop-less c = omega arith
+sub-loop : tie.Need-sub-loop Inv-loop μ-loop Inv-loop2 μ-loop2
+sub-loop c = c .loop .inv .0
 
-loop-again : tie.Need-loop-again Inv-loop μ-loop
+is-clear-requires : tie.Need-is-clear-requires Inv-loop μ-loop Inv-loop2 μ-loop2
+is-clear-requires c κs = (start c .pre .0, in-body c (c .before .loop .y) (omega (arith, c .loop-test .taken)))
+
+returns-2 : tie.Need-returns-2 Inv-loop μ-loop Inv-loop2 μ-loop2
+returns-2 c = missed (c .before .before) (c .before .before .before .loop .y) (omega (arith, c .before .before .loop-test .taken)) (sym (c .before .is-clear .ensures) ∙ not-true _ (c .if2 .taken))
+
+add-is-clear : tie.Need-add-is-clear Inv-loop μ-loop Inv-loop2 μ-loop2
+add-is-clear c = omega (arith, start (c .before .before) .fits, (c .before .before) .loop-test .taken)
+
+is-clear-requires-2 : tie.Need-is-clear-requires-2 Inv-loop μ-loop Inv-loop2 μ-loop2
+is-clear-requires-2 c κs = (start (c .before .before) .pre .0, in-body (c .before .before) (c .before .before .before .loop .y + 1) (omega (arith, c .before .before .loop-test .taken)))
+
+returns-3 : tie.Need-returns-3 Inv-loop μ-loop Inv-loop2 μ-loop2
+returns-3 c = missed (c .before .before .before .before) (c .before .before .before .before .before .loop .y + 1) (omega (arith, c .before .before .before .before .loop-test .taken)) (sym (c .before .is-clear2 .ensures) ∙ not-true _ (c .if3 .taken))
+
+add-is-clear-2 : tie.Need-add-is-clear-2 Inv-loop μ-loop Inv-loop2 μ-loop2
+add-is-clear-2 c = omega (arith, start (c .before .before .before .before) .fits, (c .before .before .before .before) .loop-test .taken)
+
+is-clear-requires-3 : tie.Need-is-clear-requires-3 Inv-loop μ-loop Inv-loop2 μ-loop2
+is-clear-requires-3 c κs = (start (c .before .before .before .before) .pre .0, in-body (c .before .before .before .before) (c .before .before .before .before .before .loop .y + 2) (omega (arith, c .before .before .before .before .loop-test .taken)))
+
+returns-4 : tie.Need-returns-4 Inv-loop μ-loop Inv-loop2 μ-loop2
+returns-4 c = missed (c .before .before .before .before .before .before) (c .before .before .before .before .before .before .before .loop .y + 2) (omega (arith, c .before .before .before .before .before .before .loop-test .taken)) (sym (c .before .is-clear3 .ensures) ∙ not-true _ (c .if4 .taken))
+
+add-is-clear-3 : tie.Need-add-is-clear-3 Inv-loop μ-loop Inv-loop2 μ-loop2
+add-is-clear-3 c = omega (arith, start (c .before .before .before .before .before .before) .fits, (c .before .before .before .before .before .before) .loop-test .taken)
+
+is-clear-requires-4 : tie.Need-is-clear-requires-4 Inv-loop μ-loop Inv-loop2 μ-loop2
+is-clear-requires-4 c κs = (start (c .before .before .before .before .before .before) .pre .0, in-body (c .before .before .before .before .before .before) (c .before .before .before .before .before .before .before .loop .y + 3) (omega (arith, c .before .before .before .before .before .before .loop-test .taken)))
+
+returns-5 : tie.Need-returns-5 Inv-loop μ-loop Inv-loop2 μ-loop2
+returns-5 c = missed (c .before .before .before .before .before .before .before .before) (c .before .before .before .before .before .before .before .before .before .loop .y + 3) (omega (arith, c .before .before .before .before .before .before .before .before .loop-test .taken)) (sym (c .before .is-clear4 .ensures) ∙ not-true _ (c .if5 .taken))
+
+add-y : tie.Need-add-y Inv-loop μ-loop Inv-loop2 μ-loop2
+add-y c = omega (arith, start (c .before .before .before .before .before .before .before .before) .fits, (c .before .before .before .before .before .before .before .before) .loop-test .taken)
+
+loop-less : tie.Need-loop-less Inv-loop μ-loop Inv-loop2 μ-loop2
+loop-less c = omega (arith, (c .before .before .before .before .before .before .before .before) .loop-test .taken)
+
+loop-again : tie.Need-loop-again Inv-loop μ-loop Inv-loop2 μ-loop2
 loop-again c =
-    let k = c .before in
-    let l = k .before .before in
-    let a = l .before .args in
-    let p = l .before .pre in (
-      omega (arith, k .before .loop-test .taken),
-      one-more (a .width) (now (a .body)) (l .loop .y) (l .loop .inv .1)
-          (clear (a .width) (now (a .body)) (a .row) (a .mask) (l .loop .y) (p .1) (p .2) (omega (arith, k .shared-slice-known .given (l .loop .y * a .row + (a .row - 1)))) (c .if1 .left)),
+    let l = c .before .before .before .before .before .before .before .before .before in
+    let a = l .before .before .before .args in
+    let w = a .width in
+    let b = now (a .body) in
+    let y = l .loop .y in (
+      omega (arith, (c .before .before .before .before .before .before .before .before) .loop-test .taken),
+      four w b y (l .loop .inv .1)
+          (sym (c .before .before .before .before .before .before .before .is-clear .ensures) ∙ not-false _ (c .before .before .before .before .before .before .if2 .left))
+          (sym (c .before .before .before .before .before .is-clear2 .ensures) ∙ not-false _ (c .before .before .before .before .if3 .left))
+          (sym (c .before .before .before .is-clear3 .ensures) ∙ not-false _ (c .before .before .if4 .left))
+          (sym (c .before .is-clear4 .ensures) ∙ not-false _ (c .if5 .left)),
     )
 
-returns-2 : tie.Need-returns-2 Inv-loop μ-loop
-returns-2 c =
-    let a = c .before .before .args in
-    let e : c .before .loop .y ≡ a .rows = omega (arith, c .before .loop .inv .0, c .loop-test .left) in
-    subst (λ (n : ℕ). true ≡ areClear (a .width) (now (a .body)) n) e (c .before .loop .inv .1)
+loop2-holds : tie.Need-loop2-holds Inv-loop μ-loop Inv-loop2 μ-loop2
+loop2-holds c = c .before .loop .inv
+
+is-clear-requires-5 : tie.Need-is-clear-requires-5 Inv-loop μ-loop Inv-loop2 μ-loop2
+is-clear-requires-5 c κs =
+    let s = start2 c in
+    let p = s .pre in
+    (p .0, last-in (s .args .rows) (s .args .row) (length (now (s .args .body))) (c .before .loop2 .y) (p .0 .some) (p .1) (c .loop2-test .taken))
+
+returns-6 : tie.Need-returns-6 Inv-loop μ-loop Inv-loop2 μ-loop2
+returns-6 c =
+    let i = c .before .before in
+    let a = start2 i .args in
+    found (a .width) (now (a .body)) (i .before .loop2 .y) (a .rows) (sym (c .before .is-clear5 .ensures) ∙ not-true _ (c .if6 .taken)) (i .loop2-test .taken)
+
+add-y-2 : tie.Need-add-y-2 Inv-loop μ-loop Inv-loop2 μ-loop2
+add-y-2 c = let i = c .before .before in omega (arith, start2 i .fits, i .loop2-test .taken)
+
+loop2-less : tie.Need-loop2-less Inv-loop μ-loop Inv-loop2 μ-loop2
+loop2-less c = omega (arith, c .before .before .loop2-test .taken)
+
+loop2-again : tie.Need-loop2-again Inv-loop μ-loop Inv-loop2 μ-loop2
+loop2-again c =
+    let i = c .before .before in
+    let a = start2 i .args in
+    let l = i .before in
+    (omega (arith, i .loop2-test .taken), one-more (a .width) (now (a .body)) (l .loop2 .y) (l .loop2 .inv .1) (sym (c .before .is-clear5 .ensures) ∙ not-false _ (c .if6 .left)))
+
+returns-7 : tie.Need-returns-7 Inv-loop μ-loop Inv-loop2 μ-loop2
+returns-7 c =
+    let l = c .before in
+    let a = l .before .before .before .before .before .args in
+    let e : l .loop2 .y ≡ a .rows = omega (arith, l .loop2 .inv .0, c .loop2-test .left) in
+    subst (λ (n : ℕ). true ≡ areClear (a .width) (now (a .body)) n) e (l .loop2 .inv .1)
 
 pub are-clear-spec : {M : Type 1} → statement M
 are-clear-spec =
@@ -77,13 +147,29 @@ are-clear-spec =
     (tie.spec
     Inv-loop
     μ-loop
-    loop-holds
-    mul-last
-    sub-last
-    add-last
-    shared-slice-read-last
+    Inv-loop2
+    μ-loop2
     returns
+    loop-holds
+    sub-loop
+    is-clear-requires
+    returns-2
+    add-is-clear
+    is-clear-requires-2
+    returns-3
+    add-is-clear-2
+    is-clear-requires-3
+    returns-4
+    add-is-clear-3
+    is-clear-requires-4
+    returns-5
     add-y
     loop-less
     loop-again
-    returns-2)
+    loop2-holds
+    is-clear-requires-5
+    returns-6
+    add-y-2
+    loop2-less
+    loop2-again
+    returns-7)

@@ -28,9 +28,11 @@ are-clear-requires c κs =
     let n = c .before in
     let s = n .before .before in
     let a = s .args in (
-      row-some (a .width) (a .height) (now (a .body)) (n .new .result) (n .new .ensures) (s .pre .0),
-      row-is (a .width) (a .height) (now (a .body)) (n .new .result) (n .new .ensures),
-      mask-is (a .width) (a .height) (now (a .body)) (n .new .result) (n .new .ensures),
+      record {
+        some = row-some (a .width) (a .height) (now (a .body)) (n .new .result) (n .new .ensures) (s .pre .0);
+        rowIs = row-is (a .width) (a .height) (now (a .body)) (n .new .result) (n .new .ensures);
+        maskIs = mask-is (a .width) (a .height) (now (a .body)) (n .new .result) (n .new .ensures);
+      },
       rows-in (a .width) (a .height) (now (a .body)) (n .new .result) (n .new .ensures),
     )
 
