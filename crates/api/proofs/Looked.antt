@@ -3,7 +3,7 @@ use Prim.Native.Nat.{ℕ, _*_, _/_, _≤_, _<_}
 use mathlib.Core.Path.{_≡_, sym, ap, _∙_, subst}
 use mathlib.Core.Bool.{true, false}
 use mathlib.Core.List.{List}
-use native.Mathlib.Nat.{div-mul-le-self, mul-le-mul}
+use native.Mathlib.Nat.{mul-le-mul}
 use native.Mathlib.Omega.{arith}
 use borrow.Author.Tests.{le-leb, lt-leb}
 use lib.ListN.{length}
@@ -27,9 +27,6 @@ module _ (w h : ℕ) (body : List ℕ) (l : PlaneLayout) (laid : l ≡ layoutOf 
       let e : l .«total_bytes» ≡ rowBytes w * h = ap (λ (l : PlaneLayout). l .«total_bytes») laid in
       let m : 1 * 1 ≤ rowBytes w * h = mul-le-mul {n₁ = 1} {m₁ = 1} {n₂ = rowBytes w} {m₂ = h} (omega arith) (omega arith) in
       subst (λ (n : ℕ). 0 < n) (sym e) (omega arith)
-
-  pub rows-in : length body / l .stride * l .stride ≤ length body
-  rows-in = div-mul-le-self (length body) (l .stride)
 
   pub no-row : length body < l .stride → sniffBody w h body ≡ Neither
   unfolding sniffBody

@@ -3,7 +3,7 @@ use crate::Sniffed;
 use header::HeaderRead;
 use image::PlaneLayout;
 ghost use mathlib.Core.Path.{_≡_};
-ghost use Prim.Native.Nat.{_<_, _≤_, _+_, _-_, _*_};
+ghost use Prim.Native.Nat.{_<_, _+_, _-_, _*_, _/_};
 ghost use lib.ListN.{length};
 ghost use Rattle.api.specs.Sniff.{isClear, areClear, sniffLength, sniffBody, sniffed, isExact};
 ghost use Rattle.api.specs.Parts.{Rows};
@@ -21,15 +21,15 @@ fn is_clear(body: &[u8], width: u32, row: usize, mask: u8, y: usize) -> bool
     last & mask == last
 }
 
-// Whether the padding of a body's first rows is clear: four rows a turn, and then the others.
-fn are_clear(body: &[u8], width: u32, row: usize, mask: u8, rows: usize) -> bool
+// Whether the padding of a body's whole rows is clear: four rows a turn, and then the others.
+fn are_clear(body: &[u8], width: u32, row: usize, mask: u8) -> bool
     requires { ⌜ Rows width row mask ⌝ }
-    requires { ⌜ rows * row ≤ length (now body) ⌝ }
-    ensures { λ r. ⌜ r ≡ areClear width (now (body .entry)) rows ⌝ }
+    ensures { λ r. ⌜ r ≡ areClear width (now (body .entry)) (length (now (body .entry)) / row) ⌝ }
 {
     if width % 8 == 0 {
         return true;
     }
+    let rows = body.len() / row;
     let mut y: usize = 0;
     while 3 < rows - y {
         if !is_clear(body, width, row, mask, y) {
@@ -83,7 +83,7 @@ fn sniff_body(width: u32, height: u32, body: &[u8]) -> Sniffed
     if size < row {
         return Sniffed::Neither;
     }
-    if !are_clear(body, width, row, mask, size / row) {
+    if !are_clear(body, width, row, mask) {
         return Sniffed::Neither;
     }
     sniff_length(plane, size)

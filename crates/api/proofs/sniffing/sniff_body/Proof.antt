@@ -3,7 +3,7 @@ use native.Mathlib.Omega.{arith}
 use borrow.Author.Needs.{needs}
 use borrow.Author.Tests.{not-true, not-false}
 use denote.Ref.{now}
-use Rattle.api.proofs.Looked.{row-is, mask-is, row-some, plane-some, rows-in, no-row, dirty, clean}
+use Rattle.api.proofs.Looked.{row-is, mask-is, row-some, plane-some, no-row, dirty, clean}
 use Rattle.api.proofs.sniffing.sniff_body.Statement.{statement}
 use Rattle.api.proofs.sniffing.sniff_body.Tie as tie
 
@@ -16,25 +16,16 @@ returns c =
     let a = n .before .before .args in
     sym (no-row (a .width) (a .height) (now (a .body)) (n .new .result) (n .new .ensures) (c .if1 .taken))
 
-div-are-clear : tie.Need-div-are-clear
-div-are-clear c =
-    let n = c .before in
-    let s = n .before .before in
-    let p = row-some (s .args .width) (s .args .height) (now (s .args .body)) (n .new .result) (n .new .ensures) (s .pre .0) in
-    omega arith
-
 are-clear-requires : tie.Need-are-clear-requires
 are-clear-requires c κs =
     let n = c .before in
     let s = n .before .before in
-    let a = s .args in (
-      record {
-        some = row-some (a .width) (a .height) (now (a .body)) (n .new .result) (n .new .ensures) (s .pre .0);
-        rowIs = row-is (a .width) (a .height) (now (a .body)) (n .new .result) (n .new .ensures);
-        maskIs = mask-is (a .width) (a .height) (now (a .body)) (n .new .result) (n .new .ensures);
-      },
-      rows-in (a .width) (a .height) (now (a .body)) (n .new .result) (n .new .ensures),
-    )
+    let a = s .args in
+    record {
+      some = row-some (a .width) (a .height) (now (a .body)) (n .new .result) (n .new .ensures) (s .pre .0);
+      rowIs = row-is (a .width) (a .height) (now (a .body)) (n .new .result) (n .new .ensures);
+      maskIs = mask-is (a .width) (a .height) (now (a .body)) (n .new .result) (n .new .ensures);
+    }
 
 returns-2 : tie.Need-returns-2
 returns-2 c =
@@ -68,7 +59,6 @@ sniff-body-spec =
     (tie.spec
     new-requires
     returns
-    div-are-clear
     are-clear-requires
     returns-2
     sniff-length-requires
