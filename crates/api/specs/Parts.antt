@@ -1,10 +1,56 @@
--- What the private functions ask.
-use Prim.Native.Nat.{ℕ, _<_}
+-- What the private functions ask and promise.
+use Prim.Native.Nat.{ℕ, _<_, _≤_}
 use mathlib.Core.Path.{_≡_}
+use mathlib.Core.Bool.{true, _&&_}
+use mathlib.Core.List.{List}
+use lib.Dec.{leb}
+use lib.ListN.{length, drop}
+use Rattle.error.specs.Choice.{if}
+use Rattle.error.specs.Answer.{gives, map}
+use Rattle.mbi.specs.Read.{readMbi}
+use Rattle.ext.specs.Kinds.{absent}
+use Rattle.header.specs.Settings.{inner}
+use Rattle.header.specs.Read.{Outline, outline, outlineHeight, readHeader}
 use Rattle.image.specs.Geometry.{rowBytes, paddingMask}
+use Rattle.api.specs.declared.Sniffed.{Sniffed}
+use Rattle.api.specs.declared.Sniffed.the-variants.{Neither}
+use Rattle.api.specs.declared.front.Front.{Front}
+use Rattle.api.specs.declared.front.Front.the-variants.{Sizes, Unread}
+use Rattle.api.specs.declared.front.Short.{Short}
+use Rattle.api.specs.declared.front.Short.the-variants.{Value, Longer}
+use Rattle.api.specs.Sniff.{sniffBody}
 
 -- the bytes and the mask of rows that have bytes
 pub record Rows (width row mask : ℕ) : Type 0 where
   pub some : 0 < row
   pub rowIs : row ≡ rowBytes width
   pub maskIs : mask ≡ paddingMask width
+
+-- sizes that are not 0, and a body within a file
+pub record Sized (width height start size : ℕ) : Type 0 where
+  pub wide : 0 < width
+  pub high : 0 < height
+  pub within : start ≤ size
+
+-- what is said of a file with these sizes
+abbrev pub sniffSizes : List ℕ → ℕ → ℕ → ℕ → Sniffed
+sniffSizes bytes width height start =
+    if (leb width 16384 && leb height 16384) (sniffBody width height (drop start bytes)) Neither
+
+-- an integer that was told is the one at the offset
+abbrev pub Reads : List ℕ → ℕ → Short → Type 0
+Reads s at (Value value next) = readMbi true s at ≡ gives (value, next)
+Reads s at Longer = Unit {0}
+
+-- the header without fields
+abbrev pub plain : ℕ → ℕ → ℕ → Outline
+plain w h b = record { width = w; height = h; fix = 0; fields = absent; body = b }
+
+-- sizes that were told are those of the header
+abbrev pub Heights : List ℕ → ℕ → ℕ → Front → Type 0
+Heights s width at (Sizes w h b) = outlineHeight true s 0 absent (width, at) ≡ gives (plain w h b)
+Heights s width at Unread = Unit {0}
+
+abbrev pub Fronts : List ℕ → Front → Type 0
+Fronts s (Sizes w h b) = map outline (readHeader (inner true) s) ≡ gives (plain w h b)
+Fronts s Unread = Unit {0}

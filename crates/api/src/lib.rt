@@ -3,6 +3,7 @@ use error::WbmpError;
 use header::HeaderFields;
 
 mod facts;
+mod front;
 mod sniffing;
 
 pub use facts::info;

@@ -1,12 +1,14 @@
 // Whether bytes are a whole file, the front of one, or neither.
 use crate::Sniffed;
+use crate::front::Front;
+use crate::front::short_header;
 use header::HeaderRead;
 use image::PlaneLayout;
 ghost use mathlib.Core.Path.{_≡_};
 ghost use Prim.Native.Nat.{_<_, _+_, _-_, _*_, _/_};
 ghost use lib.ListN.{length};
 ghost use Rattle.api.specs.Sniff.{isClear, areClear, sniffLength, sniffBody, sniffed, isExact};
-ghost use Rattle.api.specs.Parts.{Rows};
+ghost use Rattle.api.specs.Parts.{Rows, Sized, sniffSizes};
 
 // The largest width and height that are taken for an image's.
 pub const PROBE_MAX_DIMENSION: u32 = 16384;
@@ -89,24 +91,41 @@ fn sniff_body(width: u32, height: u32, body: &[u8]) -> Sniffed
     sniff_length(plane, size)
 }
 
+// What is said of a file whose header has these sizes.
+fn sniff_sizes(bytes: &[u8], width: u32, height: u32, start: usize) -> Sniffed
+    requires { ⌜ Sized width height start (length (now bytes)) ⌝ }
+    ensures { λ r. ⌜ r ≡ sniffSizes (now (bytes .entry)) width height start ⌝ }
+{
+    if width > PROBE_MAX_DIMENSION {
+        return Sniffed::Neither;
+    }
+    if height > PROBE_MAX_DIMENSION {
+        return Sniffed::Neither;
+    }
+    sniff_body(width, height, &bytes[start..])
+}
+
+// A file with any header.
+fn sniff_any(bytes: &[u8]) -> Sniffed
+    ensures { λ r. ⌜ r ≡ sniffed (now (bytes .entry)) ⌝ }
+{
+    match header::parse_header_inner(bytes, true) {
+        HeaderRead::Header(h) => sniff_sizes(bytes, h.width, h.height, h.data_offset),
+        HeaderRead::Refused(_) => Sniffed::Neither,
+    }
+}
+
 // A header of 00 00 and shortest sizes, then rows with clear padding: exact with 1 to 16 whole planes, truncated short of one.
 pub fn sniff(bytes: &[u8]) -> Sniffed
     ensures { λ r. ⌜ r ≡ sniffed (now (bytes .entry)) ⌝ }
 {
-    match header::parse_header_inner(bytes, true) {
-        HeaderRead::Header(h) => {
-            let start = h.data_offset;
-            let width = h.width;
-            let height = h.height;
-            if width > PROBE_MAX_DIMENSION {
-                return Sniffed::Neither;
-            }
-            if height > PROBE_MAX_DIMENSION {
-                return Sniffed::Neither;
-            }
-            sniff_body(width, height, &bytes[start..])
-        }
-        HeaderRead::Refused(_) => Sniffed::Neither,
+    match short_header(bytes) {
+        Front::Sizes {
+            width,
+            height,
+            start,
+        } => sniff_sizes(bytes, width, height, start),
+        Front::Unread => sniff_any(bytes),
     }
 }
 
