@@ -1,15 +1,17 @@
 -- A plane of 9 by 2 dots with a byte between its rows and dirty padding: the laws on planes hold of something.
 use Prim.Native.Nat.{ℕ}
 use mathlib.Core.Path.{_≡_, refl}
-use mathlib.Core.List.{List, [], _∷_}
+use mathlib.Core.List.{List, [], _∷_, _++_}
 use native.Mathlib.Omega.{arith}
-use lib.ListN.{length}
+use lib.ListN.{length, take, drop}
 use Rattle.error.specs.Answer.{gives, refuses}
 use Rattle.laws.proofs.Octets.{Octets, octets-by}
 use Rattle.image.specs.Dots.{bitAt, isWhite}
 use Rattle.image.specs.Geometry.{checkGeometry}
-use Rattle.image.specs.Rows.{clearPadding, convertRow, convertRows, convertFormat, wireRow, wireBits}
+use Rattle.image.specs.Parts.{clearRows}
+use Rattle.image.specs.Rows.{clearPadding, invert, convertRow, convertRows, convertFormat, wireRow, wireBits}
 use Rattle.image.specs.declared.PixelFormat.the-variants.{MonoBlack, MonoWhite}
+use Rattle.image.proofs.AtOnce.{converts-at-once, wires-at-once}
 use Rattle.image.proofs.ConvertDots.{Converts, cleared, converted-twice, converted-dots}
 use Rattle.image.proofs.WireDots.{wire-dots, shown-dots, wire-padding}
 
@@ -57,3 +59,13 @@ shown-dot = shown-dots MonoWhite 9 2 3 plane passes bytes 8 1
 
 clear-bit : bitAt 2 (wireBits MonoWhite 9 2 3 plane) 15 1 ≡ 0
 clear-bit = wire-padding MonoWhite 9 2 3 plane 15 1 (omega arith) (omega arith) (omega arith)
+
+-- the same rows without a gap, and a byte after them: at once is as row by row
+abbrev packed : List ℕ
+packed = 255 ∷ 129 ∷ 0 ∷ 1 ∷ 77 ∷ []
+
+at-once : clearRows 9 2 (invert (take 4 packed)) ++ drop 4 packed ≡ convertRows 9 2 2 0 packed
+at-once = converts-at-once 9 2 packed (omega arith)
+
+wired-at-once : clearRows 9 2 (invert (take 4 packed)) ≡ wireBits MonoWhite 9 2 2 packed
+wired-at-once = wires-at-once 9 2 packed (omega arith) MonoWhite

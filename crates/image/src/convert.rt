@@ -15,7 +15,7 @@ ghost use mathlib.Core.Path.{_≡_};
 ghost use lib.ListN.{length};
 ghost use Rattle.error.specs.Answer.{gives, written};
 ghost use Rattle.error.specs.Emits.{Emits};
-ghost use Rattle.image.specs.Geometry.{rowBytes, planeBytes, paddingMask};
+ghost use Rattle.image.specs.Geometry.{rowBytes, planeBytes};
 ghost use Rattle.image.specs.Parts.{maskLast, clearRows};
 ghost use Rattle.image.specs.Rows.{convertFormat, convertRows, invert};
 
