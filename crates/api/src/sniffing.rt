@@ -61,6 +61,9 @@ fn sniff_length(plane: usize, size: usize) -> Sniffed
     requires { ⌜ 0 < plane ⌝ }
     ensures { λ r. ⌜ r ≡ sniffLength plane size ⌝ }
 {
+    if size == plane {
+        return Sniffed::Exact;
+    }
     if size < plane {
         return Sniffed::Truncated;
     }

@@ -1,26 +1,40 @@
-use mathlib.Core.Path.{sym}
+use Prim.Native.Nat.{_%_, _/_}
+use mathlib.Core.Path.{_≡_, sym, ap, _∙_}
+use native.Mathlib.Nat.{mod-self, div-self}
+use native.Mathlib.Omega.{arith}
 use borrow.Author.Needs.{needs}
 use borrow.Author.Tests.{lt-ltb, le-ltb, le-leb, lt-leb, eq-eqb, ne-eqb}
 use Rattle.api.proofs.sniffing.sniff_length.Statement.{statement}
 use Rattle.api.proofs.sniffing.sniff_length.Tie as tie
 
+-- one plane
 returns : tie.Need-returns
-returns c = sym (simp (lt-ltb _ _ (c .if1 .taken)))
-
-rem-if2 : tie.Need-rem-if2
-rem-if2 c = search needs
+returns c =
+    let s = c .before in
+    let plane = s .args .plane in
+    let size = s .args .size in
+    let e : size ≡ plane = c .if1 .taken in
+    let m : size % plane ≡ 0 = ap (λ n. n % plane) e ∙ mod-self plane in
+    let d : size / plane ≡ 1 = ap (λ n. n / plane) e ∙ div-self (s .pre) in
+    sym (simp (le-ltb size plane (omega arith), eq-eqb _ _ m, le-leb (size / plane) 16 (omega arith)))
 
 returns-2 : tie.Need-returns-2
-returns-2 c = sym (simp (le-ltb _ _ (c .before .if1 .left), ne-eqb _ _ (c .if2 .taken)))
+returns-2 c = sym (simp (lt-ltb _ _ (c .if2 .taken)))
 
-div-if3 : tie.Need-div-if3
-div-if3 c = search needs
+rem-if3 : tie.Need-rem-if3
+rem-if3 c = search needs
 
 returns-3 : tie.Need-returns-3
-returns-3 c = sym (simp (le-ltb _ _ (c .before .before .if1 .left), eq-eqb _ _ (c .before .if2 .left), lt-leb _ _ (c .if3 .taken)))
+returns-3 c = sym (simp (le-ltb _ _ (c .before .if2 .left), ne-eqb _ _ (c .if3 .taken)))
+
+div-if4 : tie.Need-div-if4
+div-if4 c = search needs
 
 returns-4 : tie.Need-returns-4
-returns-4 c = sym (simp (le-ltb _ _ (c .before .before .if1 .left), eq-eqb _ _ (c .before .if2 .left), le-leb _ _ (c .if3 .left)))
+returns-4 c = sym (simp (le-ltb _ _ (c .before .before .if2 .left), eq-eqb _ _ (c .before .if3 .left), lt-leb _ _ (c .if4 .taken)))
+
+returns-5 : tie.Need-returns-5
+returns-5 c = sym (simp (le-ltb _ _ (c .before .before .if2 .left), eq-eqb _ _ (c .before .if3 .left), le-leb _ _ (c .if4 .left)))
 
 pub sniff-length-spec : {M : Type 1} → statement M
-sniff-length-spec = tie.close (tie.spec returns rem-if2 returns-2 div-if3 returns-3 returns-4)
+sniff-length-spec = tie.close (tie.spec returns returns-2 rem-if3 returns-3 div-if4 returns-4 returns-5)
