@@ -1,0 +1,5 @@
+pub mod Near
+pub mod Places
+pub mod Known
+pub mod Told
+pub mod Unpacked

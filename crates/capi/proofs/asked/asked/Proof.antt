@@ -1,0 +1,46 @@
+use Rattle.capi.proofs.Known.{format-unknown, strict-unknown, known}
+use borrow.Author.Needs.{needs}
+use Rattle.capi.proofs.asked.asked.Statement.{statement}
+use Rattle.capi.proofs.asked.asked.Tie as tie
+
+returns : tie.Need-returns
+returns c = let a = c .before .args in format-unknown (a .format) (a .strict) (a .max-width) (a .max-height) (a .max-pixels) (a .max-bytes) (c .if1 .taken)
+
+returns-2 : tie.Need-returns-2
+returns-2 c = let s = c .before in let a = s .before .args in strict-unknown (a .format) (a .strict) (a .max-width) (a .max-height) (a .max-pixels) (a .max-bytes) (s .if1 .left) (c .if2 .taken)
+
+pixel-format-requires : tie.Need-pixel-format-requires
+pixel-format-requires c κs = search needs
+
+limit-u32-requires : tie.Need-limit-u32-requires
+limit-u32-requires c κs = search needs
+
+limit-u32-requires-2 : tie.Need-limit-u32-requires-2
+limit-u32-requires-2 c κs = search needs
+
+limit-u64-requires : tie.Need-limit-u64-requires
+limit-u64-requires c κs = search needs
+
+limit-u64-requires-2 : tie.Need-limit-u64-requires-2
+limit-u64-requires-2 c κs = search needs
+
+returns-3 : tie.Need-returns-3
+returns-3 c =
+    let p = c .before .before .before .before in
+    let s = p .before in
+    let a = s .before .before .args in
+    known (a .format) (a .strict) (a .max-width) (a .max-height) (a .max-pixels) (a .max-bytes) _ _ _ _ _ (s .if2 .left) (p .pixel-format .ensures)
+    (c .before .before .before .limit-u32 .ensures) (c .before .before .limit-u322 .ensures) (c .before .limit-u64 .ensures) (c .limit-u642 .ensures)
+
+pub asked-spec : {M : Type 1} → statement M
+asked-spec =
+    tie.close
+    (tie.spec
+    returns
+    returns-2
+    pixel-format-requires
+    limit-u32-requires
+    limit-u32-requires-2
+    limit-u64-requires
+    limit-u64-requires-2
+    returns-3)

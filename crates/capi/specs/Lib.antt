@@ -1,0 +1,4 @@
+pub mod Packed
+pub mod Lent
+pub mod Asked
+pub mod Calls

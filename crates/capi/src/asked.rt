@@ -1,0 +1,69 @@
+// The settings that C asks for by numbers.
+use image::PixelFormat;
+use options::DecodeOptions;
+use options::Limit;
+ghost use mathlib.Core.Path.{_≡_};
+ghost use Prim.Native.Nat.{_≤_};
+ghost use Rattle.error.specs.Answer.{gives};
+ghost use Rattle.options.specs.Limits.{bound};
+ghost use Rattle.capi.specs.Asked.{formatOf, limitOf, settingsOf, meaning};
+
+pub(crate) enum Settings {
+    Known(DecodeOptions),
+    Unknown,
+}
+
+fn limit_u32(most: u32) -> Limit
+    ensures { λ r. ⌜ bound r ≡ limitOf 32 most ⌝ }
+{
+    if most == u32::MAX {
+        return Limit::absent();
+    }
+    Limit::at_most(most as u64)
+}
+
+fn limit_u64(most: u64) -> Limit
+    ensures { λ r. ⌜ bound r ≡ limitOf 64 most ⌝ }
+{
+    if most == u64::MAX {
+        return Limit::absent();
+    }
+    Limit::at_most(most)
+}
+
+fn pixel_format(format: u32) -> PixelFormat
+    requires { ⌜ format ≤ 1 ⌝ }
+    ensures { λ r. ⌜ formatOf format ≡ gives r ⌝ }
+{
+    if format == 0 {
+        return PixelFormat::MonoBlack;
+    }
+    PixelFormat::MonoWhite
+}
+
+pub(crate) fn asked(
+    format: u32,
+    strict: u32,
+    max_width: u32,
+    max_height: u32,
+    max_pixels: u64,
+    max_bytes: u64,
+) -> Settings
+    ensures { λ r. ⌜ meaning r ≡ settingsOf format strict «max_width» «max_height» «max_pixels» «max_bytes» ⌝ }
+{
+    if format > 1 {
+        return Settings::Unknown;
+    }
+    if strict > 1 {
+        return Settings::Unknown;
+    }
+    let pixels = pixel_format(format);
+    Settings::Known(DecodeOptions {
+        max_width: limit_u32(max_width),
+        max_height: limit_u32(max_height),
+        max_pixels: limit_u64(max_pixels),
+        max_bytes: limit_u64(max_bytes),
+        strict: strict == 1,
+        format: pixels,
+    })
+}
