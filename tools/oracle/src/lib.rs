@@ -3,6 +3,15 @@
 //! `build.sh` links `target/oracle/rust` to the folder of the Rust files.
 
 #[allow(dead_code)]
+#[path = "../../../target/oracle/rust/api.rs"]
+pub mod api;
+#[allow(dead_code, unexpected_cfgs)]
+#[path = "../../../target/oracle/rust/decoder.rs"]
+pub mod decoder;
+#[allow(dead_code, unexpected_cfgs)]
+#[path = "../../../target/oracle/rust/encoder.rs"]
+pub mod encoder;
+#[allow(dead_code)]
 #[path = "../../../target/oracle/rust/error.rs"]
 pub mod error;
 #[allow(dead_code)]
@@ -27,7 +36,10 @@ pub mod options;
 #[path = "../../../target/oracle/rust/quantize.rs"]
 pub mod quantize;
 
+pub use error::WbmpError;
+
 pub mod answer;
+pub mod calls;
 pub mod numbers;
 pub mod planes;
 pub mod readers;
