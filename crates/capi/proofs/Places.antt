@@ -4,7 +4,7 @@ use mathlib.Core.Path.{_≡_, refl, sym, ap, _∙_, subst}
 use mathlib.Core.Bool.{Bool, true, false}
 use mathlib.Core.List.{List}
 use native.Mathlib.Omega.{arith}
-use lib.Dec.{ltb, leb, eqb}
+use lib.Dec.{ltb, leb}
 use lib.ListN.{length}
 use Rattle.error.specs.Choice.{if}
 use Rattle.error.specs.Answer.{Answer, gives, refuses, bind, map}
@@ -14,7 +14,6 @@ use Rattle.decoder.specs.Body.{planeOf, framesIn}
 use Rattle.decoder.specs.Image.{imageSettings, headerOf, testBody, readImage}
 use Rattle.decoder.specs.Frames.{Image, imageOf, fitted, decoded}
 use Rattle.api.specs.Info.{Info, infoOf, readInfo}
-use Rattle.capi.specs.Asked.{formatOf, strictOf, settingsOf, readAsked}
 use Rattle.capi.proofs.Near.{Told, told, Placed, header-placed}
 
 -- of an answer: what it refuses
@@ -22,11 +21,11 @@ abbrev pub Numbered : {A : Type 0} → Answer A → Type 0
 Numbered (gives a) = Unit {0}
 Numbered (refuses code offset) = Told code offset
 
-numbered-bind : {A B : Type 0} (x : Answer A) (k : A → Answer B) → Numbered x → ((a : A) → Numbered (k a)) → Numbered (bind x k)
+pub numbered-bind : {A B : Type 0} (x : Answer A) (k : A → Answer B) → Numbered x → ((a : A) → Numbered (k a)) → Numbered (bind x k)
 numbered-bind (gives a) k p q = q a
 numbered-bind (refuses code offset) k p q = p
 
-pick : {A : Type 0} (t : Bool) (x y : Answer A) → Numbered x → Numbered y → Numbered (if t x y)
+pub pick : {A : Type 0} (t : Bool) (x y : Answer A) → Numbered x → Numbered y → Numbered (if t x y)
 pick true x y p q = p
 pick false x y p q = q
 
@@ -69,15 +68,3 @@ info-numbered bytes = go (headerOf false bytes) (header-placed (imageSettings fa
     go : (x : Answer Outline) → Placed x → Numbered (map (infoOf (length bytes)) x)
     go (gives h) p = tt
     go (refuses code offset) p = p
-
-pub asked-numbered : (format strict width height pixels bytes : ℕ) (s : List ℕ) (room : ℕ)
-    → Numbered (readAsked (settingsOf format strict width height pixels bytes) s room)
-unfolding settingsOf
-asked-numbered format strict width height pixels bytes s room =
-    numbered-bind (settingsOf format strict width height pixels bytes) _
-    (numbered-bind (formatOf format) _ (pick (eqb format 0) _ _ tt (pick (eqb format 1) _ _ tt unknown))
-    (λ f. numbered-bind (strictOf strict) _ (pick (eqb strict 0) _ _ tt (pick (eqb strict 1) _ _ tt unknown)) (λ b. tt)))
-    (λ d. decoded-numbered 16 d s room)
-  where
-    unknown : Told 29 0
-    unknown = told (omega arith) (omega arith) (omega arith)

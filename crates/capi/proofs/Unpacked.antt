@@ -1,23 +1,44 @@
--- A packed refusal is told from an acceptance, and its number and offset are had back: r % 256 and r / 256.
+-- A packed refusal is told from an acceptance, and its number and place are had back from the returned number r: r % 256 and r / 256.
 use Prim.Native.Nat.{ℕ, _+_, _*_, _/_, _%_, _<_}
-use mathlib.Core.Path.{_≡_}
-use mathlib.Core.List.{List, []}
+use mathlib.Core.Path.{_≡_, refl}
+use mathlib.Core.List.{List}
 use native.Mathlib.Omega.{arith}
+use lib.Dec.{eqb}
 use Rattle.error.specs.Answer.{Answer, gives, refuses}
-use Rattle.api.specs.Info.{Info, readInfo}
+use Rattle.api.specs.Info.{readInfo}
 use Rattle.capi.specs.Packed.{packed}
-use Rattle.capi.proofs.Near.{Told}
-use Rattle.capi.proofs.Places.{Numbered}
+use Rattle.capi.specs.Asked.{formatOf, strictOf, settingsOf, readAsked}
+use Rattle.capi.proofs.Near.{Told, told}
+use Rattle.capi.proofs.Places.{Numbered, numbered-bind, pick, decoded-numbered, info-numbered}
 
 pub record Unpacked (code offset r : ℕ) : Type 0 where
   pub refused : 0 < r
   pub code-is : r % 256 ≡ code
   pub offset-is : r / 256 ≡ offset
 
-pub unpacked : (code offset : ℕ) → Told code offset → Unpacked code offset (code + 256 * offset)
-unpacked code offset t =
-    record { refused = omega (arith, t .some); code-is = omega (arith, t .small); offset-is = omega (arith, t .small) }
+-- what a returned number says of the answer
+abbrev pub Returned : {A : Type 0} → Answer A → ℕ → Type 0
+Returned (gives a) r = r ≡ 0
+Returned (refuses code offset) r = Unpacked code offset r
 
--- 29 at 0
-example : Unpacked 29 0 29
-example = unpacked 29 0 (record { some = omega arith; small = omega arith; near = omega arith })
+returned : {A : Type 0} (a : Answer A) → Numbered a → Returned a (packed a)
+returned (gives a) n = refl
+returned (refuses code offset) n =
+    record { refused = omega (arith, n .some); code-is = omega (arith, n .small); offset-is = omega (arith, n .small) }
+
+pub info-returned : (bytes : List ℕ) → Returned (readInfo bytes) (packed (readInfo bytes))
+info-returned bytes = returned (readInfo bytes) (info-numbered bytes)
+
+pub read-returned : (format strict width height pixels bytes : ℕ) (s : List ℕ) (room : ℕ)
+    → let a = readAsked (settingsOf format strict width height pixels bytes) s room in
+    Returned a (packed a)
+unfolding settingsOf
+read-returned format strict width height pixels bytes s room =
+    returned (readAsked (settingsOf format strict width height pixels bytes) s room)
+    (numbered-bind (settingsOf format strict width height pixels bytes) _
+    (numbered-bind (formatOf format) _ (pick (eqb format 0) _ _ tt (pick (eqb format 1) _ _ tt unknown))
+    (λ f. numbered-bind (strictOf strict) _ (pick (eqb strict 0) _ _ tt (pick (eqb strict 1) _ _ tt unknown)) (λ b. tt)))
+    (λ d. decoded-numbered 16 d s room))
+  where
+    unknown : Told 29 0
+    unknown = told (omega arith) (omega arith) (omega arith)

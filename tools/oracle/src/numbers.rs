@@ -103,6 +103,19 @@ const TABLE: &[(&str, u8)] = &[
         20,
     ),
     (
+        "invalid data: WBMP: pixel data truncated (need * bytes, got *)",
+        20,
+    ),
+    (
+        "invalid data: WBMP: at least the main image frame is required",
+        21,
+    ),
+    (
+        "invalid data: WBMP: * frames exceeds the §4.5.1 maximum of 16 \
+         (main image + 15 animated sub-images)",
+        21,
+    ),
+    (
         "invalid data: WBMP: gray buffer holds * bytes, *×* needs *",
         22,
     ),

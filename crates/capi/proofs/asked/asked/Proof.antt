@@ -1,13 +1,14 @@
+use native.Mathlib.Omega.{arith}
 use Rattle.capi.proofs.Known.{format-unknown, strict-unknown, known}
 use borrow.Author.Needs.{needs}
 use Rattle.capi.proofs.asked.asked.Statement.{statement}
 use Rattle.capi.proofs.asked.asked.Tie as tie
 
 returns : tie.Need-returns
-returns c = let a = c .before .args in format-unknown (a .format) (a .strict) (a .max-width) (a .max-height) (a .max-pixels) (a .max-bytes) (c .if1 .taken)
+returns c = let a = c .before .args in format-unknown (a .format) (a .strict) (a .max-width) (a .max-height) (a .max-pixels) (a .max-bytes) (omega (arith, c .if1 .taken))
 
 returns-2 : tie.Need-returns-2
-returns-2 c = let s = c .before in let a = s .before .args in strict-unknown (a .format) (a .strict) (a .max-width) (a .max-height) (a .max-pixels) (a .max-bytes) (s .if1 .left) (c .if2 .taken)
+returns-2 c = let s = c .before in let a = s .before .args in strict-unknown (a .format) (a .strict) (a .max-width) (a .max-height) (a .max-pixels) (a .max-bytes) (omega (arith, s .if1 .left)) (omega (arith, c .if2 .taken))
 
 pixel-format-requires : tie.Need-pixel-format-requires
 pixel-format-requires c κs = search needs
@@ -29,7 +30,7 @@ returns-3 c =
     let p = c .before .before .before .before in
     let s = p .before in
     let a = s .before .before .args in
-    known (a .format) (a .strict) (a .max-width) (a .max-height) (a .max-pixels) (a .max-bytes) _ _ _ _ _ (s .if2 .left) (p .pixel-format .ensures)
+    known (a .format) (a .strict) (a .max-width) (a .max-height) (a .max-pixels) (a .max-bytes) _ _ _ _ _ (omega (arith, s .if2 .left)) (p .pixel-format .ensures)
     (c .before .before .before .limit-u32 .ensures) (c .before .before .limit-u322 .ensures) (c .before .limit-u64 .ensures) (c .limit-u642 .ensures)
 
 pub asked-spec : {M : Type 1} → statement M
