@@ -5,6 +5,7 @@
 #[path = "../../capi.rs"]
 mod capi;
 mod check;
+mod edges;
 mod expected;
 mod good;
 mod random;
@@ -28,6 +29,8 @@ fn main() {
     });
     tally.class("0 to 18 planes and a byte around each", planes);
     tally.class("limits at the size, one below, one above", limits);
+    tally.class("integers and sizes at their ends", edges::integers);
+    tally.class("fields around their ceiling", edges::fields);
     tally.class("formats, strictness, output lengths", settings);
     tally.finish();
 }
