@@ -42,14 +42,14 @@ pub extern "C" fn wbmp_info(
     ensures { λ r. ⌜ Informs (now (bytes .entry)) r (now (width .entry), now (width .exit)) (now (height .entry), now (height .exit)) (now (frames .entry), now (frames .exit)) (now (body .entry), now (body .exit)) (now («fix_header» .entry), now («fix_header» .exit)) (now («fields_kind» .entry), now («fields_kind» .exit)) (now («fields_start» .entry), now («fields_start» .exit)) (now («fields_len» .entry), now («fields_len» .exit)) (now (pairs .entry), now (pairs .exit)) ⌝ }
 {
     match api::info(bytes) {
-        InfoRead::Info(i) => {
-            let ext_fields = i.ext_fields;
+        InfoRead::Info(told) => {
+            let ext_fields = told.ext_fields;
             let fields = field_numbers(ext_fields);
-            *width = i.width;
-            *height = i.height;
-            *frames = i.frames;
-            *body = i.data_offset;
-            *fix_header = i.fix_header;
+            *width = told.width;
+            *height = told.height;
+            *frames = told.frames;
+            *body = told.data_offset;
+            *fix_header = told.fix_header;
             *fields_kind = fields.kind;
             *fields_start = fields.start;
             *fields_len = fields.len;
@@ -80,11 +80,11 @@ pub extern "C" fn wbmp_read(
 {
     match asked(format, strict, max_width, max_height, max_pixels, max_bytes) {
         Settings::Known(options) => match decoder::decode_frames(bytes, options, out) {
-            Decoded::Image(i) => {
-                *width = i.width;
-                *height = i.height;
-                *frames = i.frames;
-                *written = i.bytes;
+            Decoded::Image(read) => {
+                *width = read.width;
+                *height = read.height;
+                *frames = read.frames;
+                *written = read.bytes;
                 0
             }
             Decoded::Refused(e) => pack(e),

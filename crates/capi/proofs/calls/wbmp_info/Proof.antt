@@ -15,8 +15,8 @@ info-read c x e = sym (ap meaning e) ∙ c .info .ensures
 info-requires : tie.Need-info-requires
 info-requires c κs = search needs
 
-enum-known-i : tie.Need-enum-known-i
-enum-known-i c = search needs
+enum-known-told : tie.Need-enum-known-told
+enum-known-told c = search needs
 
 field-numbers-requires : tie.Need-field-numbers-requires
 field-numbers-requires c κs = search needs
@@ -35,7 +35,7 @@ returns c =
     let h = c .before .before in
     let k = h .before .before in
     let a = k .before .before .args in
-    informs (now (a .bytes)) _ _ _ _ _ _ _ _ _ (h .i .given .0 .0) _ (info-read k _ (h .i .given .1)) (c .field-numbers .ensures)
+    informs (now (a .bytes)) _ _ _ _ _ _ _ _ _ (h .told .given .0 .0) _ (info-read k _ (h .told .given .1)) (c .field-numbers .ensures)
 
 returns-2 : tie.Need-returns-2
 returns-2 c =
@@ -49,7 +49,7 @@ wbmp-info-spec =
     tie.close
     (tie.spec
     info-requires
-    enum-known-i
+    enum-known-told
     field-numbers-requires
     enum-known-e
     pack-requires

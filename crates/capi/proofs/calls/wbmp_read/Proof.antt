@@ -38,8 +38,8 @@ enum-known-options c = search needs
 decode-frames-requires : tie.Need-decode-frames-requires
 decode-frames-requires c κs = search needs
 
-enum-known-i : tie.Need-enum-known-i
-enum-known-i c = search needs
+enum-known-read : tie.Need-enum-known-read
+enum-known-read c = search needs
 
 enum-known-e : tie.Need-enum-known-e
 enum-known-e c = search needs
@@ -69,7 +69,7 @@ returns c =
     let o = d .before .before .before in
     let k = o .before .before in
     let a = k .before .before .before .args in
-    reads _ (now (a .bytes)) (now (a .out)) _ _ _ _ (decoding (o .options .given .0 .0)) _ (h .i .given .0 .0) (settings-read k _ (o .options .given .1)) (decodes d _ (h .i .given .1))
+    reads _ (now (a .bytes)) (now (a .out)) _ _ _ _ (decoding (o .options .given .0 .0)) _ (h .read .given .0 .0) (settings-read k _ (o .options .given .1)) (decodes d _ (h .read .given .1))
 
 same-length-2 : tie.Need-same-length-2
 same-length-2 c = search needs
@@ -96,7 +96,7 @@ wbmp-read-spec =
     asked-requires
     enum-known-options
     decode-frames-requires
-    enum-known-i
+    enum-known-read
     enum-known-e
     pack-requires
     enum-told
