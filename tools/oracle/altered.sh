@@ -1,6 +1,6 @@
 #!/bin/bash
 # Shows that the replay of a list with one altered answer fails and shows the case: a refusal's
-# number, a place and a written byte are altered, each in its own copy of the list.
+# number, a place, a written byte, a frame count and a dot are altered, each in its own copy.
 # Run after `rt check vectors`; ends with 0 only if every alteration is reported.
 set -eu
 cd "$(dirname "$0")/../.."
@@ -30,3 +30,7 @@ alter "number altered" '\x00\x01\x05\x7F\x80\x81\x8F\x90\xFF\x01\x01\x01\x01\x01
 alter "place altered" '\x01\x01\x02\x01\x07\x00' 4 '\x06'
 # The five bytes of 4,294,967,295, the last made 7E.
 alter "byte altered" '\x01\x01\x02\x00\x05\x01\x01\x05\x8F\xFF\xFF\xFF\x7F' 12 '\x7E'
+# A plane of 9 by 1 read as MonoBlack, FF 81: its frame count made 2, then its last byte 80.
+plane='\x01\x01\x06\x00\x02\x09\x01\x01\x04\x01\x01\x02\xFF\x81'
+alter "frames altered" "$plane" 7 '\x02'
+alter "dot altered" "$plane" 13 '\x80'

@@ -11,20 +11,25 @@ pub struct Match {
     pub next: usize,
 }
 
-pub fn refused(e: WbmpError) -> [usize; 9] {
-    [e.code as usize, e.offset, 0, 0, 0, 0, 0, 0, 0]
+// An answer of few numbers.
+pub fn few(a: usize, b: usize, c: usize, d: usize) -> [usize; 11] {
+    [a, b, c, d, 0, 0, 0, 0, 0, 0, 0]
 }
 
-pub fn checked(c: Checked) -> [usize; 9] {
+pub fn refused(e: WbmpError) -> [usize; 11] {
+    few(e.code as usize, e.offset, 0, 0)
+}
+
+pub fn checked(c: Checked) -> [usize; 11] {
     match c {
-        Checked::Accepted => [0; 9],
+        Checked::Accepted => [0; 11],
         Checked::Refused(e) => refused(e),
     }
 }
 
-pub fn written(w: Written) -> [usize; 9] {
+pub fn written(w: Written) -> [usize; 11] {
     match w {
-        Written::Bytes(n) => [0, n, 0, 0, 0, 0, 0, 0, 0],
+        Written::Bytes(n) => few(0, n, 0, 0),
         Written::Refused(e) => refused(e),
     }
 }
@@ -38,7 +43,7 @@ fn either(a: bool, b: bool) -> bool {
 }
 
 // Whether `got` is one of the answers that the list accepts.
-pub fn accepted(list: &[u8], start: usize, got: &[usize; 9]) -> Match {
+pub fn accepted(list: &[u8], start: usize, got: &[usize; 11]) -> Match {
     let head = number(list, start);
     let choices = head.value;
     let mut next = head.next;
@@ -53,13 +58,13 @@ pub fn accepted(list: &[u8], start: usize, got: &[usize; 9]) -> Match {
     Match { same, next }
 }
 
-fn equals(list: &[u8], start: usize, got: &[usize; 9]) -> Match {
+fn equals(list: &[u8], start: usize, got: &[usize; 11]) -> Match {
     let head = number(list, start);
     let size = head.value;
     let mut next = head.next;
     let mut same = true;
     let mut i = 0;
-    while i < 9 {
+    while i < 11 {
         let n = number_if(i < size, list, next);
         same = both(same, n.value == got[i]);
         next = n.next;

@@ -20,12 +20,12 @@ pub struct Replayed {
     pub next: usize,
 }
 
-// Operations from 16 on are writers; 32 works in place.
+// Operations from 32 on are writers; 64 works in place.
 pub fn replay(list: &[u8], start: usize, operation: usize, input: &[u8]) -> Replayed {
-    if operation >= 32 {
+    if operation >= 64 {
         return replay_in_place(list, start, input);
     }
-    if operation >= 16 {
+    if operation >= 32 {
         return replay_writer(list, start, operation, input);
     }
     let got = answer(operation, input);
@@ -42,7 +42,7 @@ pub fn replay(list: &[u8], start: usize, operation: usize, input: &[u8]) -> Repl
 // refused one gets none and some.
 fn replay_writer(list: &[u8], start: usize, operation: usize, input: &[u8]) -> Replayed {
     let mut want = [0u8; TEXT];
-    let answers = accepted(list, start, &[0; 9]);
+    let answers = accepted(list, start, &[0; 11]);
     let output = text(list, answers.next, &mut want);
     let n = least(output.len, TEXT - 1);
     if n == 0 {
@@ -101,7 +101,7 @@ fn tried(
 }
 
 // The refusal of an output that is too short.
-fn is_short(got: [usize; 9]) -> bool {
+fn is_short(got: [usize; 11]) -> bool {
     both(got[0] == 25, got[1] == 0)
 }
 

@@ -2,6 +2,7 @@
 // comparisons it made; a wrong answer prints its case.
 mod answer;
 mod case;
+mod files;
 mod group;
 mod input;
 mod list;

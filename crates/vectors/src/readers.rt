@@ -1,6 +1,8 @@
 // The answers of the readers, the checks and the lookup.
 use crate::answer::checked;
+use crate::answer::few;
 use crate::answer::refused;
+use crate::files;
 use crate::input::behind;
 use crate::input::byte;
 use crate::input::front;
@@ -20,7 +22,7 @@ use header::HeaderRead;
 use header::ParsedHeader;
 use mbi::MbiRead;
 
-pub fn answer(operation: usize, input: &[u8]) -> [usize; 9] {
+pub fn answer(operation: usize, input: &[u8]) -> [usize; 11] {
     match operation {
         0 => integer(input, false),
         1 => integer(input, true),
@@ -36,11 +38,14 @@ pub fn answer(operation: usize, input: &[u8]) -> [usize; 9] {
         12 => planes::white(input),
         13 => planes::geometry(input),
         14 => settings::check(input),
-        _ => [0, mbi::mbi_u32_len(long(input, 0)), 0, 0, 0, 0, 0, 0, 0],
+        15 => files::info(input),
+        16 => files::sniff(input),
+        17 => files::probe(input),
+        _ => few(0, mbi::mbi_u32_len(long(input, 0)), 0, 0),
     }
 }
 
-fn integer(input: &[u8], strict: bool) -> [usize; 9] {
+fn integer(input: &[u8], strict: bool) -> [usize; 11] {
     let offset = short(input, 0);
     let bytes = behind(input, 2);
     let read = if strict {
@@ -49,12 +54,12 @@ fn integer(input: &[u8], strict: bool) -> [usize; 9] {
         mbi::read_mbi_u32(bytes, offset)
     };
     match read {
-        MbiRead::Value { value, offset } => [0, offset, value as usize, 0, 0, 0, 0, 0, 0],
+        MbiRead::Value { value, offset } => few(0, offset, value as usize, 0),
         MbiRead::Refused(e) => refused(e),
     }
 }
 
-fn fields(input: &[u8], strict: bool) -> [usize; 9] {
+fn fields(input: &[u8], strict: bool) -> [usize; 11] {
     let offset = short(input, 0);
     let bytes = behind(input, 2);
     let fix = FixHeaderField::from_byte(byte_at(bytes, 0));
@@ -64,10 +69,10 @@ fn fields(input: &[u8], strict: bool) -> [usize; 9] {
         ext::parse_ext_fields(fix, bytes, offset)
     };
     match read {
-        ExtRead::Absent => [0; 9],
+        ExtRead::Absent => [0; 11],
         ExtRead::Fields(f) => {
             let kind = f.ext_type;
-            [0, 0, kind_of(kind), f.start, f.len, f.pairs, 0, 0, 0]
+            [0, 0, kind_of(kind), f.start, f.len, f.pairs, 0, 0, 0, 0, 0]
         }
         ExtRead::Refused(e) => refused(e),
     }
@@ -83,61 +88,68 @@ fn kind_of(kind: ExtFieldType) -> usize {
     }
 }
 
-fn header(read: HeaderRead) -> [usize; 9] {
+fn header(read: HeaderRead) -> [usize; 11] {
     match read {
         HeaderRead::Header(h) => sizes(h),
         HeaderRead::Refused(e) => refused(e),
     }
 }
 
-fn sizes(h: ParsedHeader) -> [usize; 9] {
+fn sizes(h: ParsedHeader) -> [usize; 11] {
     let ext = h.ext_fields;
     let width = h.width as usize;
     let height = h.height as usize;
     let fix = h.fix_header as usize;
+    let f = fields_of(ext);
+    [
+        0,
+        h.data_offset,
+        width,
+        height,
+        fix,
+        f[0],
+        f[1],
+        f[2],
+        f[3],
+        0,
+        0,
+    ]
+}
+
+// The kind, where the fields start, their length and the number of pairs.
+pub fn fields_of(ext: HeaderFields) -> [usize; 4] {
     match ext {
-        HeaderFields::Absent => [0, h.data_offset, width, height, fix, 0, 0, 0, 0],
+        HeaderFields::Absent => [0; 4],
         HeaderFields::Fields(f) => {
             let kind = f.ext_type;
-            let kind = kind_of(kind);
-            [
-                0,
-                h.data_offset,
-                width,
-                height,
-                fix,
-                kind,
-                f.start,
-                f.len,
-                f.pairs,
-            ]
+            [kind_of(kind), f.start, f.len, f.pairs]
         }
     }
 }
 
-fn lookup(input: &[u8]) -> [usize; 9] {
+fn lookup(input: &[u8]) -> [usize; 11] {
     let size = byte(input, 0);
     let identifier = front(behind(input, 1), size);
     let rest = behind(behind(input, 1), size);
     let bytes = behind(rest, 2);
     let fix = FixHeaderField::from_byte(byte_at(bytes, 0));
     match ext::find::lookup(fix, bytes, short(rest, 0), identifier) {
-        Lookup::Nothing => [0; 9],
-        Lookup::Value { start, len } => [0, 0, 1, start, len, 0, 0, 0, 0],
+        Lookup::Nothing => [0; 11],
+        Lookup::Value { start, len } => [0, 0, 1, start, len, 0, 0, 0, 0, 0, 0],
         Lookup::Refused(e) => refused(e),
     }
 }
 
-fn validate(input: &[u8]) -> [usize; 9] {
+fn validate(input: &[u8]) -> [usize; 11] {
     let size = byte(input, 0);
     let identifier = front(behind(input, 1), size);
     let value = behind(behind(input, 1), size);
     checked(Parameter::validate(identifier, value))
 }
 
-fn from_byte(input: &[u8]) -> [usize; 9] {
+fn from_byte(input: &[u8]) -> [usize; 11] {
     let fix = FixHeaderField::from_byte(byte_at(input, 0));
     let follow = fix.ext_fields_follow as usize;
     let kind = fix.ext_type;
-    [0, fix.raw as usize, follow, kind_of(kind), 0, 0, 0, 0, 0]
+    few(0, fix.raw as usize, follow, kind_of(kind))
 }

@@ -1,5 +1,7 @@
 // Scans of gray made dots by the three rules. A case's input is the rule's number, width and
 // height in four bytes each, and the gray samples.
+use crate::answer::both;
+use crate::answer::few;
 use crate::input::behind;
 use crate::input::byte;
 use crate::input::least;
@@ -29,10 +31,25 @@ pub fn ordered(input: &[u8], out: &mut [u8]) -> Written {
     quantize::ordered_bits(long(input, 1), long(input, 5), gray, side, out)
 }
 
-// The rule's number is the length of the work buffer.
-pub fn dither(input: &[u8], out: &mut [u8]) -> Written {
+// The rule's number is the length of the work buffer. A refusal has to leave the whole buffer as it
+// was: the third number tells if it does not.
+pub fn dither(input: &[u8], out: &mut [u8]) -> [usize; 11] {
     let mut work = [DIRT; WORK];
-    dither_within(&mut work, input, out)
+    match dither_within(&mut work, input, out) {
+        Written::Bytes(n) => few(0, n, 0, 0),
+        Written::Refused(e) => few(e.code as usize, e.offset, !unaltered(&work) as usize, 0),
+    }
+}
+
+// Whether every number of the work buffer is as it was.
+fn unaltered(work: &[i16; WORK]) -> bool {
+    let mut same = true;
+    let mut i = 0;
+    while i < WORK {
+        same = both(same, work[i] == DIRT);
+        i += 1;
+    }
+    same
 }
 
 fn dither_within(work: &mut [i16], input: &[u8], out: &mut [u8]) -> Written {

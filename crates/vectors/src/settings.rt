@@ -1,20 +1,30 @@
 // The test of the limits. A case's input is which limits, width and height in four bytes each,
-// the plane's bytes in eight, the offset in two, and a letter for each limit.
+// the plane's bytes in eight, the offset in two, and a letter for each limit. Where a file is read,
+// the offset's place holds the format and 1 for strict.
 use crate::answer::checked;
 use crate::input::byte;
 use crate::input::long;
 use crate::input::longest;
 use crate::input::short;
+use crate::planes::format_of;
 use options::DecodeOptions;
 use options::Limit;
 use options::limits::WbmpLimits;
 
-pub fn check(input: &[u8]) -> [usize; 9] {
+pub fn check(input: &[u8]) -> [usize; 11] {
     let width = long(input, 1);
     let height = long(input, 5);
     let bytes = longest(input, 9);
     let offset = short(input, 17);
     checked(options_of(input, width, height, bytes).check(width, height, bytes, offset))
+}
+
+// The settings of reading a file.
+pub fn reading(input: &[u8]) -> DecodeOptions {
+    let options = options_of(input, long(input, 1), long(input, 5), longest(input, 9));
+    options
+        .with_format(format_of(byte(input, 17)))
+        .with_strict(byte(input, 18) == 1)
 }
 
 fn options_of(input: &[u8], width: u32, height: u32, bytes: u64) -> DecodeOptions {

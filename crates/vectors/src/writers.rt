@@ -1,5 +1,6 @@
 // Calling a writer with the arguments that a case's input holds.
 use crate::answer::written;
+use crate::files;
 use crate::input::behind;
 use crate::input::byte;
 use crate::input::front;
@@ -18,24 +19,26 @@ use header::ExtPresence;
 const LENGTHS: usize = 4096;
 
 // The answer where `size` bytes of the output are lent.
-pub fn write_within(operation: usize, input: &[u8], out: &mut [u8], size: usize) -> [usize; 9] {
+pub fn write_within(operation: usize, input: &[u8], out: &mut [u8], size: usize) -> [usize; 11] {
     let start = 0;
     let end = least(size, out.len());
     write(operation, input, &mut out[start..end])
 }
 
-fn write(operation: usize, input: &[u8], out: &mut [u8]) -> [usize; 9] {
+fn write(operation: usize, input: &[u8], out: &mut [u8]) -> [usize; 11] {
     match operation {
-        16 => written(mbi::write_mbi_u32(long(input, 0), out)),
-        17 => written(fields(input, false, out)),
-        18 => written(fields(input, true, out)),
-        19 => written(header::write_header(long(input, 0), long(input, 4), out)),
-        20 => written(with_fields(input, false, out)),
-        21 => written(with_fields(input, true, out)),
-        22 => written(planes::wire(input, out)),
-        23 => written(scans::threshold(input, out)),
-        24 => written(scans::dither(input, out)),
-        _ => written(scans::ordered(input, out)),
+        32 => written(mbi::write_mbi_u32(long(input, 0), out)),
+        33 => written(fields(input, false, out)),
+        34 => written(fields(input, true, out)),
+        35 => written(header::write_header(long(input, 0), long(input, 4), out)),
+        36 => written(with_fields(input, false, out)),
+        37 => written(with_fields(input, true, out)),
+        38 => written(planes::wire(input, out)),
+        39 => written(scans::threshold(input, out)),
+        40 => scans::dither(input, out),
+        41 => written(scans::ordered(input, out)),
+        42 => files::decode(input, false, out),
+        _ => files::decode(input, true, out),
     }
 }
 

@@ -1,7 +1,7 @@
 //! Groups of cases: an operation and the inputs it is tried on.
 
 use oracle::answer::Answer;
-use oracle::{planes, readers, replay, scans, settings, writers};
+use oracle::{files, planes, readers, replay, scans, settings, writers};
 
 #[derive(Clone, Copy)]
 pub enum Operation {
@@ -24,10 +24,15 @@ pub enum Operation {
     Dither,
     Ordered,
     ConvertFormat,
+    Info,
+    Sniff,
+    Probe,
+    DecodeImage,
+    DecodeFrames,
 }
 
 impl Operation {
-    /// Its number in the list; writers have 16 to 31, and what works in place 32.
+    /// Its number in the list; writers have 32 to 63, and what works in place 64.
     pub fn number(self) -> u8 {
         match self {
             Operation::Integer { strict } => u8::from(strict),
@@ -37,23 +42,28 @@ impl Operation {
             Operation::Validate => 9,
             Operation::FromByte => 10,
             Operation::IntegerLen => 11,
-            Operation::WriteInteger => 16,
-            Operation::WriteFields { strict } => 17 + u8::from(strict),
-            Operation::WriteHeader => 19,
-            Operation::WriteHeaderExt { strict } => 20 + u8::from(strict),
             Operation::IsWhite => 12,
             Operation::Geometry => 13,
             Operation::Check => 14,
-            Operation::WireBits => 22,
-            Operation::Threshold => 23,
-            Operation::Dither => 24,
-            Operation::Ordered => 25,
-            Operation::ConvertFormat => 32,
+            Operation::Info => 15,
+            Operation::Sniff => 16,
+            Operation::Probe => 17,
+            Operation::WriteInteger => 32,
+            Operation::WriteFields { strict } => 33 + u8::from(strict),
+            Operation::WriteHeader => 35,
+            Operation::WriteHeaderExt { strict } => 36 + u8::from(strict),
+            Operation::WireBits => 38,
+            Operation::Threshold => 39,
+            Operation::Dither => 40,
+            Operation::Ordered => 41,
+            Operation::DecodeImage => 42,
+            Operation::DecodeFrames => 43,
+            Operation::ConvertFormat => 64,
         }
     }
 
     pub fn writes(self) -> bool {
-        (16..32).contains(&self.number())
+        (32..64).contains(&self.number())
     }
 
     pub fn answer(self, input: &[u8]) -> Answer {
@@ -77,6 +87,11 @@ impl Operation {
             Operation::Dither => scans::dither(input),
             Operation::Ordered => scans::ordered(input),
             Operation::ConvertFormat => planes::convert_format(input),
+            Operation::Info => files::info(input),
+            Operation::Sniff => files::sniff(input),
+            Operation::Probe => files::probe(input),
+            Operation::DecodeImage => files::image(input),
+            Operation::DecodeFrames => files::frames(input),
         }
     }
 }

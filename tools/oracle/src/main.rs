@@ -1,13 +1,16 @@
 //! Writes the list of the Rust's answers, and what the program that replays it has to print.
 
+mod api_cases;
 mod cases;
 mod ext_cases;
+mod file_cases;
 mod header_cases;
 mod list;
 mod mbi_cases;
 mod plane_cases;
 mod scan_cases;
 mod settings_cases;
+mod stated_cases;
 mod writer_cases;
 
 use cases::Group;
@@ -30,6 +33,9 @@ fn main() {
         plane_cases::groups(),
         settings_cases::groups(),
         scan_cases::groups(),
+        file_cases::groups(),
+        api_cases::groups(),
+        stated_cases::groups(),
     ]
     .concat();
     let mut list = List::new(LINE);

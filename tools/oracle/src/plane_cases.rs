@@ -57,6 +57,19 @@ fn planes() -> Vec<Vec<u8>> {
     planes
 }
 
+/// Planes with strides of 2^56 - 1 up to the largest number, of one row and of several.
+fn wide() -> Vec<Vec<u8>> {
+    let mut planes = Vec::new();
+    for size in [[1, 1], [9, 1], [1, 2], [9, 2], [9, 3], [17, 5]] {
+        for stride in [0x00, 0x01, 0x3F, 0x7F, 0x80, 0xFE, 0xFF] {
+            let mut wide = plane(size, stride, &noise(planes.len(), 5));
+            wide[5] = 0xFF;
+            planes.push(wide);
+        }
+    }
+    planes
+}
+
 /// Formats, row and column 0; width and height; the stride; the plane.
 fn plane(size: [u8; 2], stride: u8, bytes: &[u8]) -> Vec<u8> {
     [&[0; 3], &size[..], &[0, stride], bytes].concat()
@@ -84,7 +97,7 @@ fn dots() -> Vec<Sweep> {
     };
     let mut sweeps = Vec::new();
     for format in [0, 1] {
-        for plane in planes() {
+        for plane in planes().into_iter().chain(wide()) {
             let most = plane[3].max(plane[4]);
             sweeps.push(sweep(&plane, format, (0..=most).collect()));
         }
@@ -98,15 +111,15 @@ fn dots() -> Vec<Sweep> {
 /// Each plane in both formats. Width 0 is left out, for the Rust panics there; so are sizes for
 /// which it would ask for too much memory.
 fn wires() -> Vec<Sweep> {
-    let mut all = planes();
+    let mut all = [planes(), wide()].concat();
     all.push(plane([3, 0], 2, &noise(1, 6)));
     all.into_iter().map(|plane| formats(plane, 2)).collect()
 }
 
 /// Each plane from each format to each.
 fn conversions() -> Vec<Sweep> {
-    let all = planes().into_iter().chain(odd_sizes());
-    all.map(|plane| formats(plane, 4)).collect()
+    let all = [planes(), wide(), odd_sizes()].concat();
+    all.into_iter().map(|plane| formats(plane, 4)).collect()
 }
 
 fn formats(base: Vec<u8>, count: u8) -> Sweep {

@@ -5,7 +5,8 @@ use crate::image::{ColorInfo, Metadata, PixelFormat, Plane, WbmpImage};
 use crate::readers::u32_at;
 
 /// Input: a byte that names two formats; row and column of a dot, width and height, a byte
-/// each, where 255 stands for 4,294,967,295; the stride in two bytes; the plane.
+/// each, where 255 stands for 4,294,967,295; the stride in two bytes, where those from FF00 on
+/// stand for large ones; the plane.
 struct Arguments {
     image: WbmpImage,
     to: PixelFormat,
@@ -19,11 +20,19 @@ fn arguments(input: &[u8]) -> Arguments {
         255 => u32::MAX,
         byte => byte.into(),
     };
-    let stride = usize::from(input[5]) * 256 + usize::from(input[6]);
+    let (width, height) = (size(3), size(4));
+    let stride = match input[5] {
+        0xFF => within(
+            width,
+            height,
+            (usize::from(input[6]) << 56) | 0x00FF_FFFF_FFFF_FFFF,
+        ),
+        high => usize::from(high) * 256 + usize::from(input[6]),
+    };
     Arguments {
         image: WbmpImage {
-            width: size(3),
-            height: size(4),
+            width,
+            height,
             format: format_of(input[0] % 2),
             planes: vec![Plane::new(stride, input[7..].to_vec())],
             color: ColorInfo::wbmp_default(),
@@ -35,7 +44,17 @@ fn arguments(input: &[u8]) -> Arguments {
     }
 }
 
-fn format_of(number: u8) -> PixelFormat {
+/// The stride, unless an index of the plane's last row would pass 64 bits: there the Rust wraps,
+/// and we take the row for missing, as it is with the stride 2^32 that stands for it then.
+fn within(width: u32, height: u32, stride: usize) -> usize {
+    let steps = (height as usize).saturating_sub(1);
+    let last = stride
+        .checked_mul(steps)
+        .and_then(|n| n.checked_add(width.div_ceil(8) as usize));
+    last.map_or(1 << 32, |_| stride)
+}
+
+pub fn format_of(number: u8) -> PixelFormat {
     match number {
         0 => PixelFormat::MonoBlack,
         _ => PixelFormat::MonoWhite,

@@ -9,6 +9,21 @@ use crate::mbi::{read_mbi_u32, read_mbi_u32_strict};
 
 /// The answer of `parse_header_inner`, or of `parse_header_ext_inner` where `ext` is set.
 pub fn header(bytes: &[u8], ext: bool, strict: bool) -> Answer {
+    let (outcome, at) = read(bytes, ext, strict);
+    match outcome {
+        Err(error) => Answer::refused(&error, at.offset),
+        Ok(h) => {
+            let [kind, start, len, pairs] = at.fields(&h, bytes);
+            let sizes = [h.width.into(), h.height.into(), h.fix_header.into()];
+            let [width, height, fix] = sizes;
+            let place = h.data_offset as u64;
+            Answer::of(&[0, place, width, height, fix, kind, start, len, pairs])
+        }
+    }
+}
+
+/// The outcome, and the offsets at which the reading ends.
+pub(crate) fn read(bytes: &[u8], ext: bool, strict: bool) -> (Result<ParsedHeader>, Offsets) {
     let inner = if ext {
         parse_header_ext_inner
     } else {
@@ -21,26 +36,23 @@ pub fn header(bytes: &[u8], ext: bool, strict: bool) -> Answer {
         told(&inner(bytes, strict)),
         "header {bytes:02X?}"
     );
-    match outcome {
-        Err(error) => Answer::refused(&error, at.offset),
-        Ok(h) => {
-            let fields = h.ext_fields.as_ref();
-            let [kind, start, len, pairs] =
-                fields.map_or([0; 4], |f| fields_numbers(f, bytes, at.start, at.end));
-            let sizes = [h.width.into(), h.height.into(), h.fix_header.into()];
-            let [width, height, fix] = sizes;
-            let place = h.data_offset as u64;
-            Answer::of(&[0, place, width, height, fix, kind, start, len, pairs])
-        }
-    }
+    (outcome, at)
 }
 
 /// The offset, and where the fields start and end.
 #[derive(Default)]
-struct Offsets {
-    offset: usize,
+pub(crate) struct Offsets {
+    pub offset: usize,
     start: usize,
     end: usize,
+}
+
+impl Offsets {
+    /// The kind, start, length and pairs of the header's fields; zeros where it has none.
+    pub(crate) fn fields(&self, header: &ParsedHeader, bytes: &[u8]) -> [u64; 4] {
+        let fields = header.ext_fields.as_ref();
+        fields.map_or([0; 4], |f| fields_numbers(f, bytes, self.start, self.end))
+    }
 }
 
 fn told(outcome: &Result<ParsedHeader>) -> std::result::Result<ParsedHeader, String> {

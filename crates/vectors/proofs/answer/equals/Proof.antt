@@ -8,7 +8,7 @@ abbrev Inv-loop : tie.InvT-loop
 Inv-loop list start got size next₀ same₀ i₀ next same i = Unit {0}
 
 abbrev μ-loop : tie.MeasureT-loop
-μ-loop list start got size next₀ same₀ i₀ next same i = 9 - i
+μ-loop list start got size next₀ same₀ i₀ next same i = 11 - i
 
 number-requires : tie.Need-number-requires Inv-loop μ-loop
 number-requires c κs = search needs
