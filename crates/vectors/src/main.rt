@@ -2,6 +2,7 @@
 // comparisons it made; a wrong answer prints its case.
 mod answer;
 mod case;
+mod encoders;
 mod files;
 mod group;
 mod input;

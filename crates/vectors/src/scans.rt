@@ -10,9 +10,9 @@ use crate::list::byte_at;
 use error::Written;
 
 // The longest work buffer, and what it holds before each call.
-const WORK: usize = 64;
+pub const WORK: usize = 64;
 
-const DIRT: i16 = 12345;
+pub const DIRT: i16 = 12345;
 
 // Where the samples start in the input.
 const GRAY: usize = 9;
@@ -31,20 +31,26 @@ pub fn ordered(input: &[u8], out: &mut [u8]) -> Written {
     quantize::ordered_bits(long(input, 1), long(input, 5), gray, side, out)
 }
 
-// The rule's number is the length of the work buffer. A refusal has to leave the whole buffer as it
-// was: the third number tells if it does not.
+// The rule's number is the length of the work buffer.
 pub fn dither(input: &[u8], out: &mut [u8]) -> [usize; 11] {
     let mut work = [DIRT; WORK];
-    match dither_within(&mut work, input, out) {
-        Written::Bytes(n) => few(0, n, 0, 0),
-        Written::Refused(e) => few(e.code as usize, e.offset, !unaltered(&work) as usize, 0),
+    let answer = dither_within(&mut work, input, out);
+    judged(answer, &work, long(input, 1) as usize * 2)
+}
+
+// An answer of a call that may alter the first `used` numbers of the work buffer, and none where it
+// refuses; the third number tells if it altered another.
+pub fn judged(answer: Written, work: &[i16; WORK], used: usize) -> [usize; 11] {
+    match answer {
+        Written::Bytes(n) => few(0, n, !unaltered(work, used) as usize, 0),
+        Written::Refused(e) => few(e.code as usize, e.offset, !unaltered(work, 0) as usize, 0),
     }
 }
 
-// Whether every number of the work buffer is as it was.
-fn unaltered(work: &[i16; WORK]) -> bool {
+// Whether every number of the work buffer from `start` on is as it was.
+fn unaltered(work: &[i16; WORK], start: usize) -> bool {
     let mut same = true;
-    let mut i = 0;
+    let mut i = start;
     while i < WORK {
         same = both(same, work[i] == DIRT);
         i += 1;

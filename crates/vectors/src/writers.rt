@@ -1,5 +1,6 @@
 // Calling a writer with the arguments that a case's input holds.
 use crate::answer::written;
+use crate::encoders;
 use crate::files;
 use crate::input::behind;
 use crate::input::byte;
@@ -38,7 +39,9 @@ fn write(operation: usize, input: &[u8], out: &mut [u8]) -> [usize; 11] {
         40 => scans::dither(input, out),
         41 => written(scans::ordered(input, out)),
         42 => files::decode(input, false, out),
-        _ => files::decode(input, true, out),
+        43 => files::decode(input, true, out),
+        44 => written(encoders::images(input, out)),
+        _ => encoders::gray(input, out),
     }
 }
 
@@ -51,7 +54,7 @@ fn kind_of(number: usize) -> ExtFieldType {
     }
 }
 
-fn presence_of(number: usize) -> ExtPresence {
+pub fn presence_of(number: usize) -> ExtPresence {
     if number == 4 {
         return ExtPresence::Absent;
     }

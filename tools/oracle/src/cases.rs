@@ -1,7 +1,7 @@
 //! Groups of cases: an operation and the inputs it is tried on.
 
 use oracle::answer::Answer;
-use oracle::{files, planes, readers, replay, scans, settings, writers};
+use oracle::{encoders, files, planes, readers, replay, scans, settings, writers};
 
 #[derive(Clone, Copy)]
 pub enum Operation {
@@ -29,6 +29,8 @@ pub enum Operation {
     Probe,
     DecodeImage,
     DecodeFrames,
+    EncodeImages,
+    EncodeGray,
 }
 
 impl Operation {
@@ -58,6 +60,8 @@ impl Operation {
             Operation::Ordered => 41,
             Operation::DecodeImage => 42,
             Operation::DecodeFrames => 43,
+            Operation::EncodeImages => 44,
+            Operation::EncodeGray => 45,
             Operation::ConvertFormat => 64,
         }
     }
@@ -92,6 +96,8 @@ impl Operation {
             Operation::Probe => files::probe(input),
             Operation::DecodeImage => files::image(input),
             Operation::DecodeFrames => files::frames(input),
+            Operation::EncodeImages => encoders::images(input),
+            Operation::EncodeGray => encoders::gray(input),
         }
     }
 }

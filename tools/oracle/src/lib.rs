@@ -40,6 +40,7 @@ pub use error::WbmpError;
 
 pub mod answer;
 pub mod calls;
+pub mod encoders;
 pub mod files;
 pub mod numbers;
 pub mod planes;

@@ -2,12 +2,14 @@
 
 mod api_cases;
 mod cases;
+mod encoder_cases;
 mod ext_cases;
 mod file_cases;
 mod header_cases;
 mod list;
 mod mbi_cases;
 mod plane_cases;
+mod random_cases;
 mod scan_cases;
 mod settings_cases;
 mod stated_cases;
@@ -22,10 +24,28 @@ const LINE: &str = "Answers of the Rust crate oxideav-wbmp 8c7cef09ab, built unc
     Made by tools/oracle/generate.sh; its form is told in tools/oracle/src/list.rs.\n";
 
 fn main() {
-    let [_, list_path, counts_path] = &std::env::args().collect::<Vec<_>>()[..] else {
-        panic!("usage: generate LIST COUNTS");
+    let words: Vec<String> = std::env::args().collect();
+    let (groups, [list_path, counts_path]) = match &words[..] {
+        [_, list, counts] => (fixed(), [list, counts]),
+        [_, list, counts, seed, cases] => (
+            random_cases::groups(number(seed), number(cases) as usize),
+            [list, counts],
+        ),
+        _ => panic!("usage: generate LIST COUNTS [SEED CASES]"),
     };
-    let groups = [
+    let mut list = List::new(LINE);
+    groups.iter().for_each(|group| list.put_group(group));
+    std::fs::write(list_path, list.ended()).expect("the list can be written");
+    std::fs::write(counts_path, counts(&groups)).expect("the counts can be written");
+}
+
+fn number(word: &str) -> u64 {
+    word.parse().expect("a number")
+}
+
+/// The groups of the list that the gate replays.
+fn fixed() -> Vec<Group> {
+    [
         mbi_cases::groups(),
         ext_cases::groups(),
         header_cases::groups(),
@@ -35,13 +55,10 @@ fn main() {
         scan_cases::groups(),
         file_cases::groups(),
         api_cases::groups(),
+        encoder_cases::groups(),
         stated_cases::groups(),
     ]
-    .concat();
-    let mut list = List::new(LINE);
-    groups.iter().for_each(|group| list.put_group(group));
-    std::fs::write(list_path, list.ended()).expect("the list can be written");
-    std::fs::write(counts_path, counts(&groups)).expect("the counts can be written");
+    .concat()
 }
 
 /// A line for each group, its name and its number of comparisons, and one for all.

@@ -7,10 +7,10 @@ use crate::image::WbmpImage;
 use crate::options::Quantize;
 use crate::readers::u32_at;
 
-struct Scan<'a> {
-    width: u32,
-    height: u32,
-    gray: &'a [u8],
+pub(crate) struct Scan<'a> {
+    pub width: u32,
+    pub height: u32,
+    pub gray: &'a [u8],
 }
 
 impl Scan<'_> {
@@ -68,7 +68,7 @@ pub fn ordered(input: &[u8]) -> Answer {
     Answer::written(Ok(()), ordered_bits(&scan, side))
 }
 
-fn ordered_bits(scan: &Scan, side: usize) -> Vec<u8> {
+pub(crate) fn ordered_bits(scan: &Scan, side: usize) -> Vec<u8> {
     let width = scan.width as usize;
     let rows = scan.gray.chunks_exact(width).take(scan.height as usize);
     let mut bits = Vec::new();

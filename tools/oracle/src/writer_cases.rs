@@ -100,7 +100,7 @@ fn chain_sweeps() -> Vec<Sweep> {
 }
 
 /// Kind 11, how many lengths, the lengths, the text.
-fn pairs(pairs: &[(&[u8], &[u8])]) -> Vec<u8> {
+pub fn pairs(pairs: &[(&[u8], &[u8])]) -> Vec<u8> {
     let parts: Vec<&[u8]> = pairs
         .iter()
         .flat_map(|&(name, value)| [name, value])

@@ -51,14 +51,14 @@ pub fn header_with_fields(input: &[u8], strict: bool) -> Answer {
 }
 
 /// Fields to write. The last two cannot be said to the Rust: document 01 gives their numbers.
-enum Fields {
+pub(crate) enum Fields {
     Absent,
     Given(ExtFields),
     NoOctet,
     Unequal,
 }
 
-fn fields_refused(input: &[u8]) -> Answer {
+pub(crate) fn fields_refused(input: &[u8]) -> Answer {
     match fields_at(input) {
         Fields::NoOctet => Answer::of(&[23]),
         Fields::Unequal => Answer::of(&[31]),
@@ -67,7 +67,7 @@ fn fields_refused(input: &[u8]) -> Answer {
 }
 
 /// The kind (4 for none), how many lengths in two bytes, the lengths, the text.
-fn fields_at(input: &[u8]) -> Fields {
+pub(crate) fn fields_at(input: &[u8]) -> Fields {
     let count = usize::from(input[1]) * 256 + usize::from(input[2]);
     let (lengths, text) = input[3..].split_at(count);
     match (input[0], text.first()) {

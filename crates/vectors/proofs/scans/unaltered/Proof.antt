@@ -5,10 +5,10 @@ use Rattle.vectors.proofs.scans.unaltered.Statement.{statement}
 use Rattle.vectors.proofs.scans.unaltered.Tie as tie
 
 abbrev Inv-loop : tie.InvT-loop
-Inv-loop work same₀ i₀ same i = Unit {0}
+Inv-loop work start same₀ i₀ same i = Unit {0}
 
 abbrev μ-loop : tie.MeasureT-loop
-μ-loop work same₀ i₀ same i = 64 - i
+μ-loop work start same₀ i₀ same i = 64 - i
 
 loop-holds : tie.Need-loop-holds Inv-loop μ-loop
 loop-holds c = search needs
