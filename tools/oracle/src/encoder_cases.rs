@@ -49,7 +49,7 @@ impl Front {
 }
 
 /// No fields.
-const ABSENT: &[u8] = &[4, 0, 0];
+pub const ABSENT: &[u8] = &[4, 0, 0];
 
 /// None, good fields of each kind, two that are refused only if strict, and each refusal.
 pub fn fields() -> Vec<Vec<u8>> {

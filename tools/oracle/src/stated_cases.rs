@@ -2,6 +2,7 @@
 //! corners between them, each with the answer that is stated: the generator ends if the unchanged Rust answers otherwise.
 
 use crate::cases::{Group, Operation, Sweep};
+use crate::encoder_cases::{ABSENT, Front};
 use crate::ext_cases::chain_to;
 use crate::file_cases::mode;
 
@@ -35,6 +36,8 @@ pub fn groups() -> Vec<Group> {
         group("stated decode_frames", Operation::DecodeFrames, frames()),
         group("stated info", Operation::Info, told()),
         group("stated sniff", Operation::Sniff, sniffed()),
+        group("stated encode_images", Operation::EncodeImages, files()),
+        group("stated encode_gray8", Operation::EncodeGray, made()),
     ]
 }
 
@@ -234,5 +237,64 @@ fn sniffed() -> Vec<Stated> {
         reads(b"\x00\x01\x09\x02\xFF\x80\x00\x00", &[]),
         reads(&ones(16), &[0, 0, 1]),
         reads(&ones(17), &[]),
+    ]
+}
+
+/// 8, 21, 26, 27, 20: a stride below the row is refused at height 1 too, where a large one is
+/// accepted; one plane past 64 bits is 27, the total 20; planes follow each other without padding
+/// after the last row; surplus is ignored.
+fn files() -> Vec<Stated> {
+    let planes = |width, height, count, stride: u64, planes: &[u8]| {
+        let front = Front {
+            strict: 0,
+            kind: 0,
+            width,
+            height,
+            count,
+            numbers: stride.to_be_bytes(),
+        };
+        front.input(planes, ABSENT)
+    };
+    let two = planes(9, 2, 2, 3, b"\xFF\x80x\x00\x01\x55\x7Fy\xAA\xFFz");
+    vec![
+        reads(&planes(0, 1, 0, 1, b""), &[8]),
+        reads(&planes(1, 1, 17, 0, b""), &[21]),
+        reads(&planes(1, 1, 0, 0, b""), &[21]),
+        reads(&planes(9, 1, 1, 1, b""), &[26]),
+        reads(&planes(1, 3, 1, 1 << 63, b""), &[27]),
+        reads(&planes(1, 2, 2, 1 << 63, b""), &[20]),
+        writes(&planes(1, 1, 1, u64::MAX, b"\xFF"), b"\x00\x00\x01\x01\x80"),
+        writes(&two, b"\x00\x00\x09\x02\xFF\x80\x00\x00\x55\x00\xAA\x80"),
+    ]
+}
+
+/// 8, 21, 29, 28, 22; each frame starts with clean carries; surplus gray is ignored.
+fn made() -> Vec<Stated> {
+    let scans = |width, count, [kind, number, work]: [u8; 3], gray: &[u8]| {
+        let front = Front {
+            strict: 0,
+            kind,
+            width,
+            height: 1,
+            count,
+            numbers: [number, work, 0, 0, 0, 0, 0, 0],
+        };
+        front.input(gray, ABSENT)
+    };
+    vec![
+        reads(&scans(0, 0, [2, 1, 0], b""), &[8]),
+        reads(&scans(1, 17, [2, 1, 0], b""), &[21]),
+        reads(&scans(1, 1, [2, 1, 0], b""), &[29]),
+        reads(&scans(1, 1, [1, 0, 1], b""), &[28]),
+        reads(&scans(1, 1, [1, 0, 2], b""), &[22]),
+        writes(
+            &scans(2, 2, [1, 0, 4], &[127, 128, 127, 128, 9]),
+            b"\x00\x00\x02\x01\x40\x40",
+        ),
+        writes(
+            &scans(9, 1, [0, 0, 0], &[0; 9]),
+            b"\x00\x00\x09\x01\xFF\x80",
+        ),
+        writes(&scans(2, 1, [2, 8, 0], &[1, 2]), b"\x00\x00\x02\x01\x00"),
     ]
 }
