@@ -1,12 +1,11 @@
 -- What a file that is written or made consists of.
 use Prim.Native.Nat.{ℕ, _+_, _≤_, _<_}
 use mathlib.Core.Path.{_≡_, refl, sym, ap, _∙_, subst}
-use mathlib.Core.Bool.{Bool, true, false, _&&_, _||_}
+use mathlib.Core.Bool.{Bool, true, false, _||_}
 use mathlib.Core.List.{List, [], _∷_, _++_}
 use mathlib.Core.Logic.{_⊎_, inl, inr}
 use native.Mathlib.Omega.{arith}
-use borrow.Author.Tests.{leb-true}
-use lib.Dec.{leb, eqb}
+use lib.Dec.{eqb}
 use lib.ListN.{length, drop, length-append}
 use lib.Seq.{drop-at}
 use Rattle.error.specs.Choice.{if}
@@ -26,7 +25,7 @@ use Rattle.header.proofs.RoundTrip.{shown, Fitting, header-back}
 use Rattle.options.specs.declared.EncodeOptions.{EncodeOptions}
 use Rattle.decoder.specs.Image.{imageSettings}
 use Rattle.decoder.proofs.Shaped.{bind-gives, unless, positive, neither}
-use Rattle.encoder.specs.File.{checkCount, fileOf}
+use Rattle.encoder.specs.File.{fileOf}
 use Rattle.conformance.specs.ReadBack.{Taken}
 
 -- the header of the fields, and the body
@@ -111,18 +110,3 @@ fitting false written presence text lengths (pairs ps) e t = (t, refl, refl, λ 
 pub plain : (strict : Bool) → Taken strict none
 plain true = refl
 plain false = tt
-
--- the tests that come first in both orders
-pub record Counted (ceiling count : ℕ) : Type 0 where
-  pub some : 0 < count
-  pub few : count ≤ ceiling
-
-pub counted : (ceiling width height count : ℕ) → checkCount ceiling width height count ≡ gives tt → Counted ceiling count
-counted ceiling width height count =
-    unless (eqb width 0 || eqb height 0) 8 0 _ tt (λ _. go (leb 1 count) (leb count ceiling) refl refl)
-  where
-    go : (t u : Bool) → leb 1 count ≡ t → leb count ceiling ≡ u → _≡_ {A = Answer (Unit {0})} (if (t && u) (gives tt) (refuses 21 0)) (gives tt)
-        → Counted ceiling count
-    go true true p q e = record { some = leb-true 1 count p; few = leb-true count ceiling q }
-    go true false p q e = zero-one (cc)
-    go false u p q e = zero-one (cc)

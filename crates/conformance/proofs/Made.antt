@@ -5,8 +5,6 @@ use mathlib.Core.Bool.{true}
 use mathlib.Core.List.{List, _++_}
 use native.Mathlib.Nat.{mul-le-mul-right}
 use native.Mathlib.Omega.{arith}
-use borrow.Author.Tests.{ltb-false}
-use lib.Dec.{ltb}
 use lib.ListN.{length, take, drop, length-drop}
 use Rattle.error.specs.Answer.{gives}
 use Rattle.ext.specs.Kinds.{Fields, none}
@@ -19,19 +17,19 @@ use Rattle.image.specs.declared.PixelFormat.the-variants.{MonoBlack}
 use Rattle.options.specs.Limits.{Decoding}
 use Rattle.options.specs.declared.EncodeOptions.{EncodeOptions}
 use Rattle.options.specs.declared.Quantize.{Quantize}
-use Rattle.quantize.specs.Engine.{meaning, roomy, setting}
+use Rattle.quantize.specs.Engine.{setting}
 use Rattle.quantize.specs.Finished.{finished}
-use Rattle.quantize.specs.Whole.{knownRule}
 use Rattle.quantize.proofs.Joining.{scans-long, scans-more}
 use Rattle.quantize.proofs.Wholes.{plane-long}
-use Rattle.decoder.proofs.Shaped.{bind-gives, unless, when}
-use Rattle.encoder.specs.File.{checkCount, fileOf}
+use Rattle.decoder.proofs.Shaped.{bind-gives}
+use Rattle.encoder.specs.File.{fileOf}
 use Rattle.encoder.specs.Make.{checkScans, scanBytes, fileOfScans}
+use Rattle.encoder.proofs.Scanned.{Passed as Passes, passed as scans-passed}
 use Rattle.api.specs.Sniff.{isClear, sniffed}
 use Rattle.api.specs.declared.Sniffed.the-variants.{Exact}
 use Rattle.conformance.specs.ReadBack.{Taken, Admitted, planeIn, lentScan, scanWhite, ReadsBack}
 use Rattle.conformance.proofs.Joined.{up-to, piece-back}
-use Rattle.conformance.proofs.Files.{filed, fitting, plain, Counted, counted}
+use Rattle.conformance.proofs.Files.{filed, fitting, plain}
 use Rattle.conformance.proofs.ReadBack.{file-back, renamed}
 use Rattle.conformance.proofs.ScanDots.{finished-octets, finished-last, scan-dots}
 use Rattle.conformance.proofs.SniffsExact.{cleared, file-exact}
@@ -39,27 +37,13 @@ use Rattle.conformance.proofs.SniffsExact.{cleared, file-exact}
 -- the tests that a file's scans have passed
 module _ (ceiling : ℕ) (o : EncodeOptions) (width height count : ℕ) (gray text lengths : List ℕ) (work : ℕ) (bytes : List ℕ) where
   pub record Passed : Type 0 where
-    pub isCounted : Counted ceiling count
-    pub enough : count * (width * height) ≤ length gray
+    pub tests : Passes ceiling (o .quantize) width height count (length gray) work
     pub file : fileOf o width height text lengths (scanBytes (o .quantize) width height gray count) ≡ gives bytes
-
-  tested : fileOf o width height text lengths (scanBytes (o .quantize) width height gray count) ≡ gives bytes
-      → checkScans ceiling (o .quantize) width height count (length gray) work ≡ gives tt → Passed
-  unfolding checkScans
-  tested e =
-      bind-gives (checkCount ceiling width height count) _ tt (λ _ q.
-      when (knownRule (o .quantize)) 29 0 _ tt (
-      when (roomy (meaning (o .quantize)) width work) 28 0 _ tt (
-      unless (ltb (length gray) (count * (width * height))) 22 0 _ tt (λ t _.
-      record {
-        isCounted = counted ceiling width height count q;
-        enough = ltb-false (length gray) (count * (width * height)) t;
-        file = e;
-      }))))
 
   pub passed : fileOfScans ceiling o width height count gray text lengths work ≡ gives bytes → Passed
   unfolding fileOfScans
-  passed = bind-gives (checkScans ceiling (o .quantize) width height count (length gray) work) _ bytes (λ _ p e. tested e p)
+  passed = bind-gives (checkScans ceiling (o .quantize) width height count (length gray) work) _ bytes
+      (λ _ p e. record { tests = scans-passed ceiling (o .quantize) width height count (length gray) work p; file = e })
 
 -- the planes of so many scans
 module _ (rule : Quantize) (width height : ℕ) (gray : List ℕ) (wide : 0 < width) (high : 0 < height) (count : ℕ)
@@ -113,14 +97,14 @@ made-back ceiling d o width height count gray text lengths work bytes fields wb 
     let rule = o .quantize in
     let body = scanBytes rule width height gray count in
     let f = filed o width height text lengths body bytes fields e (p .file) in
-    let planes = body-plane rule width height gray (f .wide) (f .high) count (p .enough) in
+    let planes = body-plane rule width height gray (f .wide) (f .high) count (p .tests .enough) in
     renamed planes
     (λ k x y l.
     ap (λ (s : List ℕ). isWhite MonoBlack width height (rowBytes width) s x y) (planes k l)
-    ∙ scan-dots rule width height (lentScan width height gray k) (made-size rule width height gray (f .wide) (f .high) count (p .enough) k l) x y)
-    (file-back ceiling d (o .strict) width height fields count body bytes f (p .isCounted) wb hb
+    ∙ scan-dots rule width height (lentScan width height gray k) (made-size rule width height gray (f .wide) (f .high) count (p .tests .enough) k l) x y)
+    (file-back ceiling d (o .strict) width height fields count body bytes f (p .tests .sized) wb hb
     (fitting (d .strict) (o .strict) (o .ext) text lengths fields e t) a
-    (body-size rule width height gray (f .wide) (f .high) count (p .enough) count (omega arith))
+    (body-size rule width height gray (f .wide) (f .high) count (p .tests .enough) count (omega arith))
     (finished-octets (setting rule width height count) _))
 
 -- What has no fields is read back strictly too.
@@ -141,6 +125,6 @@ made-exact o width height count gray text lengths work bytes e wb hb w =
     let rule = o .quantize in
     let body = scanBytes rule width height gray count in
     let f = filed o width height text lengths body bytes none (ap (λ (p : ExtPresence). presented p text lengths) e) (p .file) in
-    file-exact (o .strict) width height count body bytes f (p .isCounted) wb hb
-    (body-size rule width height gray (f .wide) (f .high) count (p .enough) count (omega arith))
-    (body-clear rule width height gray (f .wide) (f .high) count (p .enough))
+    file-exact (o .strict) width height count body bytes f (p .tests .sized) wb hb
+    (body-size rule width height gray (f .wide) (f .high) count (p .tests .enough) count (omega arith))
+    (body-clear rule width height gray (f .wide) (f .high) count (p .tests .enough))

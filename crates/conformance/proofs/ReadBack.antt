@@ -26,16 +26,17 @@ use Rattle.decoder.specs.Image.{imageSettings, testBody, readImage}
 use Rattle.decoder.specs.Frames.{imageOf, fitted, decoded, shown}
 use Rattle.decoder.proofs.Counted.{few}
 use Rattle.decoder.proofs.Planed.{planes-length}
+use Rattle.encoder.proofs.Counted.{Counted}
 use Rattle.conformance.specs.ReadBack.{Admitted, planeIn, ReadsBack}
 use Rattle.conformance.proofs.Joined.{up-to, piece-back}
-use Rattle.conformance.proofs.Files.{Filed, head, header-read, behind, size-is, Counted}
+use Rattle.conformance.proofs.Files.{Filed, head, header-read, behind, size-is}
 use Rattle.conformance.proofs.ReadDots.{read-dots}
 
 -- so many planes are counted
-pub planes-counted : (ceiling count plane size : ℕ) → 0 < plane → Counted ceiling count → size ≡ count * plane
+pub planes-counted : (ceiling w h count plane size : ℕ) → 0 < plane → Counted ceiling w h count → size ≡ count * plane
     → 1 + extraFrames (ceiling - 1) plane size ≡ count
-planes-counted ceiling zero plane size p c e = let z : ⊥ = omega (arith, c .some) in absurd z
-planes-counted ceiling (suc n) plane size p c e =
+planes-counted ceiling w h zero plane size p c e = let z : ⊥ = omega (arith, c .some) in absurd z
+planes-counted ceiling w h (suc n) plane size p c e =
     let m : size - plane ≡ n * plane = omega arith in
     let q : (size - plane) / plane ≡ n = ap (λ (k : ℕ). k / plane) m ∙ mul-div-cancel n p in
     let l : (size - plane) / plane ≤ ceiling - 1 = omega (arith, c .few) in
@@ -47,7 +48,7 @@ plane-some w h p q =
     omega arith
 
 module _ (ceiling : ℕ) (d : Decoding) (strict : Bool) (width height : ℕ) (fields : Fields) (count : ℕ) (body bytes : List ℕ)
-    (f : Filed strict width height fields body bytes) (c : Counted ceiling count) (wb : width < 4294967296) (hb : height < 4294967296)
+    (f : Filed strict width height fields body bytes) (c : Counted ceiling width height count) (wb : width < 4294967296) (hb : height < 4294967296)
     (fit : Fitting (imageSettings (d .strict)) strict fields) (adm : Admitted d width height)
     (whole : length body ≡ count * planeBytes width height) where
   abbrev header : Header
@@ -79,7 +80,7 @@ module _ (ceiling : ℕ) (d : Decoding) (strict : Bool) (width height : ℕ) (fi
       ∙ rw (adm .wide, adm .high, adm .pixels, adm .bytes, left, le-ltb (count * plane) plane one-there)
 
   frames-are : framesIn ceiling (length bytes) (outline header) ≡ count
-  frames-are = planes-counted ceiling count plane (length bytes - header .body) some c left
+  frames-are = planes-counted ceiling width height count plane (length bytes - header .body) some c left
 
   -- plane k as the file has it
   source-is : (k : ℕ) → sourcePlane bytes (outline header) k ≡ planeIn width height body k

@@ -23,12 +23,14 @@ use Rattle.image.proofs.Cleared.{paddingAt}
 use Rattle.image.proofs.WireDots.{wire-byte}
 use Rattle.options.specs.declared.EncodeOptions.{EncodeOptions}
 use Rattle.encoder.specs.Write.{lentPlane, wirePlanes, fileOfPlanes}
+use Rattle.encoder.proofs.Counted.{Counted}
+use Rattle.encoder.proofs.Planed.{planes-length}
 use Rattle.api.specs.Sniff.{isClear, areClear, sniffLength, sniffBody, sniffHeader, sniffed}
 use Rattle.api.specs.declared.Sniffed.the-variants.{Exact}
-use Rattle.conformance.proofs.Files.{Filed, filed, header-read, behind, Counted}
+use Rattle.conformance.proofs.Files.{Filed, filed, header-read, behind}
 use Rattle.conformance.proofs.ReadBack.{plane-some}
 use Rattle.conformance.proofs.Rows.{plane-byte, by-planes}
-use Rattle.conformance.proofs.Written.{body-size, body-plane, passed}
+use Rattle.conformance.proofs.Written.{body-plane, passed}
 use Rattle.conformance.proofs.WrittenCards.{nineByTwo, writer, bare, bare-written}
 
 pub all-clear : (w : ℕ) (body : List ℕ) (n : ℕ) → ((r : ℕ) → r < n → isClear w body r ≡ true) → areClear w body n ≡ true
@@ -37,7 +39,7 @@ all-clear w body zero h = refl
 all-clear w body (suc n) h = rw (all-clear w body n (λ r l. h r (omega arith)), h n (omega arith))
 
 -- a header without fields, and up to 16 planes whose padding is clear
-module _ (strict : Bool) (width height count : ℕ) (body bytes : List ℕ) (f : Filed strict width height none body bytes) (c : Counted 16 count)
+module _ (strict : Bool) (width height count : ℕ) (body bytes : List ℕ) (f : Filed strict width height none body bytes) (c : Counted 16 width height count)
     (wb : width ≤ 16384) (hb : height ≤ 16384) (whole : length body ≡ count * planeBytes width height)
     (clear : (r : ℕ) → r < count * height → isClear width body r ≡ true) where
   abbrev row : ℕ
@@ -99,7 +101,7 @@ written-exact o format width height count stride planes text lengths bytes e wb 
     let p = passed 16 o format width height count stride planes text lengths bytes w in
     let body = wirePlanes format width height stride planes count in
     let f = filed o width height text lengths body bytes none (ap (λ (p : ExtPresence). presented p text lengths) e) (p .file) in
-    file-exact (o .strict) width height count body bytes f (p .isCounted) wb hb (body-size format width height stride planes count)
+    file-exact (o .strict) width height count body bytes f (p .tests .frames) wb hb (planes-length format width height stride planes count)
     (by-planes (λ r. isClear width body r ≡ true) count height (f .high) (λ k y. wired-clear format width height stride planes count k y (f .wide)))
 
 -- two frames of nine by two, whose padding was dirty

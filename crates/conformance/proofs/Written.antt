@@ -1,12 +1,9 @@
 -- What is written is read back.
 use Prim.Native.Nat.{ℕ, zero, suc, _+_, _-_, _*_, _^_, _≤_, _<_}
 use mathlib.Core.Path.{_≡_, refl, ap, _∙_, subst}
-use mathlib.Core.Bool.{_||_}
 use mathlib.Core.List.{List, [], _∷_, _++_}
-use native.Mathlib.Nat.{mul-comm, div-mul-le-self}
+use native.Mathlib.Nat.{div-mul-le-self}
 use native.Mathlib.Omega.{arith}
-use borrow.Author.Tests.{ltb-false, leb-false}
-use lib.Dec.{ltb, leb, eqb}
 use lib.ListN.{length, getD, drop, set, length-append, length-drop}
 use lib.Seq.{length-take-le}
 use Rattle.error.specs.Answer.{gives}
@@ -20,19 +17,20 @@ use Rattle.image.specs.Geometry.{rowBytes, planeBytes, neededBytes, paddingBits
 use Rattle.image.specs.Rows.{clearLow, clearPadding, sourceRow, toNative, wireRow, wireBits}
 use Rattle.image.specs.declared.PixelFormat.{PixelFormat}
 use Rattle.image.specs.declared.PixelFormat.the-variants.{MonoBlack}
-use Rattle.image.proofs.Fitting.{fits}
 use Rattle.image.proofs.Masked.{bytes-source, bytes-native}
 use Rattle.image.proofs.Tested.{accepted}
 use Rattle.image.proofs.WireDots.{wire-dots}
-use Rattle.image.proofs.Wiring.{source-there, wire-length}
+use Rattle.image.proofs.Wiring.{source-there}
 use Rattle.options.specs.Limits.{Decoding}
 use Rattle.options.specs.declared.EncodeOptions.{EncodeOptions}
-use Rattle.decoder.proofs.Shaped.{bind-gives, unless}
-use Rattle.encoder.specs.File.{checkCount, fileOf}
+use Rattle.decoder.proofs.Shaped.{bind-gives}
+use Rattle.encoder.specs.File.{fileOf}
 use Rattle.encoder.specs.Write.{checkPlanes, lentPlane, wirePlanes, fileOfPlanes}
+use Rattle.encoder.proofs.Tested.{Tested, tested}
+use Rattle.encoder.proofs.Planed.{planes-length}
 use Rattle.conformance.specs.ReadBack.{Taken, Admitted, planeIn, ReadsBack}
 use Rattle.conformance.proofs.Joined.{up-to, piece-back}
-use Rattle.conformance.proofs.Files.{filed, fitting, plain, Counted, counted}
+use Rattle.conformance.proofs.Files.{filed, fitting, plain}
 use Rattle.conformance.proofs.ReadBack.{file-back, renamed}
 
 -- the bytes of wire bits are bytes
@@ -63,20 +61,12 @@ module _ (format : PixelFormat) (width height stride : ℕ) (planes : List ℕ) 
   abbrev body : ℕ → List ℕ
   body = wirePlanes format width height stride planes
 
-  wired-size : (k : ℕ) → length (wired k) ≡ planeBytes width height
-  wired-size k = wire-length format width stride (lentPlane width height stride planes k) height ∙ mul-comm height (rowBytes width)
-
-  pub body-size : (n : ℕ) → length (body n) ≡ n * planeBytes width height
-  unfolding wirePlanes
-  body-size zero = omega arith
-  body-size (suc n) = length-append (body n) (wired n) ∙ omega (arith, body-size n, wired-size n)
-
   body-next : (k : ℕ) → body (suc k) ≡ body k ++ wired k
   unfolding wirePlanes
   body-next k = refl
 
   pub body-plane : (n k : ℕ) → k < n → planeIn width height (body n) k ≡ wired k
-  body-plane n k = piece-back (planeBytes width height) n wired body (λ k l. body-size k) (λ k l. body-next k) n k (omega arith)
+  body-plane n k = piece-back (planeBytes width height) n wired body (λ k l. planes-length format width height stride planes k) (λ k l. body-next k) n k (omega arith)
 
   pub octets-body : (n : ℕ) → ((k : ℕ) → k < n → Octets (lentPlane width height stride planes k)) → Octets (body n)
   unfolding wirePlanes
@@ -88,50 +78,26 @@ module _ (format : PixelFormat) (width height stride : ℕ) (planes : List ℕ) 
 -- the tests that a file's planes have passed
 module _ (ceiling : ℕ) (o : EncodeOptions) (format : PixelFormat) (width height count stride : ℕ) (planes text lengths bytes : List ℕ) where
   pub record Passed : Type 0 where
-    pub isCounted : Counted ceiling count
-    pub small : neededBytes width height stride < 2 ^ 64
-    pub geometry : checkGeometry width height stride (length planes) ≡ gives tt
-    pub enough : count * neededBytes width height stride ≤ length planes
+    pub tests : Tested ceiling width height count stride (length planes)
     pub file : fileOf o width height text lengths (wirePlanes format width height stride planes count) ≡ gives bytes
-
-  needed-small : checkGeometry width height stride (length planes) ≡ gives tt → neededBytes width height stride < 2 ^ 64
-  unfolding checkGeometry
-  needed-small =
-      unless (eqb width 0 || eqb height 0) 8 0 _ tt (λ _.
-      unless (ltb stride (rowBytes width)) 26 0 _ tt (λ _.
-      unless (leb (2 ^ 64) (neededBytes width height stride)) 27 0 _ tt (λ t _. leb-false (2 ^ 64) (neededBytes width height stride) t)))
-
-  tested : fileOf o width height text lengths (wirePlanes format width height stride planes count) ≡ gives bytes
-      → checkPlanes ceiling width height count stride (length planes) ≡ gives tt → Passed
-  unfolding checkPlanes
-  tested e =
-      bind-gives (checkCount ceiling width height count) _ tt (λ _ q.
-      bind-gives (checkGeometry width height stride (length planes)) _ tt (λ _ g.
-      unless (ltb (length planes) (count * neededBytes width height stride)) 20 0 _ tt (λ t _.
-      record {
-        isCounted = counted ceiling width height count q;
-        small = needed-small g;
-        geometry = g;
-        enough = ltb-false (length planes) (count * neededBytes width height stride) t;
-        file = e;
-      })))
 
   pub passed : fileOfPlanes ceiling o format width height count stride planes text lengths ≡ gives bytes → Passed
   unfolding fileOfPlanes
-  passed = bind-gives (checkPlanes ceiling width height count stride (length planes)) _ bytes (λ _ p e. tested e p)
+  passed = bind-gives (checkPlanes ceiling width height count stride (length planes)) _ bytes
+      (λ _ p e. record { tests = tested ceiling width height count stride (length planes) p; file = e })
 
   module _ (p : Passed) where
     -- plane k is lent whole
     lent-there : (k : ℕ) → k < count → k * neededBytes width height stride + neededBytes width height stride ≤ length planes
-    lent-there k l = omega (arith, up-to (neededBytes width height stride) k count l, p .enough)
+    lent-there k l = omega (arith, up-to (neededBytes width height stride) k count l, p .tests .total)
 
     pub lent-passes : (k : ℕ) → k < count → checkGeometry width height stride (length (lentPlane width height stride planes k)) ≡ gives tt
     lent-passes k l =
         let n = neededBytes width height stride in
-        let g = fits width height stride (length planes) (p .geometry) in
+        let g = p .tests .plane in
         let e : length (lentPlane width height stride planes k) ≡ n =
         length-take-le n (drop (k * n) planes) (rw length-drop (omega (arith, lent-there k l))) in
-        accepted width height stride _ (g .wide) (g .high) (g .row) (p .small) (omega arith)
+        accepted width height stride _ (g .wide) (g .high) (g .row) (p .tests .small) (omega arith)
 
     pub lent-octets : Octets planes → (k : ℕ) → k < count → Octets (lentPlane width height stride planes k)
     lent-octets b k l =
@@ -154,7 +120,7 @@ written-back ceiling d o format width height count stride planes text lengths by
     ap (λ (s : List ℕ). isWhite MonoBlack width height (rowBytes width) s x y) (body-plane format width height stride planes count k l)
     ∙ wire-dots format width height stride _ (lent-passes ceiling o format width height count stride planes text lengths bytes p k l) (octets k l) x y)
     (file-back ceiling d (o .strict) width height fields count body bytes (filed o width height text lengths body bytes fields e (p .file))
-    (p .isCounted) wb hb (fitting (d .strict) (o .strict) (o .ext) text lengths fields e t) a (body-size format width height stride planes count)
+    (p .tests .frames) wb hb (fitting (d .strict) (o .strict) (o .ext) text lengths fields e t) a (planes-length format width height stride planes count)
     (octets-body format width height stride planes count octets))
 
 -- What has no fields is read back strictly too.

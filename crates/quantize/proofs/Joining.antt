@@ -1,15 +1,15 @@
 -- THE FRAMES END TO END: what samples finish behind whole frames depends on themselves only (document 01, Making session: "Each frame starts
 -- with clean carries, so its dots depend on its own scan only"). So the bytes of several scans are each scan's plane, one after another.
 -- Assumes nothing.
-use Prim.Native.Nat.{ℕ, zero, suc, _+_, _*_, _/_, _%_, _≤_, _<_}
+use Prim.Native.Nat.{ℕ, suc, _+_, _*_, _/_, _%_, _≤_, _<_}
 use mathlib.Core.Path.{_≡_, refl, sym, ap, _∙_, fun-ext}
 use mathlib.Core.Logic.{⊎-elim}
 use mathlib.Core.List.{List, [], _∷_, _++_}
-use native.Mathlib.Nat.{eq-or-lt-of-le, mul-comm, add-zero, mul-add-div-right, mul-add-mod-self-right, div-lt-iff-lt-mul, mul-le-mul-right}
+use native.Mathlib.Nat.{add-zero, mul-add-div-right, mul-add-mod-self-right, div-lt-iff-lt-mul, mul-le-mul-right}
 use native.Mathlib.Omega.{arith}
 use lib.Dec.{ltb}
-use lib.ListN.{length, getD, take, drop, length-append, length-drop}
-use lib.Seq.{take-add, getD-append-add, length-take-le, take-all, drop-at, take-append-le, drop-append-le}
+use lib.ListN.{length, getD, take, drop, length-append}
+use lib.Seq.{take-add, getD-append-add, length-take-le}
 use Rattle.error.specs.Choice.{if}
 use Rattle.image.specs.Geometry.{rowBytes, planeBytes}
 use Rattle.options.specs.declared.Quantize.{Quantize}
@@ -24,7 +24,6 @@ use Rattle.quantize.proofs.Differences.{lt-or-le}
 use Rattle.quantize.proofs.Places.{count-at}
 use Rattle.quantize.proofs.Grown.{length-upto, upto-ext, upto-add}
 use Rattle.quantize.proofs.Keeping.{dotOf-stays}
-use Rattle.quantize.proofs.Wholes.{plane-long}
 
 -- ---- the bytes of rows
 
@@ -148,42 +147,9 @@ module _ (rule : Quantize) (w h : ℕ) (gray : List ℕ) (wide : 0 < w) (high : 
       ∙ finished-behind (setting rule w h k) xs ys k wide high (scans-whole k l)
       ∙ ap (λ (l : List ℕ). finished (setting rule w h k) xs ++ l) (finished-frames rule w h k 1 ys)
 
-  -- plane k of so many is that of scan k
-  pub scans-at : (n k : ℕ) → n * (w * h) ≤ length gray → k < n
-      → take (planeBytes w h) (drop (k * planeBytes w h) (finished (setting rule w h n) (take (n * (w * h)) gray)))
-      ≡ finished (setting rule w h 1) (take (w * h) (drop (k * (w * h)) gray))
-  scans-at zero k l b = let f : ⊥ = omega arith in absurd f
-  scans-at (suc n) k l b =
-      let m : n * (w * h) + w * h ≤ length gray = (let e : suc n * (w * h) ≡ n * (w * h) + w * h = omega arith in omega arith) in
-      let p = planeBytes w h in
-      let before = finished (setting rule w h n) (take (n * (w * h)) gray) in
-      let samples = drop (n * (w * h)) gray in
-      let last = finished (setting rule w h 1) (take (w * h) samples) in
-      let i : n * (w * h) ≤ length gray = omega arith in
-      let long : length before ≡ n * p = scans-long n i in
-      let enough : w * h ≤ length samples = rw (length-drop (n * (w * h)) gray) (omega arith) in
-      let one : length last ≡ p = plane-long rule w h wide high samples enough ∙ mul-comm h (rowBytes w) in
-      ap (λ (l : List ℕ). take p (drop (k * p) l)) (scans-more n i)
-      ∙ ⊎-elim
-      (λ (e : k ≡ n).
-      let a : length before ≡ k * p = rw e long in
-      ap (take p) (drop-at before last (k * p) a)
-      ∙ take-all p last (omega arith)
-      ∙ ap (λ (k : ℕ). finished (setting rule w h 1) (take (w * h) (drop (k * (w * h)) gray))) (sym e))
-      (λ (q : k < n).
-      let a : suc k * p ≤ n * p = mul-le-mul-right p q in
-      let u : suc k * p ≡ k * p + p = omega arith in
-      ap (take p) (drop-append-le (k * p) before last (omega arith))
-      ∙ take-append-le p (drop (k * p) before) last (rw (length-drop (k * p) before) (omega arith))
-      ∙ scans-at n k i q)
-      (eq-or-lt-of-le (omega arith))
-
 -- an example: two scans of two samples
 two-scans : finished (setting Dither 2 1 2) (127 ∷ 128 ∷ 128 ∷ 128 ∷ []) ≡ finished (setting Dither 2 1 1) (127 ∷ 128 ∷ []) ++ finished (setting Dither 2 1 1) (128 ∷ 128 ∷ [])
 two-scans = scans-more Dither 2 1 (127 ∷ 128 ∷ 128 ∷ 128 ∷ []) (omega arith) (omega arith) 1 (omega arith)
 
 two-long : length (finished (setting Dither 2 1 2) (127 ∷ 128 ∷ 128 ∷ 128 ∷ [])) ≡ 2
 two-long = scans-long Dither 2 1 (127 ∷ 128 ∷ 128 ∷ 128 ∷ []) (omega arith) (omega arith) 2 (omega arith)
-
-second-scan : take 1 (drop 1 (finished (setting Dither 2 1 2) (127 ∷ 128 ∷ 128 ∷ 128 ∷ []))) ≡ finished (setting Dither 2 1 1) (128 ∷ 128 ∷ [])
-second-scan = scans-at Dither 2 1 (127 ∷ 128 ∷ 128 ∷ 128 ∷ []) (omega arith) (omega arith) 2 1 (omega arith) (omega arith)
