@@ -3,7 +3,9 @@ use Prim.Native.Nat.{ℕ, _-_, _*_, _^_}
 use mathlib.Core.Path.{_≡_, refl, ap, _∙_}
 use mathlib.Core.Bool.{false}
 use mathlib.Core.List.{List, [], _∷_, _++_}
-use lib.ListN.{length, take}
+use native.Mathlib.Omega.{arith}
+use lib.ListN.{length, take, length-append}
+use lib.Seq.{take-append-le}
 use Rattle.error.specs.Answer.{Answer, gives, refuses, bind, map}
 use Rattle.error.specs.Emits.{emitted}
 use Rattle.mbi.specs.Bytes.{groups, mbiBytes}
@@ -20,6 +22,7 @@ use Rattle.quantize.specs.Engine.{setting}
 use Rattle.quantize.specs.Finished.{begunBytes, count, frame, dotOf, bitAt, byteAt, finished}
 use Rattle.encoder.specs.File.{fileOf}
 use Rattle.encoder.specs.Make.{checkScans, scanBytes, fileOfScans}
+use Rattle.encoder.proofs.Scanned.{passed, passes}
 
 -- THE FILE
 pub making-is : (ceiling : ℕ) (o : EncodeOptions) (w h n : ℕ) (gray text lengths : List ℕ) (work : ℕ) (front : List ℕ)
@@ -31,7 +34,20 @@ making-is ceiling o w h n gray text lengths work front tests header =
     ap (λ (a : Answer (Unit {0})). bind a (λ _. fileOf o w h text lengths (scanBytes (o .quantize) w h gray n))) tests
     ∙ ap (map (λ header. header ++ scanBytes (o .quantize) w h gray n)) header
 
--- ---- two scans of two samples, P8's and a lighter one: the second starts clean, and surplus is ignored
+-- "Surplus is ignored": samples behind the last scan change nothing
+pub surplus-ignored : (ceiling : ℕ) (o : EncodeOptions) (w h n : ℕ) (gray ρ text lengths : List ℕ) (work : ℕ)
+    → checkScans ceiling (o .quantize) w h n (length gray) work ≡ gives tt
+    → fileOfScans ceiling o w h n (gray ++ ρ) text lengths work ≡ fileOfScans ceiling o w h n gray text lengths work
+unfolding fileOfScans
+surplus-ignored ceiling o w h n gray ρ text lengths work tests =
+    let p = passed ceiling (o .quantize) w h n (length gray) work tests in
+    let l = length-append gray ρ in
+    let more : checkScans ceiling (o .quantize) w h n (length (gray ++ ρ)) work ≡ gives tt =
+    passes ceiling (o .quantize) w h n (length (gray ++ ρ)) work
+    (record { sized = p .sized; known = p .known; room = p .room; enough = omega (arith, p .enough) }) in
+    rw (more, tests, take-append-le (n * (w * h)) gray ρ (p .enough))
+
+-- ---- two scans of two samples, P8's and a lighter one: the second starts clean
 
 abbrev dithering : EncodeOptions
 dithering = record { quantize = Dither; ext = Absent; strict = false }
@@ -50,6 +66,9 @@ two-fronted = refl
 two-finished : finished (setting Dither 2 1 2) (127 ∷ 128 ∷ 128 ∷ 128 ∷ []) ≡ 0x40 ∷ 0x80 ∷ []
 unfolding upto appended part value white residual valueFrom handed rowValue above valueAt dot begunBytes count frame dotOf bitAt byteAt finished
 two-finished = refl
+
+two-surplus : (ρ : List ℕ) → fileOfScans 16 dithering 2 1 2 (scans ++ ρ) [] [] 4 ≡ fileOfScans 16 dithering 2 1 2 scans [] [] 4
+two-surplus ρ = surplus-ignored 16 dithering 2 1 2 scans ρ [] [] 4 two-tested
 
 two-made : fileOfScans 16 dithering 2 1 2 scans [] [] 4 ≡ gives (0 ∷ 0 ∷ 2 ∷ 1 ∷ 0x40 ∷ 0x80 ∷ [])
 two-made =

@@ -14,7 +14,7 @@ use Rattle.quantize.specs.Engine.{meaning, roomy}
 use Rattle.quantize.specs.Whole.{knownRule}
 use Rattle.encoder.specs.File.{checkCount}
 use Rattle.encoder.specs.Make.{checkScans}
-use Rattle.encoder.proofs.Counted.{Counted, counted}
+use Rattle.encoder.proofs.Counted.{Counted, counted, accepted}
 
 -- what the tests say of scans that they accept
 pub record Passed (ceiling : ℕ) (rule : Quantize) (w h n gray work : ℕ) : Type 0 where
@@ -65,6 +65,12 @@ module _ (ceiling : ℕ) (rule : Quantize) (w h n gray work : ℕ) where
           where
             le-or-lt : (gray < n * (w * h) → ⊥) → n * (w * h) ≤ gray
             le-or-lt f = omega arith
+
+  pub passes : Passed ceiling rule w h n gray work → scans ≡ gives tt
+  passes p =
+      let s = p .sized in
+      by-count (gives tt) (accepted ceiling w h n (s .wide) (s .high) (s .some) (s .few))
+      ∙ rw (p .known, p .room, le-ltb gray (n * (w * h)) (p .enough))
 
   pub passed : scans ≡ gives tt → Passed ceiling rule w h n gray work
   unfolding checkScans
