@@ -31,6 +31,29 @@ module _ (o : EncodeOptions) (w h : ℕ) (text lengths old : List ℕ) where
   pub start-room : (body start : ℕ) (mid : List ℕ) → Heads header body (gives start) old mid → start + body ≤ length mid
   start-room body start mid c = body-room header (header-some (o .strict) w h (o .ext) text lengths) body start old mid c
 
+  -- any body of so many bytes
+  module _ (body : List ℕ) (size : ℕ) (long : size ≡ length body) where
+    resized : {r : Answer ℕ} {mid : List ℕ} → Heads header size r old mid → Heads header (length body) r old mid
+    resized {r} {mid} c = subst (λ (k : ℕ). Heads header k r old mid) long c
+
+    pub lent-room : (start : ℕ) (mid : List ℕ) → Heads header size (gives start) old mid → length body ≤ length (midOf start (length mid - start) mid)
+    lent-room start mid c =
+        let p = start-room size start mid c in
+        rw (mid-len start (length mid) mid (omega arith)) (omega arith)
+
+    pub filed : (start : ℕ) (mid last : List ℕ) → Heads header size (gives start) old mid
+        → last ≡ body ++ drop (length body) (midOf start (length mid - start) mid)
+        → Emits (fileOf o w h text lengths body) (gives (start + size)) old (putMid start (length mid - start) mid last)
+    filed start mid last c e =
+        let p = start-room size start mid c in
+        file-written header (header-some (o .strict) w h (o .ext) text lengths) body old mid _ start (start + size) (ap (λ (k : ℕ). start + k) long)
+        (resized c) (behind mid body last start (omega arith) e)
+
+    pub unfiled : (mid : List ℕ) (code offset : ℕ) → Heads header size (refuses code offset) old mid
+        → Emits (fileOf o w h text lengths body) (refuses code offset) old mid
+    unfiled mid code offset c = file-refused header body old mid code offset (resized c)
+
+  -- the planes
   module _ (f : PixelFormat) (n s : ℕ) (planes : List ℕ) (plane : ℕ) (laid : plane ≡ planeBytes w h) where
     abbrev body : List ℕ
     body = wirePlanes f w h s planes n
@@ -38,30 +61,20 @@ module _ (o : EncodeOptions) (w h : ℕ) (text lengths old : List ℕ) where
     long : n * plane ≡ length body
     long = ap (λ (k : ℕ). n * k) laid ∙ sym (planes-length f w h s planes n)
 
-    resized : {r : Answer ℕ} {mid : List ℕ} → Heads header (n * plane) r old mid → Heads header (length body) r old mid
-    resized {r} {mid} c = subst (λ (k : ℕ). Heads header k r old mid) long c
-
-    pub lent-room : (start : ℕ) (mid : List ℕ) → Heads header (n * plane) (gives start) old mid
+    pub planes-room : (start : ℕ) (mid : List ℕ) → Heads header (n * plane) (gives start) old mid
         → n * planeBytes w h ≤ length (midOf start (length mid - start) mid)
-    lent-room start mid c =
-        let p = start-room (n * plane) start mid c in
-        let e = ap (λ (k : ℕ). n * k) laid in
-        rw (mid-len start (length mid) mid (omega arith)) (omega arith)
+    planes-room start mid c = rw (← planes-length f w h s planes n) (lent-room body (n * plane) long start mid c)
 
     pub planes-filed : (start : ℕ) (mid last : List ℕ) → Heads header (n * plane) (gives start) old mid
         → last ≡ body ++ drop (n * planeBytes w h) (midOf start (length mid - start) mid)
         → Emits (fileOf o w h text lengths body) (gives (start + n * plane)) old (putMid start (length mid - start) mid last)
     planes-filed start mid last c e =
-        let p = start-room (n * plane) start mid c in
-        let l = long in
-        let q : last ≡ body ++ drop (length body) (midOf start (length mid - start) mid) =
-        e ∙ ap (λ (k : ℕ). body ++ drop k (midOf start (length mid - start) mid)) (sym (planes-length f w h s planes n)) in
-        file-written header (header-some (o .strict) w h (o .ext) text lengths) body old mid _ start (start + n * plane) (ap (λ (k : ℕ). start + k) long)
-        (resized c) (behind mid body last start (omega arith) q)
+        filed body (n * plane) long start mid last c
+        (e ∙ ap (λ (k : ℕ). body ++ drop k (midOf start (length mid - start) mid)) (sym (planes-length f w h s planes n)))
 
     pub planes-refused : (mid : List ℕ) (code offset : ℕ) → Heads header (n * plane) (refuses code offset) old mid
         → Emits (fileOf o w h text lengths body) (refuses code offset) old mid
-    planes-refused mid code offset c = file-refused header body old mid code offset (resized c)
+    planes-refused mid code offset c = unfiled body (n * plane) long mid code offset c
 
 -- by what the tests answered
 module _ (o : EncodeOptions) (f : PixelFormat) (w h n s : ℕ) (planes text lengths : List ℕ) where

@@ -2,8 +2,7 @@
 use Prim.Native.Nat.{ℕ, _+_, _-_, _*_, _≤_}
 use mathlib.Core.Path.{_≡_, refl, sym, ap, subst, _∙_}
 use mathlib.Core.List.{List, _++_}
-use native.Mathlib.Omega.{arith}
-use borrow.Rule.Slice.PartMut.{midOf, putMid, mid-len}
+use borrow.Rule.Slice.PartMut.{midOf, putMid}
 use lib.IntN.{ℤ}
 use lib.ListN.{length, drop}
 use Rattle.error.specs.Answer.{Answer, gives, refuses, bind, map}
@@ -17,8 +16,7 @@ use Rattle.encoder.specs.File.{fileOf}
 use Rattle.encoder.specs.Make.{checkScans, scanBytes, fileOfScans, Makes}
 use Rattle.encoder.specs.Parts.{Heads}
 use Rattle.encoder.specs.Scans.{PutsScans}
-use Rattle.encoder.proofs.Headed.{header-some, file-written, file-refused, behind}
-use Rattle.encoder.proofs.Filed.{start-room}
+use Rattle.encoder.proofs.Filed.{lent-room, filed, unfiled}
 use Rattle.encoder.proofs.Scanned.{Passed, passed}
 
 module _ (o : EncodeOptions) (w h n : ℕ) (gray text lengths : List ℕ) (work : List ℤ) where
@@ -57,38 +55,37 @@ module _ (o : EncodeOptions) (w h n : ℕ) (gray text lengths : List ℕ) (work 
     body-long : length bytes ≡ n * planeBytes w h
     body-long = scans-long (o .quantize) w h gray (p .sized .wide) (p .sized .high) n (p .enough)
 
-    -- what the header or the output refuses
-    pub not-headed : (out mid : List ℕ) (body code place : ℕ) → body ≡ n * planeBytes w h → Heads header body (refuses code place) out mid
-        → Makes 16 o w h n gray text lengths out work (refuses code place) mid work
-    not-headed out mid body code place b c =
-        record {
-          emits =
-              subst (λ (a : Answer (List ℕ)). Emits a (refuses code place) out mid) (sym (by-tests (gives tt) e))
-              (file-refused header bytes out mid code place (subst (λ (k : ℕ). Heads header k (refuses code place) out mid) (b ∙ sym body-long) c));
-          beyond = refl;
-          spared = λ _. refl;
-          refused = λ _ _ _. refl;
-        }
+    made-as : (r : Answer ℕ) (out out′ : List ℕ) → Emits (fileOf o w h text lengths bytes) r out out′ → Emits file r out out′
+    made-as r out out′ m = subst (λ (a : Answer (List ℕ)). Emits a r out out′) (sym (by-tests (gives tt) e)) m
 
-    module _ (out mid : List ℕ) (body start : ℕ) (b : body ≡ n * planeBytes w h) (c : Heads header body (gives start) out mid) where
-      -- the body has room behind the header
-      pub room : start + body ≤ length mid
-      room = start-room o w h text lengths out body start mid c
+    module _ (out : List ℕ) (body : ℕ) (b : body ≡ n * planeBytes w h) where
+      long : body ≡ length bytes
+      long = b ∙ sym body-long
 
-      pub lent-room : n * planeBytes w h ≤ length (midOf start (length mid - start) mid)
-      lent-room = rw (mid-len start (length mid) mid (omega arith)) (omega (arith, room))
+      -- what the header or the output refuses
+      pub not-headed : (mid : List ℕ) (code place : ℕ) → Heads header body (refuses code place) out mid
+          → Makes 16 o w h n gray text lengths out work (refuses code place) mid work
+      not-headed mid code place c =
+          record {
+            emits = made-as (refuses code place) out mid (unfiled o w h text lengths out bytes body long mid code place c);
+            beyond = refl;
+            spared = λ _. refl;
+            refused = λ _ _ _. refl;
+          }
 
-      pub made : (last : List ℕ) (work′ : List ℤ) → PutsScans (o .quantize) w h n gray (midOf start (length mid - start) mid) work last work′
+      pub scans-room : (start : ℕ) (mid : List ℕ) → Heads header body (gives start) out mid
+          → n * planeBytes w h ≤ length (midOf start (length mid - start) mid)
+      scans-room start mid c = rw (← body-long) (lent-room o w h text lengths out bytes body long start mid c)
+
+      pub made : (start : ℕ) (mid last : List ℕ) (work′ : List ℤ) → Heads header body (gives start) out mid
+          → PutsScans (o .quantize) w h n gray (midOf start (length mid - start) mid) work last work′
           → Makes 16 o w h n gray text lengths out work (gives (start + body)) (putMid start (length mid - start) mid last) work′
-      made last work′ q =
-          let l : last ≡ bytes ++ drop (length bytes) (midOf start (length mid - start) mid) =
-          q .bytes ∙ ap (λ (i : ℕ). bytes ++ drop i (midOf start (length mid - start) mid)) (sym body-long) in
+      made start mid last work′ c q =
           record {
             emits =
-                subst (λ (a : Answer (List ℕ)). Emits a (gives (start + body)) out (putMid start (length mid - start) mid last)) (sym (by-tests (gives tt) e))
-                (file-written header (header-some (o .strict) w h (o .ext) text lengths) bytes out mid _ start (start + body) (omega (arith, body-long))
-                (subst (λ (k : ℕ). Heads header k (gives start) out mid) (b ∙ sym body-long) c)
-                (behind mid bytes last start (omega (arith, room, body-long)) l));
+                made-as (gives (start + body)) out _
+                (filed o w h text lengths out bytes body long start mid last c
+                (q .bytes ∙ ap (λ (k : ℕ). bytes ++ drop k (midOf start (length mid - start) mid)) (sym body-long)));
             beyond = q .beyond;
             spared = q .spared;
             refused = λ code place f. zero-one (cc);

@@ -1,5 +1,5 @@
 -- Scans end to end: the loop of `put_scans`.
-use Prim.Native.Nat.{ℕ, suc, _+_, _-_, _*_, _/_, _≤_, _<_}
+use Prim.Native.Nat.{ℕ, suc, _+_, _-_, _*_, _≤_, _<_}
 use mathlib.Core.Path.{_≡_, refl, sym, ap, subst, _∙_}
 use mathlib.Core.List.{List, _++_}
 use native.Mathlib.Nat.{mul-comm, mul-le-mul-left, mul-le-mul-right}
@@ -19,7 +19,7 @@ use Rattle.options.specs.declared.Quantize.{Quantize}
 use Rattle.options.specs.declared.Quantize.the-variants.{Dither}
 use Rattle.quantize.specs.Engine.{setting}
 use Rattle.quantize.specs.Finished.{finished}
-use Rattle.quantize.specs.Whole.{refusedBy, quantized, Quantizes}
+use Rattle.quantize.specs.Whole.{quantized, Quantizes}
 use Rattle.quantize.proofs.Wholes.{refused-none, plane-long}
 use Rattle.quantize.proofs.Joining.{scans-none, scans-long, scans-more}
 use Rattle.encoder.specs.Make.{scanBytes}

@@ -1,4 +1,4 @@
-use Prim.Native.Nat.{ℕ, _+_, _*_, _≤_}
+use Prim.Native.Nat.{_+_, _*_, _≤_}
 use mathlib.Core.Path.{_≡_, ap}
 use native.Mathlib.Omega.{arith}
 use borrow.Author.Needs.{needs}
@@ -11,10 +11,10 @@ use Rattle.image.specs.Geometry.{planeBytes}
 use Rattle.image.specs.declared.PlaneLayout.{PlaneLayout}
 use Rattle.encoder.specs.Parts.{Heads}
 use Rattle.encoder.proofs.Headed.{kept-length}
-use Rattle.encoder.proofs.Filed.{answered}
+use Rattle.encoder.proofs.Filed.{answered, start-room}
 use Rattle.encoder.proofs.Scanned.{passed}
 use Rattle.encoder.proofs.Scanning.{planes-le}
-use Rattle.encoder.proofs.Made.{room, lent-room, not-headed, made}
+use Rattle.encoder.proofs.Made.{scans-room, not-headed, made}
 use Rattle.encoder.proofs.gray8.make_file.Statement.{statement}
 use Rattle.encoder.proofs.gray8.make_file.Tie as tie
 
@@ -61,10 +61,9 @@ behind c =
     let h = c .before .before in
     let w = h .before .before .before .before in
     let n = w .before .before .before in
-    let s = n .before .before .before .before .before in
-    let a = s .args in
-    room (a .options) (a .width) (a .height) (a .count) (now (a .gray)) (now (a .text)) (now (a .lengths)) (now (a .work)) (s .pre) (now (a .out)) _ _ _ (body-is n)
-    (headed-as w _ (h .start .given .1))
+    let a = n .before .before .before .before .before .args in
+    start-room (a .options) (a .width) (a .height) (now (a .text)) (now (a .lengths)) (now (a .out)) (a .count * n .new .result .«total_bytes»)
+    (h .start .given .0 .0) _ (headed-as w _ (h .start .given .1))
 
 sub-put-scans : tie.Need-sub-put-scans
 sub-put-scans c = omega (arith, behind c)
@@ -83,8 +82,8 @@ put-scans-requires c κs =
     let s = n .before .before .before .before .before in
     let a = s .args in (
       s .pre,
-      lent-room (a .options) (a .width) (a .height) (a .count) (now (a .gray)) (now (a .text)) (now (a .lengths)) (now (a .work)) (s .pre) (now (a .out)) _ _ _
-          (body-is n) (headed-as w _ (h .start .given .1)),
+      scans-room (a .options) (a .width) (a .height) (a .count) (now (a .gray)) (now (a .text)) (now (a .lengths)) (now (a .work)) (s .pre) (now (a .out)) _
+          (body-is n) _ _ (headed-as w _ (h .start .given .1)),
     )
 
 add-end : tie.Need-add-end
@@ -113,8 +112,8 @@ returns c =
     let n = w .before .before .before in
     let s = n .before .before .before .before .before in
     let a = s .args in
-    made (a .options) (a .width) (a .height) (a .count) (now (a .gray)) (now (a .text)) (now (a .lengths)) (now (a .work)) (s .pre) (now (a .out)) _ _ _ (body-is n)
-    (headed-as w _ (h .start .given .1)) _ _ (p .put-scans .ensures)
+    made (a .options) (a .width) (a .height) (a .count) (now (a .gray)) (now (a .text)) (now (a .lengths)) (now (a .work)) (s .pre) (now (a .out)) _ (body-is n)
+    _ _ _ _ (headed-as w _ (h .start .given .1)) (p .put-scans .ensures)
 
 same-length-3 : tie.Need-same-length-3
 same-length-3 c = search needs
@@ -125,8 +124,8 @@ returns-2 c =
     let n = w .before .before .before in
     let s = n .before .before .before .before .before in
     let a = s .args in
-    not-headed (a .options) (a .width) (a .height) (a .count) (now (a .gray)) (now (a .text)) (now (a .lengths)) (now (a .work)) (s .pre) (now (a .out)) _ _ _ _ (body-is n)
-    (headed-as w _ (c .before .e .given .1))
+    not-headed (a .options) (a .width) (a .height) (a .count) (now (a .gray)) (now (a .text)) (now (a .lengths)) (now (a .work)) (s .pre) (now (a .out)) _ (body-is n)
+    _ _ _ (headed-as w _ (c .before .e .given .1))
 
 pub make-file-spec : {M : Type 1} → statement M
 make-file-spec =

@@ -12,7 +12,7 @@ use Rattle.image.specs.declared.PlaneLayout.{PlaneLayout}
 use Rattle.encoder.specs.Parts.{Heads}
 use Rattle.encoder.proofs.Tested.{tested, body-within}
 use Rattle.encoder.proofs.Headed.{kept-length}
-use Rattle.encoder.proofs.Filed.{answered, start-room, lent-room, planes-filed, planes-refused}
+use Rattle.encoder.proofs.Filed.{answered, start-room, planes-room, planes-filed, planes-refused}
 use Rattle.encoder.proofs.planes.write_file.Statement.{statement}
 use Rattle.encoder.proofs.planes.write_file.Tie as tie
 
@@ -76,7 +76,7 @@ write-planes-requires c κs =
     let s = n .before .before .before .before .before in
     let a = s .args in (
       s .pre,
-      lent-room (a .options) (a .width) (a .height) (now (a .text)) (now (a .lengths)) (now (a .out)) (a .format) (a .count) (a .stride) (now (a .planes))
+      planes-room (a .options) (a .width) (a .height) (now (a .text)) (now (a .lengths)) (now (a .out)) (a .format) (a .count) (a .stride) (now (a .planes))
           (n .new .result .«total_bytes») (plane-is n) (k .before .start .given .0 .0) _ (headed-as w _ (k .before .start .given .1)),
     )
 
