@@ -64,6 +64,30 @@ fn pair(rust: &mut dyn FnMut(), ours: &mut dyn FnMut()) -> Times {
     Times { rust, ours, copy }
 }
 
+/// A buffer of `len` bytes that starts elsewhere in a page each time, so that the times do not
+/// hang on one placement.
+struct Lent {
+    bytes: Vec<u8>,
+    len: usize,
+    at: usize,
+}
+
+impl Lent {
+    fn new(len: usize) -> Lent {
+        let bytes = vec![0; len + 4096];
+        Lent { bytes, len, at: 0 }
+    }
+
+    fn next(&mut self) -> &mut [u8] {
+        self.at = (self.at + 64) % 4096;
+        &mut self.bytes[self.at..self.at + self.len]
+    }
+
+    fn last(&self) -> &[u8] {
+        &self.bytes[self.at..]
+    }
+}
+
 /// Whole reading with the default limits. The Rust makes its own buffers, as it always does.
 fn read(file: &[u8], format: u32) -> Times {
     let asked = Asked {
@@ -76,8 +100,8 @@ fn read(file: &[u8], format: u32) -> Times {
     };
     let options = DecodeOptions::new().with_format([MonoBlack, MonoWhite][format as usize]);
     let decoded = || calls::decode_frames(black_box(file), &options).expect("a good file");
-    let mut out = vec![0; file.len()];
-    let mut copied = vec![0; file.len()];
+    let mut out = Lent::new(file.len());
+    let mut copied = Lent::new(file.len());
     let mut image = Image {
         width: 0,
         height: 0,
@@ -86,12 +110,15 @@ fn read(file: &[u8], format: u32) -> Times {
     };
     let [rust, ours, copy] = medians([
         &mut || drop(black_box(decoded())),
-        &mut || assert_eq!(capi::read(black_box(file), &asked, &mut out, &mut image), 0),
-        &mut || black_box(&mut copied).copy_from_slice(black_box(file)),
+        &mut || {
+            let refusal = capi::read(black_box(file), &asked, out.next(), &mut image);
+            assert_eq!(refusal, 0);
+        },
+        &mut || black_box(copied.next()).copy_from_slice(black_box(file)),
     ]);
     let frames = decoded().into_iter();
     let planes: Vec<u8> = frames.flat_map(|frame| frame.image.into_raw()).collect();
-    assert!(planes == out[..image.written], "reading differs");
+    assert!(planes == out.last()[..image.written], "reading differs");
     let copy = Some(copy);
     Times { rust, ours, copy }
 }
