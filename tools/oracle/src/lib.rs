@@ -39,7 +39,6 @@ pub mod quantize;
 pub use error::WbmpError;
 
 pub mod answer;
-pub mod calls;
 pub mod encoders;
 pub mod files;
 pub mod numbers;
@@ -49,3 +48,6 @@ pub mod replay;
 pub mod scans;
 pub mod settings;
 pub mod writers;
+
+// For tools outside this crate.
+pub mod calls;
