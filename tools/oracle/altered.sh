@@ -1,6 +1,7 @@
 #!/bin/bash
 # Shows that the replay of a list with one altered answer fails and shows the case: a refusal's
-# number, a place, a written byte, a frame count and a dot are altered, each in its own copy.
+# number, a place, a written byte, a frame count, a dot and a written file are altered, each in its
+# own copy.
 # Run after `rt check vectors`; ends with 0 only if every alteration is reported.
 set -eu
 cd "$(dirname "$0")/../.."
@@ -34,3 +35,5 @@ alter "byte altered" '\x01\x01\x02\x00\x05\x01\x01\x05\x8F\xFF\xFF\xFF\x7F' 12 '
 plane='\x01\x01\x06\x00\x02\x09\x01\x01\x04\x01\x01\x02\xFF\x81'
 alter "frames altered" "$plane" 7 '\x02'
 alter "dot altered" "$plane" 13 '\x80'
+# A file of two planes of 9 by 2, its last byte AA made AB.
+alter "file altered" '\x01\x01\x02\x00\x0C\x01\x01\x0C\x00\x00\x09\x02\xFF\x80\x00\x00\x55\x00\xAA\x80' 18 '\xAB'
