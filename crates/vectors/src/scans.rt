@@ -10,7 +10,7 @@ use crate::list::byte_at;
 use error::Written;
 
 // The longest work buffer, and what it holds before each call.
-pub const WORK: usize = 64;
+pub const WORK: usize = 256;
 
 pub const DIRT: i16 = 12345;
 

@@ -127,7 +127,8 @@ fn limits() -> Vec<Sweep> {
     sweeps
 }
 
-/// Up to 18 planes with dirty padding, whole, a byte short and with a rest, in all modes.
+/// Up to 18 planes with dirty padding, whole, a byte short and with a rest, and a few of wider rows,
+/// in all modes.
 fn planes() -> Vec<Sweep> {
     let mut sweeps = Vec::new();
     for (width, height) in [(1, 1), (8, 1), (7, 3), (9, 2), (16, 2), (17, 1)] {
@@ -138,6 +139,13 @@ fn planes() -> Vec<Sweep> {
                 let file = [header(width, height), dots].concat();
                 sweeps.push(in_modes(&mode(0, 0), &file));
             }
+        }
+    }
+    for width in [31u32, 64, 65, 127, 129, 300] {
+        let plane = 3 * width.div_ceil(8) as usize;
+        for body in [plane, 2 * plane, 2 * plane - 1] {
+            let dots = noise(width as usize, body);
+            sweeps.push(in_modes(&mode(0, 0), &[header(width, 3), dots].concat()));
         }
     }
     sweeps

@@ -57,6 +57,19 @@ fn planes() -> Vec<Vec<u8>> {
     planes
 }
 
+/// Planes of wider rows, with no gap and with one, whole and one byte short.
+fn broad() -> Vec<Vec<u8>> {
+    let mut planes = Vec::new();
+    for width in [31, 64, 65, 127, 128, 129, 200, 254] {
+        let row = usize::div_ceil(width, 8);
+        for (stride, len) in [(row, 3 * row), (row + 2, 3 * row + 4), (row, 3 * row - 1)] {
+            let dots = noise(planes.len(), len);
+            planes.push(plane([width as u8, 3], stride as u8, &dots));
+        }
+    }
+    planes
+}
+
 /// Planes with strides of 2^56 - 1 up to the largest number, of one row and of several.
 fn wide() -> Vec<Vec<u8>> {
     let mut planes = Vec::new();
@@ -111,14 +124,14 @@ fn dots() -> Vec<Sweep> {
 /// Each plane in both formats. Width 0 is left out, for the Rust panics there; so are sizes for
 /// which it would ask for too much memory.
 fn wires() -> Vec<Sweep> {
-    let mut all = [planes(), wide()].concat();
+    let mut all = [planes(), broad(), wide()].concat();
     all.push(plane([3, 0], 2, &noise(1, 6)));
     all.into_iter().map(|plane| formats(plane, 2)).collect()
 }
 
 /// Each plane from each format to each.
 fn conversions() -> Vec<Sweep> {
-    let all = [planes(), wide(), odd_sizes()].concat();
+    let all = [planes(), broad(), wide(), odd_sizes()].concat();
     all.into_iter().map(|plane| formats(plane, 4)).collect()
 }
 

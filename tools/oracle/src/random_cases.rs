@@ -96,7 +96,7 @@ impl Random {
 }
 
 fn image(random: &mut Random) -> Vec<u8> {
-    let (width, height, count) = (random.side(70), random.side(9), random.count());
+    let (width, height, count) = (random.side(140), random.side(9), random.count());
     let row = u64::from(width.div_ceil(8));
     let stride = match random.below(32) {
         0 => row.saturating_sub(1),
@@ -118,16 +118,20 @@ fn image(random: &mut Random) -> Vec<u8> {
 }
 
 fn scan(random: &mut Random) -> Vec<u8> {
-    let (width, height, count) = (random.side(32), random.side(9), random.count());
+    let (width, height) = match random.once_in(4) {
+        true => (random.side(125), random.side(3)),
+        false => (random.side(32), random.side(9)),
+    };
+    let count = random.count();
     let (kind, number) = match random.below(8) {
         0..=1 => (0, random.next() as u8),
         2 => (2, random.next() as u8 % 9),
         3..=4 => (2, random.one_of(&[2, 4, 8])),
         _ => (1, 0),
     };
-    let need = width.saturating_mul(2).min(64) as u8;
+    let need = width.saturating_mul(2).min(255) as u8;
     let work = match random.once_in(16) {
-        true => random.below(65) as u8,
+        true => random.next() as u8,
         false => need,
     };
     let samples = u128::from(width) * u128::from(height);

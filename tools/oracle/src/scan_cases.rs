@@ -25,12 +25,12 @@ pub fn groups() -> Vec<Group> {
 
 /// Work buffers one number short, just long enough and longer; for the largest width short ones.
 fn work_lengths(width: u32) -> Vec<u8> {
-    let need = width.saturating_mul(2).min(50) as u8;
+    let need = width.saturating_mul(2).min(250) as u8;
     vec![need.saturating_sub(1), need, need + 5]
 }
 
-/// Scans of every width up to 17 and height up to 5, with surplus and one sample short, and of
-/// no width or height and the largest; each with the rule's numbers for its width.
+/// Scans of every width up to 17 and height up to 5, with surplus and one sample short, of wider
+/// rows, and of no width or height and the largest; each with the rule's numbers for its width.
 fn ruled(numbers: impl Fn(u32) -> Vec<u8>) -> Vec<Sweep> {
     let mut sweeps = Vec::new();
     let mut put = |width: u32, height: u32, gray: &[u8]| {
@@ -45,6 +45,10 @@ fn ruled(numbers: impl Fn(u32) -> Vec<u8>) -> Vec<Sweep> {
             put(width, height, &noise(samples, samples + 3));
             put(width, height, &noise(samples, samples - 1));
         }
+    }
+    for width in [18, 24, 31, 32, 33, 47, 63, 64, 65, 96, 125] {
+        put(width, 3, &noise(width as usize, 3 * width as usize));
+        put(width, 2, &noise(width as usize, 2 * width as usize - 1));
     }
     let odd = [0, 2, u32::MAX];
     for width in odd {

@@ -8,7 +8,7 @@ abbrev Inv-loop : tie.InvT-loop
 Inv-loop work start same₀ i₀ same i = Unit {0}
 
 abbrev μ-loop : tie.MeasureT-loop
-μ-loop work start same₀ i₀ same i = 64 - i
+μ-loop work start same₀ i₀ same i = 256 - i
 
 loop-holds : tie.Need-loop-holds Inv-loop μ-loop
 loop-holds c = search needs
