@@ -3,9 +3,9 @@
 use mathlib.Core.Path.{_≡_, refl, sym, ap, _∙_}
 use mathlib.Core.Bool.{true, false}
 use mathlib.Core.Logic.{_⊎_, inl, inr, ⊎-elim}
-use Prim.Native.Nat.{ℕ, zero, suc, _+_, _*_, _-_, _/_, _≤_, _<_}
+use Prim.Native.Nat.{ℕ, zero, suc, _+_, _*_, _-_, _/_, _%_, _≤_, _<_}
 use native.Mathlib.Omega.{arith}
-use native.Mathlib.Nat.{mul-add}
+use native.Mathlib.Nat.{mul-add, add-mul, mul-assoc, one-mul}
 use native.Mathlib.Decide.{decLt}
 use lib.IntN.{ℤ, pos, negsuc, negℤ, subℕ, _+ℤ_}
 use borrow.Author.Tests.{lt-ltb, le-ltb, le-leb, lt-leb}
@@ -69,6 +69,23 @@ part-neg k b h =
     let e : k * 128 ≡ k * b + k * m = ap (λ (n : ℕ). k * n) (omega arith) ∙ mul-add k b m in
     rw (sub-neg b 128 h) (round-neg (k * m) ∙ neg-is ((k * m + 8) / 16) ∙ sub-eq 0 ((k * m + 8) / 16) ((k * b + 7) / 16) (8 * k) (omega arith))
 
+-- both by one quotient
+pub part-is : (k b : ℕ) → b ≤ 256 → part k (subℕ b 128) ≡ subℕ (((128 * k + 1) * b + 896) / 2048) (8 * k)
+part-is k b h =
+    let q = ((128 * k + 1) * b + 896) / 2048 in
+    let d : (128 * k + 1) * b ≡ 128 * (k * b) + b = rw (add-mul, mul-assoc, one-mul) in
+    ⊎-elim
+    (λ l. let e : (k * b + 7) / 16 ≡ q = omega arith in part-neg k b l ∙ ap (λ (n : ℕ). subℕ n (8 * k)) e)
+    (λ l. ⊎-elim
+    (λ m. let e : (k * b + 8) / 16 ≡ q = omega arith in part-pos k b l ∙ ap (λ (n : ℕ). subℕ n (8 * k)) e)
+    (λ m.
+    let f : b ≡ 256 = omega arith in
+    let g : k * b ≡ k * 256 = ap (λ (n : ℕ). k * n) f in
+    let e : (k * b + 8) / 16 ≡ q = omega arith in
+    part-pos k b l ∙ ap (λ (n : ℕ). subℕ n (8 * k)) e)
+    (lt-or-le b 256))
+    (lt-or-le b 128)
+
 -- v - 128 is white from 256 on, and its residual
 pub white-yes : (v : ℕ) → 256 ≤ v → white (subℕ v 128) ≡ true
 unfolding white
@@ -109,3 +126,30 @@ stepped-white v e h k =
 pub stepped-black : {z : ℤ} (v : ℕ) → z ≡ subℕ v 128 → v < 256 → Stepped z 0 v
 stepped-black v e h =
     rw e (record { dotIs = sym (ap bit (white-no v h)); restIs = record { is = residual-black v h; small = omega arith } })
+
+pub stepped : {z : ℤ} (v : ℕ) → z ≡ subℕ v 128 → v ≤ 511 → Stepped z (v / 256) (v % 256 + v / 256)
+stepped v e h =
+    ⊎-elim
+    (λ k.
+    let s = stepped-black v e k in
+    let d : v / 256 ≡ 0 = omega arith in
+    let r : v ≡ v % 256 + v / 256 = omega arith in
+    record { dotIs = d ∙ s .dotIs; restIs = record { is = s .restIs .is ∙ ap (λ (n : ℕ). subℕ n 128) r; small = omega arith } })
+    (λ k.
+    let s = stepped-white v e k h in
+    let d : v / 256 ≡ 1 = omega arith in
+    let r : v - 255 ≡ v % 256 + v / 256 = omega arith in
+    record { dotIs = d ∙ s .dotIs; restIs = record { is = s .restIs .is ∙ ap (λ (n : ℕ). subℕ n 128) r; small = omega arith } })
+    (lt-or-le v 256)
+
+-- a black or white sample with no residual around it: its dot, and no residual
+value-calm : (g : ℕ) → value g (subℕ 128 128) (subℕ 128 128) (subℕ 128 128) (subℕ 128 128) ≡ subℕ (g + 56 + 8 + 40 + 24) 128
+value-calm g =
+    value-is g 128 128 128 128 56 8 40 24 (part-pos 7 128 (omega arith)) (part-pos 1 128 (omega arith)) (part-pos 5 128 (omega arith)) (part-pos 3 128 (omega arith))
+
+pub stepped-calm : (g : ℕ) → g < 256 → g % 255 ≡ 0 → Stepped (value g (subℕ 128 128) (subℕ 128 128) (subℕ 128 128) (subℕ 128 128)) (g / 128) 128
+stepped-calm g h e =
+    ⊎-elim
+    (λ k. let z : g ≡ 0 = omega arith in rw z (stepped-black 128 (value-calm 0) (omega arith)))
+    (λ k. let z : g ≡ 255 = omega arith in rw z (stepped-white 383 (value-calm 255) (omega arith) (omega arith)))
+    (lt-or-le g 128)

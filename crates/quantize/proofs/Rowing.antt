@@ -1,6 +1,6 @@
 -- The invariant of `dither_dots`, that a turn keeps it, and what it says at the end.
 -- Assumes nothing.
-use Prim.Native.Nat.{ℕ, suc, _+_, _*_, _≤_, _<_}
+use Prim.Native.Nat.{ℕ, suc, _+_, _*_, _/_, _%_, _≤_, _<_}
 use mathlib.Core.Path.{_≡_, refl, sym, ap, _∙_, subst}
 use mathlib.Core.List.{List}
 use native.Mathlib.Nat.{add-zero}
@@ -15,7 +15,8 @@ use Rattle.quantize.specs.Rule.{Rule, dither}
 use Rattle.quantize.specs.Machine.{Carry, clamp, leftOf, cornerOf, overOf, valueOf, diffused, machineDot, next}
 use Rattle.quantize.specs.Steps.{Biased, Stepped, rowCarry, rowBit, carryOf, Diffuses}
 use Rattle.quantize.proofs.Range.{within, clamp-same}
-use Rattle.quantize.proofs.Reading.{left-at, corner-at}
+use Rattle.quantize.proofs.Reading.{left-at, corner-at, over-set, kept-zero}
+use Rattle.quantize.proofs.Differences.{stepped-calm}
 use Rattle.quantize.proofs.Appending.{bit-le, one-more}
 
 pub biased-zero : Biased (pos 0) 128
@@ -43,31 +44,33 @@ module _ (w y x : ℕ) (gray : List ℕ) (begun corner : ℕ) (work₀ : List �
   at i = rowCarry dither w y x gray (carryOf corner work₀) i
 
   -- after i samples
-  pub record Inv (work : List ℤ) (left digits aboveLeft i : ℕ) : Type 0 where
+  pub record Inv (work : List ℤ) (left digits aboveLeft above i : ℕ) : Type 0 where
     pub bound : i ≤ length gray
     pub long : length work ≡ length work₀
     pub keptIs : at i .kept ≡ work
     pub leftIs : Biased (leftOf work (x + i)) left
     pub cornerIs : Biased (cornerOf (at i .corner) (x + i)) aboveLeft
+    pub aboveIs : Biased (overOf w y work (x + i)) above
     pub digitsIs : digits ≡ appended begun (rowBit dither w y x gray (carryOf corner work₀)) i
 
-  pub inv-start : (left aboveLeft : ℕ) → Biased (leftOf work₀ x) left → Biased (cornerOf (subℕ corner 128) x) aboveLeft → Inv work₀ left begun aboveLeft 0
+  pub inv-start : (left aboveLeft above : ℕ) → Biased (leftOf work₀ x) left → Biased (cornerOf (subℕ corner 128) x) aboveLeft → Biased (overOf w y work₀ x) above
+      → Inv work₀ left begun aboveLeft above 0
   unfolding rowCarry appended
-  inv-start left aboveLeft hl hc =
-      record { bound = omega arith; long = refl; keptIs = refl; leftIs = rw add-zero hl; cornerIs = rw add-zero hc; digitsIs = refl }
+  inv-start left aboveLeft above hl hc ha =
+      record { bound = omega arith; long = refl; keptIs = refl; leftIs = rw add-zero hl; cornerIs = rw add-zero hc; aboveIs = rw add-zero ha; digitsIs = refl }
 
-  module _ (work : List ℤ) (left digits aboveLeft i : ℕ) (I : Inv work left digits aboveLeft i)
-      (above ahead dot rest : ℕ) (ha : Biased (overOf w y work (x + i)) above) (hr : Biased (overOf w y work (x + i + 1)) ahead)
+  module _ (work : List ℤ) (left digits aboveLeft above i : ℕ) (I : Inv work left digits aboveLeft above i)
+      (ahead dot rest : ℕ) (hr : Biased (overOf w y work (x + i + 1)) ahead)
       (st : Stepped (value (getD gray i 0) (subℕ left 128) (subℕ aboveLeft 128) (subℕ above 128) (subℕ ahead 128)) dot rest) where
     value-is : valueOf w y (x + i) (getD gray i 0) (at i) ≡ value (getD gray i 0) (subℕ left 128) (subℕ aboveLeft 128) (subℕ above 128) (subℕ ahead 128)
     unfolding valueOf
-    value-is = rw (I .keptIs, I .leftIs .is, I .cornerIs .is, ha .is, hr .is)
+    value-is = rw (I .keptIs, I .leftIs .is, I .cornerIs .is, I .aboveIs .is, hr .is)
 
     dot-is : dot ≡ rowBit dither w y x gray (carryOf corner work₀) i
     unfolding rowBit machineDot
     dot-is = st .dotIs ∙ ap (λ (v : ℤ). bit (white v)) (sym value-is)
 
-    pub inv-more : (z : ℤ) → z ≡ subℕ rest 128 → i < length gray → x + i < length work → Inv (set work (x + i) z) rest (digits * 2 + dot) above (i + 1)
+    pub inv-more : (z : ℤ) → z ≡ subℕ rest 128 → i < length gray → x + i < length work → Inv (set work (x + i) z) rest (digits * 2 + dot) above ahead (i + 1)
     unfolding rowCarry next diffused
     inv-more z ez h k =
         let zr : residual (valueOf w y (x + i) (getD gray i 0) (at i)) ≡ z = ap residual value-is ∙ st .restIs .is ∙ sym ez in
@@ -78,13 +81,22 @@ module _ (w y x : ℕ) (gray : List ℕ) (begun corner : ℕ) (work₀ : List �
           long = length-set work (x + i) z ∙ I .long;
           keptIs = rw (add-one i, zr, I .keptIs);
           leftIs = rw (left-at (set work (x + i) z) (x + (i + 1)) (x + i) e, getD-set-same work (x + i) z (pos 0) k) (biased-clamp z rest b);
-          cornerIs = rw (add-one i, corner-at (overOf w y (at i .kept) (x + i)) (x + suc i) (omega arith), I .keptIs) ha;
+          cornerIs = rw (add-one i, corner-at (overOf w y (at i .kept) (x + i)) (x + suc i) (omega arith), I .keptIs) (I .aboveIs);
+          aboveIs = rw (e, over-set w work y (x + i) (x + i + 1) z (λ (o : x + i + 1 ≡ x + i). omega arith)) hr;
           digitsIs = one-more begun (rowBit dither w y x gray (carryOf corner work₀)) i digits dot (I .digitsIs) dot-is;
         }
 
-  pub inv-end : (work : List ℤ) (left digits aboveLeft i : ℕ) → Inv work left digits aboveLeft i → length gray ≤ i → 0 < length gray
+  -- a turn that alters nothing
+  pub inv-calm : (work : List ℤ) (digits i : ℕ) → Inv work 128 digits 128 128 i → Biased (overOf w y work (x + i + 1)) 128
+      → 0 < y → x + i < w → w ≤ length work → i < length gray → getD gray i 0 < 256 → getD gray i 0 % 255 ≡ 0
+      → Inv work 128 (digits * 2 + getD gray i 0 / 128) 128 128 (i + 1)
+  inv-calm work digits i I hr h k l m b e =
+      subst (λ (kept : List ℤ). Inv kept 128 (digits * 2 + getD gray i 0 / 128) 128 128 (i + 1)) (kept-zero w work y (x + i) h k (I .aboveIs .is))
+      (inv-more work 128 digits 128 128 i I 128 (getD gray i 0 / 128) 128 hr (stepped-calm (getD gray i 0) b e) (pos 0) refl m (omega arith))
+
+  pub inv-end : (work : List ℤ) (left digits aboveLeft above i : ℕ) → Inv work left digits aboveLeft above i → length gray ≤ i → 0 < length gray
       → Diffuses w y x gray begun corner work₀ (record { digits = digits; corner = aboveLeft }) work
-  inv-end work left digits aboveLeft i I h k =
+  inv-end work left digits aboveLeft above i I h k =
       let b = I .bound in
       let e : i ≡ length gray = omega arith in
       let p : at i .corner ≡ subℕ aboveLeft 128 = sym (corner-at (at i .corner) (x + i) (omega arith)) ∙ I .cornerIs .is in

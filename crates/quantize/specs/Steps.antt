@@ -17,7 +17,7 @@ use Rattle.quantize.specs.Diffusion.{part, white, residual}
 use Rattle.quantize.specs.Ordered.{number, numbers, exponent, bound, cell}
 use Rattle.quantize.specs.Rule.{Rule, threshold, dither, ordered}
 use Rattle.quantize.specs.Finished.{Setting, count, byteAt}
-use Rattle.quantize.specs.Machine.{Carry, machineDot, next}
+use Rattle.quantize.specs.Machine.{Carry, overOf, machineDot, next}
 use Rattle.quantize.specs.Place.{At, begunBy, Begun}
 
 -- r holds z, which is within -128 .. 128
@@ -34,6 +34,11 @@ pub record Parted (k b r : ℕ) : Type 0 where
 pub record Stepped (v : ℤ) (dot rest : ℕ) : Type 0 where
   pub dotIs : dot ≡ bit (white v)
   pub restIs : Biased (residual v) rest
+
+-- above row y of w columns there are residuals for the first r columns: what is read above a row of so many is what is read above row y
+pub record Reaches (w y r : ℕ) : Type 0 where
+  pub most : r ≤ w
+  pub is : (kept : List ℤ) (x : ℕ) → overOf w y kept x ≡ overOf r 1 kept x
 
 -- ---- samples of one row, from a column on
 
@@ -86,6 +91,10 @@ pub record Diffuses (w y x : ℕ) (gray : List ℕ) (begun corner : ℕ) (work :
   pub digits : r .digits ≡ appended begun (rowBit dither w y x gray (carryOf corner work)) (length gray)
   pub carry : rowCarry dither w y x gray (carryOf corner work) (length gray) ≡ carryOf (r .corner) work′
   pub small : r .corner ≤ 256
+
+-- where these are digits, below 65536, the samples alter no number: their dots are the digits, and nothing is above the last one
+abbrev pub Calms : ℕ → ℕ → ℕ → List ℕ → ℕ → ℕ → List ℤ → ℕ → Type 0
+Calms w y x gray begun corner work digits = digits < 65536 → Diffuses w y x gray begun corner work (record { digits = digits; corner = 128 }) work
 
 -- ---- the engine's steps
 

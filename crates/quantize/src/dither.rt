@@ -5,7 +5,7 @@ ghost use lib.IntN.{pos, subℕ};
 ghost use lib.ListN.{length, getD};
 ghost use Rattle.quantize.specs.Diffusion.{value};
 ghost use Rattle.quantize.specs.Machine.{clamp, leftOf, cornerOf, overOf};
-ghost use Rattle.quantize.specs.Steps.{Biased, Parted, Stepped, Diffusing, Diffuses};
+ghost use Rattle.quantize.specs.Steps.{Biased, Parted, Stepped, Reaches, Diffusing, Diffuses, Calms};
 
 // A number of the work buffer, clamped to -128 ..= 128, plus 128.
 fn lift(x: i16) -> u32
@@ -28,16 +28,12 @@ fn lower(b: u32) -> i16
     b as i16 - 128
 }
 
-// k sixteenths of the residual b - 128, rounded, plus 8 k.
+// k sixteenths of the residual b - 128, rounded, plus 8 k: (k * b + 7 + b / 128) / 16, by one product.
 fn part(k: u32, b: u32) -> u32
     requires { ⌜ (k ≤ 7) × (b ≤ 256) ⌝ }
     ensures { λ r. ⌜ Parted k b r ⌝ }
 {
-    if b >= 128 {
-        (k * b + 8) / 16
-    } else {
-        (k * b + 7) / 16
-    }
+    ((128 * k + 1) * b + 896) / 2048
 }
 
 // A dot, 1 where it is white, and its residual, plus 128.
@@ -51,14 +47,12 @@ fn step(gray: u8, left: u32, corner: u32, above: u32, ahead: u32) -> Dot
     requires { ⌜ (left ≤ 256) × (corner ≤ 256) × (above ≤ 256) × (ahead ≤ 256) ⌝ }
     ensures { λ r. ⌜ Stepped (value gray (subℕ left 128) (subℕ corner 128) (subℕ above 128) (subℕ ahead 128)) (r .bit) (r .rest) ⌝ }
 {
-    let v = gray as u32 + part(7, left) + part(1, corner) + part(5, above) + part(3, ahead);
-    if v >= 256 {
-        Dot {
-            bit: 1,
-            rest: v - 255,
-        }
-    } else {
-        Dot { bit: 0, rest: v }
+    let upper = gray as u32 + part(1, corner) + part(5, above) + part(3, ahead);
+    let v = upper + part(7, left);
+    let bit = v / 256;
+    Dot {
+        bit: bit,
+        rest: v % 256 + bit,
     }
 }
 
@@ -74,22 +68,79 @@ fn left_of(work: &[i16], x: usize) -> u32
     lift(work[i])
 }
 
-// The residual above column x of row y, plus 128.
-fn over(work: &[i16], width: usize, y: usize, x: usize) -> u32
-    requires { ⌜ width ≤ length (now work) ⌝ }
-    ensures { λ r. ⌜ Biased (overOf width y (now (work .entry)) x) r ⌝ }
+// The residual above the dot on the left of column x, plus 128.
+fn corner_of(corner: u32, x: usize) -> u32
+    requires { ⌜ corner ≤ 256 ⌝ }
+    ensures { λ r. ⌜ Biased (cornerOf (subℕ corner 128) x) r ⌝ }
 {
-    if 0 < y {
-        if x < width { lift(work[x]) } else { 128 }
-    } else {
-        128
-    }
+    if 0 < x { corner } else { 128 }
+}
+
+// How many columns have residuals above row y.
+fn reach(width: usize, y: usize) -> usize
+    ensures { λ r. ⌜ Reaches width y r ⌝ }
+{
+    if 0 < y { width } else { 0 }
+}
+
+// The residual above column x, plus 128.
+fn over(work: &[i16], reach: usize, x: usize) -> u32
+    requires { ⌜ reach ≤ length (now work) ⌝ }
+    ensures { λ r. ⌜ Biased (overOf reach 1 (now (work .entry)) x) r ⌝ }
+{
+    if x < reach { lift(work[x]) } else { 128 }
 }
 
 // The digits of the begun byte, and the residual above the last dot, plus 128.
 pub struct Dithered {
     pub digits: u32,
     pub corner: u32,
+}
+
+// The answer of `calm` where it has no digits.
+const BUSY: u32 = 65536;
+
+// The digits where nothing is handed to the samples and each is black or white. They leave no residuals: `work` stays as it is.
+fn calm(
+    width: usize,
+    y: usize,
+    column: usize,
+    gray: &[u8],
+    begun: u32,
+    corner: u32,
+    work: &[i16],
+    left: u32,
+    above_left: u32,
+) -> u32
+    requires { ⌜ Diffusing width column (length (now gray)) begun corner (length (now work)) × Biased (leftOf (now work) column) left × Biased (cornerOf (subℕ corner 128) column) «above_left» ⌝ }
+    ensures { λ r. ⌜ Calms width y column (now (gray .entry)) begun corner (now (work .entry)) r ⌝ }
+{
+    let mut digits = begun;
+    if left != 128 {
+        return BUSY;
+    }
+    if above_left != 128 {
+        return BUSY;
+    }
+    if y == 0 {
+        return BUSY;
+    }
+    if over(work, width, column) != 128 {
+        return BUSY;
+    }
+    let mut i: usize = 0;
+    while i < gray.len() {
+        let x = column + i;
+        if over(work, width, x + 1) != 128 {
+            return BUSY;
+        }
+        if gray[i] % 255 != 0 {
+            return BUSY;
+        }
+        digits = digits * 2 + gray[i] as u32 / 128;
+        i += 1;
+    }
+    digits
 }
 
 // The digits of `begun`, and then a dot for each sample, from a column of a row on. `work` keeps a residual for each column.
@@ -106,19 +157,35 @@ pub(crate) fn dither_dots(
     ensures { λ r. ⌜ Diffuses width y column (now (gray .entry)) begun corner (now (work .entry)) r (now (work .exit)) ⌝ }
 {
     let mut left = left_of(work, column);
-    let mut digits = begun;
-    let mut above_left: u32 = 128;
-    if 0 < column {
-        above_left = corner;
+    let mut above_left = corner_of(corner, column);
+    let still = calm(
+        width,
+        y,
+        column,
+        gray,
+        begun,
+        corner,
+        work,
+        left,
+        above_left,
+    );
+    if still < BUSY {
+        return Dithered {
+            digits: still,
+            corner: 128,
+        };
     }
+    let near = reach(width, y);
+    let mut above = over(work, near, column);
+    let mut digits = begun;
     let mut i: usize = 0;
     while i < gray.len() {
         let x = column + i;
-        let above = over(work, width, y, x);
-        let ahead = over(work, width, y, x + 1);
+        let ahead = over(work, near, x + 1);
         let d = step(gray[i], left, above_left, above, ahead);
         left = d.rest;
         above_left = above;
+        above = ahead;
         work[x] = lower(left);
         digits = digits * 2 + d.bit;
         i += 1;

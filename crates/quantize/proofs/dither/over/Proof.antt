@@ -1,6 +1,7 @@
 -- `quantize::dither::over` meets its contract.
 -- Assumes nothing.
 use mathlib.Core.Path.{subst}
+use native.Mathlib.Omega.{arith}
 use borrow.Author.Needs.{needs}
 use denote.Ref.{now}
 use lib.IntN.{ℤ, pos}
@@ -9,7 +10,7 @@ use mir.Syntax.{w16}
 use mir.ValLaws.{toZ-ofZ}
 use Rattle.quantize.specs.Machine.{clamp}
 use Rattle.quantize.specs.Steps.{Biased}
-use Rattle.quantize.proofs.Reading.{over-in, over-past, over-top}
+use Rattle.quantize.proofs.Reading.{over-in, over-past}
 use Rattle.quantize.proofs.Rowing.{biased-zero}
 use Rattle.quantize.proofs.dither.over.Statement.{statement}
 use Rattle.quantize.proofs.dither.over.Tie as tie
@@ -25,21 +26,15 @@ lift-requires c κs = search needs
 
 returns : tie.Need-returns
 returns c =
-    let a = c .before .before .before .before .args in
-    rw (over-in (a .width) (now (a .work)) (a .y) (a .x) (c .before .before .before .if1 .taken) (c .before .before .if2 .taken))
+    let a = c .before .before .before .args in
+    rw (over-in (a .reach) (now (a .work)) 1 (a .x) (omega arith) (c .before .before .if1 .taken))
     (subst (λ (z : ℤ). Biased (clamp z) (c .lift .result)) (toZ-ofZ w16 (getD (now (a .work)) (a .x) (pos 0)) (record { sfits = c .before .lift-arg .given })) (c .lift .ensures))
 
 returns-2 : tie.Need-returns-2
 returns-2 c =
-    let a = c .before .before .args in
-    rw (over-past (a .width) (now (a .work)) (a .y) (a .x) (c .before .if1 .taken) (c .if2 .left)) biased-zero
-
-returns-3 : tie.Need-returns-3
-returns-3 c =
     let a = c .before .args in
-    rw (over-top (a .width) (now (a .work)) (a .y) (a .x) (c .if1 .left)) biased-zero
+    rw (over-past (a .reach) (now (a .work)) 1 (a .x) (omega arith) (c .if1 .left)) biased-zero
 
 pub over-spec : {M : Type 1} → statement M
 over-spec =
-    tie.close
-    (tie.spec mul-lift shared-slice-copy-out-lift lift-requires returns returns-2 returns-3)
+    tie.close (tie.spec mul-lift shared-slice-copy-out-lift lift-requires returns returns-2)
