@@ -6,7 +6,7 @@ use mathlib.Core.Bool.{true, false}
 use mathlib.Core.Logic.{inl, inr}
 use native.Mathlib.Omega.{arith}
 use lib.Pow.{pow-pos}
-use Rattle.quantize.specs.declared.engine.Next.{Next}
+use Rattle.quantize.specs.declared.turn.Next.{Next}
 use Rattle.quantize.specs.Finished.{Setting, count, byteAt}
 use Rattle.quantize.specs.Place.{At, begunBy}
 use Rattle.quantize.specs.Steps.{Advancing, Advances}

@@ -20,6 +20,8 @@ pub mod Following
 pub mod Keeping
 pub mod Ending
 pub mod Opening
+pub mod Stored
+pub mod Bulk
 pub mod Wholes
 pub mod Residuals
 pub mod Joining

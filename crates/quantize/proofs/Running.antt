@@ -13,8 +13,8 @@ use lib.ListN.{length, take, drop, set, length-set, length-take, length-drop}
 use lib.Seq.{drop-set-lt, drop-drop}
 use Rattle.options.specs.declared.Quantize.the-variants.{Dither}
 use Rattle.quantize.specs.declared.engine.Quantizer.{Quantizer}
-use Rattle.quantize.specs.declared.engine.Part.{Part}
-use Rattle.quantize.specs.declared.engine.Next.{Next}
+use Rattle.quantize.specs.declared.turn.Part.{Part}
+use Rattle.quantize.specs.declared.turn.Next.{Next}
 use Rattle.quantize.specs.Bits.{bit, upto}
 use Rattle.quantize.specs.Rule.{Rule}
 use Rattle.quantize.specs.Finished.{Setting, count, byteAt}

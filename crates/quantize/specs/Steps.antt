@@ -6,13 +6,13 @@ use mathlib.Core.Logic.{_⊎_}
 use mathlib.Core.List.{List}
 use lib.Dec.{leb}
 use lib.IntN.{ℤ, subℕ}
-use lib.ListN.{length, getD, take}
+use lib.ListN.{length, getD, take, set}
 use Rattle.options.specs.declared.Quantize.{Quantize}
 use Rattle.options.specs.declared.Quantize.the-variants.{Threshold, Dither, Ordered}
 use Rattle.quantize.specs.declared.dither.Dithered.{Dithered}
-use Rattle.quantize.specs.declared.engine.Part.{Part}
-use Rattle.quantize.specs.declared.engine.Next.{Next}
-use Rattle.quantize.specs.Bits.{bit, appended}
+use Rattle.quantize.specs.declared.turn.Part.{Part}
+use Rattle.quantize.specs.declared.turn.Next.{Next}
+use Rattle.quantize.specs.Bits.{bit, appended, digits}
 use Rattle.quantize.specs.Diffusion.{part, white, residual}
 use Rattle.quantize.specs.Ordered.{number, numbers, exponent, bound, cell}
 use Rattle.quantize.specs.Rule.{Rule, threshold, dither, ordered}
@@ -56,6 +56,15 @@ Packs begun n = (n ≤ 8) × (begun < 256)
 
 abbrev pub thresholdBit : ℕ → List ℕ → ℕ → ℕ
 thresholdBit t gray i = bit (leb t (getD gray i 0))
+
+-- the dots of the samples from an index on
+abbrev pub thresholdFrom : ℕ → List ℕ → ℕ → ℕ → ℕ
+thresholdFrom t gray at i = thresholdBit t gray (at + i)
+
+-- a list with so many bytes of eight such dots stored from an index on
+unfoldable pub stored : ℕ → List ℕ → ℕ → List ℕ → ℕ → ℕ → List ℕ
+stored t gray at out to zero = out
+stored t gray at out to (suc k) = set (stored t gray at out to k) (to + k) (digits (thresholdFrom t gray (at + 8 * k)) 8)
 
 abbrev pub orderedBit : ℕ → List ℕ → ℕ → ℕ → List ℕ → ℕ → ℕ
 orderedBit side table y x gray i = bit (leb (bound side (cell side table (x + i) y)) (getD gray i 0))
@@ -110,6 +119,17 @@ Served (Threshold t) w work = Unit {0}
 Served Dither w work = 2 * w ≤ work
 Served (Ordered side) w work = Known side
 
+-- the rule whose bytes are written at once, and a list with so many of its bytes stored from an index on
+abbrev pub AtOnce : Quantize → Type 0
+AtOnce (Threshold t) = Unit {0}
+AtOnce Dither = ⊥
+AtOnce (Ordered side) = ⊥
+
+abbrev pub filled : Quantize → List ℕ → ℕ → List ℕ → ℕ → ℕ → List ℕ
+filled (Threshold t) gray at out to k = stored t gray at out to k
+filled Dither gray at out to k = out
+filled (Ordered side) gray at out to k = out
+
 pub record Sound (rule : Quantize) (w h row column begun corner work : ℕ) : Type 0 where
   pub inRow : column < w
   pub inFrame : row < h
@@ -120,6 +140,13 @@ pub record Sound (rule : Quantize) (w h row column begun corner work : ℕ) : Ty
 pub record Able (rule : Quantize) (w h row column begun corner work : ℕ) (r : Bool) : Type 0 where
   pub yes : r ≡ true → Sound rule w h row column begun corner work
   pub no : r ≡ false → Sound rule w h row column begun corner work → ⊥
+
+-- r whole bytes of the row, not its last, are written at once
+pub record Wholes (w column samples room r : ℕ) : Type 0 where
+  pub there : 8 * r ≤ samples
+  pub fits : r ≤ room
+  pub inRow : column + 8 * r < w
+  pub aligned : 0 < r → column % 8 ≡ 0
 
 -- r samples go into the begun byte
 pub record Shares (w column samples room r : ℕ) : Type 0 where

@@ -1,15 +1,16 @@
 // The quantising engine, which whole planes and making sessions run.
-use crate::dither::dither_dots;
 use crate::ordered::numbers;
-use crate::ordered::ordered_dots;
-use crate::threshold::threshold_dots;
+use crate::turn::advance;
+use crate::turn::bytes_at_once;
+use crate::turn::dots;
+use crate::turn::fill;
+use crate::turn::share;
 use options::Quantize;
 ghost use mathlib.Core.Path.{_≡_};
-ghost use Prim.Native.Nat.{ℕ, _+_, _-_, _*_, _^_, _≤_, _<_};
 ghost use lib.ListN.{length};
 ghost use Rattle.quantize.specs.Whole.{knownSide};
 ghost use Rattle.quantize.specs.Engine.{Opens, Runs, Tabled};
-ghost use Rattle.quantize.specs.Steps.{Able, Shares, Dotting, Dotted, Advancing, Advances};
+ghost use Rattle.quantize.specs.Steps.{Able};
 
 // Samples of at most so many frames on their way to bytes: the rule and the sizes, and where the next sample goes.
 pub struct Quantizer {
@@ -33,20 +34,6 @@ pub struct Ran {
     pub quantizer: Quantizer,
     pub taken: usize,
     pub written: usize,
-}
-
-struct Part {
-    digits: u32,
-    corner: u32,
-}
-
-struct Next {
-    frames: usize,
-    row: usize,
-    column: usize,
-    begun: u32,
-    byte: u8,
-    whole: bool,
 }
 
 pub(crate) fn known(side: u8) -> bool
@@ -90,119 +77,6 @@ fn able(
         Quantize::Threshold(_) => true,
         Quantize::Dither => width <= work / 2,
         Quantize::Ordered(side) => known(side),
-    }
-}
-
-// How many of so many samples go into the begun byte: without room for the byte not the last one.
-fn share(width: usize, column: usize, samples: usize, room: usize) -> usize
-    requires { ⌜ column < width ⌝ }
-    ensures { λ r. ⌜ Shares width column samples room r ⌝ }
-{
-    let mut most = 8 - column % 8;
-    if width - column < most {
-        most = width - column;
-    }
-    if room == 0 {
-        most -= 1;
-    }
-    if samples < most { samples } else { most }
-}
-
-// The digits of `begun`, and then a dot for each sample, from a column of row y on.
-fn dots(
-    rule: Quantize,
-    table: &[u8; 64],
-    width: usize,
-    y: usize,
-    column: usize,
-    gray: &[u8],
-    begun: u32,
-    corner: u32,
-    work: &mut [i16],
-) -> Part
-    requires { ⌜ Dotting rule width column (length (now gray)) begun corner (length (now work)) ⌝ }
-    ensures { λ r. ⌜ Dotted rule (now (table .entry)) width y column (now (gray .entry)) begun corner (now (work .entry)) r (now (work .exit)) ⌝ }
-{
-    match rule {
-        Quantize::Threshold(bound) => Part {
-            digits: threshold_dots(bound, gray, begun),
-            corner: corner,
-        },
-        Quantize::Dither => {
-            let d = dither_dots(width, y, column, gray, begun, corner, work);
-            Part {
-                digits: d.digits,
-                corner: d.corner,
-            }
-        }
-        Quantize::Ordered(side) => Part {
-            digits: ordered_dots(table, side, y, column, gray, begun),
-            corner: corner,
-        },
-    }
-}
-
-// A byte of m dots: their digits, and then zeros.
-fn pad(digits: u32, m: u32) -> u8
-    requires { ⌜ (m ≤ 8) × (digits < 2 ^ m) ⌝ }
-    ensures { λ r. ⌜ r ≡ digits * 2 ^ (8 - m) ⌝ }
-{
-    (digits << (8 - m)) as u8
-}
-
-// The place after m samples more, which end no later than the begun byte; the byte, and whether they finish it.
-fn advance(
-    width: usize,
-    height: usize,
-    frames: usize,
-    row: usize,
-    column: usize,
-    m: usize,
-    digits: u32,
-) -> Next
-    requires { ⌜ Advancing width height frames row column m digits ⌝ }
-    ensures { λ r. ⌜ Advances width height frames row column m digits r ⌝ }
-{
-    let to = column + m;
-    let dots = column % 8 + m;
-    let byte = pad(digits, dots as u32);
-    if to < width {
-        if dots < 8 {
-            return Next {
-                frames: frames,
-                row: row,
-                column: to,
-                begun: digits,
-                byte: byte,
-                whole: false,
-            };
-        }
-        return Next {
-            frames: frames,
-            row: row,
-            column: to,
-            begun: 0,
-            byte: byte,
-            whole: true,
-        };
-    }
-    if row + 1 < height {
-        return Next {
-            frames: frames,
-            row: row + 1,
-            column: 0,
-            begun: 0,
-            byte: byte,
-            whole: true,
-        };
-    }
-    Next {
-        frames: frames - 1,
-        row: 0,
-        column: 0,
-        begun: 0,
-        byte: byte,
-        whole: true,
     }
 }
 
@@ -258,6 +132,17 @@ impl Quantizer {
             };
         }
         while 0 < frames {
+            let k = bytes_at_once(
+                rule,
+                width,
+                column,
+                samples.len() - taken,
+                out.len() - written,
+            );
+            fill(rule, samples, taken, out, written, k);
+            taken += 8 * k;
+            written += k;
+            column += 8 * k;
             let m = share(width, column, samples.len() - taken, out.len() - written);
             if m == 0 {
                 break;

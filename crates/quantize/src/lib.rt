@@ -3,6 +3,7 @@ mod dither;
 mod engine;
 mod ordered;
 mod threshold;
+mod turn;
 mod whole;
 
 pub use engine::Quantizer;

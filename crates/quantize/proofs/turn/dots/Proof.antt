@@ -1,10 +1,10 @@
--- `quantize::engine::dots` meets its contract.
+-- `quantize::turn::dots` meets its contract.
 -- Assumes nothing.
 use native.Mathlib.Omega.{arith}
 use Rattle.quantize.proofs.Dotting.{dots-threshold, dots-dither, dots-ordered, served-dither, served-ordered}
 use borrow.Author.Needs.{needs}
-use Rattle.quantize.proofs.engine.dots.Statement.{statement}
-use Rattle.quantize.proofs.engine.dots.Tie as tie
+use Rattle.quantize.proofs.turn.dots.Statement.{statement}
+use Rattle.quantize.proofs.turn.dots.Tie as tie
 
 enum-known-rule : tie.Need-enum-known-rule
 enum-known-rule c = search needs

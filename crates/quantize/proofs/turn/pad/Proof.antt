@@ -1,11 +1,11 @@
--- `quantize::engine::pad` meets its contract.
+-- `quantize::turn::pad` meets its contract.
 -- Assumes nothing.
 use native.Mathlib.Nat.{mod-eq-of-lt, lt-trans}
 use lib.Dec.{lit<}
 use Rattle.quantize.proofs.Appending.{shifted-lt}
 use borrow.Author.Needs.{needs}
-use Rattle.quantize.proofs.engine.pad.Statement.{statement}
-use Rattle.quantize.proofs.engine.pad.Tie as tie
+use Rattle.quantize.proofs.turn.pad.Statement.{statement}
+use Rattle.quantize.proofs.turn.pad.Tie as tie
 
 sub-result : tie.Need-sub-result
 sub-result c = search needs

@@ -1,12 +1,12 @@
--- `quantize::engine::share` meets its contract.
+-- `quantize::turn::share` meets its contract.
 -- Assumes nothing.
 use Prim.Native.Nat.{ℕ, _+_, _%_, _≤_}
 use mathlib.Core.Path.{_≡_}
 use mathlib.Core.Logic.{_⊎_, inl, inr, ⊎-elim}
 use native.Mathlib.Omega.{arith}
 use borrow.Author.Needs.{needs}
-use Rattle.quantize.proofs.engine.share.Statement.{statement}
-use Rattle.quantize.proofs.engine.share.Tie as tie
+use Rattle.quantize.proofs.turn.share.Statement.{statement}
+use Rattle.quantize.proofs.turn.share.Tie as tie
 
 sub-most : tie.Need-sub-most
 sub-most c = search needs

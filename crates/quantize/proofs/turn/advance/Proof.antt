@@ -1,9 +1,9 @@
--- `quantize::engine::advance` meets its contract.
+-- `quantize::turn::advance` meets its contract.
 -- Assumes nothing.
 use Rattle.quantize.proofs.Advancing.{advances-on, advances-byte, advances-row, advances-frame}
 use borrow.Author.Needs.{needs}
-use Rattle.quantize.proofs.engine.advance.Statement.{statement}
-use Rattle.quantize.proofs.engine.advance.Tie as tie
+use Rattle.quantize.proofs.turn.advance.Statement.{statement}
+use Rattle.quantize.proofs.turn.advance.Tie as tie
 
 add-to : tie.Need-add-to
 add-to c = search needs

@@ -1,0 +1,180 @@
+// A turn of the engine: whole bytes at once, then the samples of one byte.
+use crate::dither::dither_dots;
+use crate::ordered::ordered_dots;
+use crate::threshold::threshold_bytes;
+use crate::threshold::threshold_dots;
+use options::Quantize;
+ghost use mathlib.Core.Path.{_≡_};
+ghost use Prim.Native.Nat.{_+_, _-_, _*_, _^_, _≤_, _<_};
+ghost use lib.ListN.{length};
+ghost use Rattle.quantize.specs.Steps.{Wholes, AtOnce, filled, Shares, Dotting, Dotted, Advancing, Advances};
+
+pub struct Part {
+    pub digits: u32,
+    pub corner: u32,
+}
+
+pub struct Next {
+    pub frames: usize,
+    pub row: usize,
+    pub column: usize,
+    pub begun: u32,
+    pub byte: u8,
+    pub whole: bool,
+}
+
+fn least(a: usize, b: usize) -> usize
+    ensures { λ r. ⌜ (r ≤ a) × (r ≤ b) ⌝ }
+{
+    if a < b { a } else { b }
+}
+
+// How many whole bytes of a row, but its last, so many samples give and so much room takes.
+fn whole_bytes(width: usize, column: usize, samples: usize, room: usize) -> usize
+    requires { ⌜ column < width ⌝ }
+    ensures { λ r. ⌜ Wholes width column samples room r ⌝ }
+{
+    if column % 8 != 0 {
+        return 0;
+    }
+    least((width - column - 1) / 8, least(samples / 8, room))
+}
+
+// The same where the rule's bytes are written at once, and otherwise 0.
+pub(crate) fn bytes_at_once(rule: Quantize, width: usize, column: usize, samples: usize, room: usize) -> usize
+    requires { ⌜ column < width ⌝ }
+    ensures { λ r. ⌜ Wholes width column samples room r × (0 < r → AtOnce rule) ⌝ }
+{
+    match rule {
+        Quantize::Threshold(_) => whole_bytes(width, column, samples, room),
+        Quantize::Dither => 0,
+        Quantize::Ordered(_) => 0,
+    }
+}
+
+// So many whole bytes, of the samples from index `at` on, into the output from index `to` on.
+pub(crate) fn fill(rule: Quantize, samples: &[u8], at: usize, out: &mut [u8], to: usize, count: usize)
+    requires { ⌜ (at + 8 * count ≤ length (now samples)) × (to + count ≤ length (now out)) ⌝ }
+    ensures { λ r. ⌜ now (out .exit) ≡ filled rule (now (samples .entry)) at (now (out .entry)) to count ⌝ }
+{
+    match rule {
+        Quantize::Threshold(bound) => {
+            threshold_bytes(bound, samples, at, out, to, count);
+        }
+        Quantize::Dither => {}
+        Quantize::Ordered(_) => {}
+    }
+}
+
+// How many of so many samples go into the begun byte: without room for the byte not the last one.
+pub(crate) fn share(width: usize, column: usize, samples: usize, room: usize) -> usize
+    requires { ⌜ column < width ⌝ }
+    ensures { λ r. ⌜ Shares width column samples room r ⌝ }
+{
+    let mut most = 8 - column % 8;
+    if width - column < most {
+        most = width - column;
+    }
+    if room == 0 {
+        most -= 1;
+    }
+    if samples < most { samples } else { most }
+}
+
+// The digits of `begun`, and then a dot for each sample, from a column of row y on.
+pub(crate) fn dots(
+    rule: Quantize,
+    table: &[u8; 64],
+    width: usize,
+    y: usize,
+    column: usize,
+    gray: &[u8],
+    begun: u32,
+    corner: u32,
+    work: &mut [i16],
+) -> Part
+    requires { ⌜ Dotting rule width column (length (now gray)) begun corner (length (now work)) ⌝ }
+    ensures { λ r. ⌜ Dotted rule (now (table .entry)) width y column (now (gray .entry)) begun corner (now (work .entry)) r (now (work .exit)) ⌝ }
+{
+    match rule {
+        Quantize::Threshold(bound) => Part {
+            digits: threshold_dots(bound, gray, begun),
+            corner: corner,
+        },
+        Quantize::Dither => {
+            let d = dither_dots(width, y, column, gray, begun, corner, work);
+            Part {
+                digits: d.digits,
+                corner: d.corner,
+            }
+        }
+        Quantize::Ordered(side) => Part {
+            digits: ordered_dots(table, side, y, column, gray, begun),
+            corner: corner,
+        },
+    }
+}
+
+// A byte of m dots: their digits, and then zeros.
+fn pad(digits: u32, m: u32) -> u8
+    requires { ⌜ (m ≤ 8) × (digits < 2 ^ m) ⌝ }
+    ensures { λ r. ⌜ r ≡ digits * 2 ^ (8 - m) ⌝ }
+{
+    (digits << (8 - m)) as u8
+}
+
+// The place after m samples more, which end no later than the begun byte; the byte, and whether they finish it.
+pub(crate) fn advance(
+    width: usize,
+    height: usize,
+    frames: usize,
+    row: usize,
+    column: usize,
+    m: usize,
+    digits: u32,
+) -> Next
+    requires { ⌜ Advancing width height frames row column m digits ⌝ }
+    ensures { λ r. ⌜ Advances width height frames row column m digits r ⌝ }
+{
+    let to = column + m;
+    let dots = column % 8 + m;
+    let byte = pad(digits, dots as u32);
+    if to < width {
+        if dots < 8 {
+            return Next {
+                frames: frames,
+                row: row,
+                column: to,
+                begun: digits,
+                byte: byte,
+                whole: false,
+            };
+        }
+        return Next {
+            frames: frames,
+            row: row,
+            column: to,
+            begun: 0,
+            byte: byte,
+            whole: true,
+        };
+    }
+    if row + 1 < height {
+        return Next {
+            frames: frames,
+            row: row + 1,
+            column: 0,
+            begun: 0,
+            byte: byte,
+            whole: true,
+        };
+    }
+    Next {
+        frames: frames - 1,
+        row: 0,
+        column: 0,
+        begun: 0,
+        byte: byte,
+        whole: true,
+    }
+}
