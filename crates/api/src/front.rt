@@ -1,5 +1,4 @@
 // Short headers, which most files have: 00 00, and sizes of one or two bytes each. Other headers are left to the header's reader.
-ghost use mathlib.Core.Path.{_≡_};
 ghost use Rattle.api.specs.Parts.{Reads, Heights, Fronts};
 
 pub(crate) enum Front {

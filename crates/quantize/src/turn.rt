@@ -41,7 +41,13 @@ fn whole_bytes(width: usize, column: usize, samples: usize, room: usize) -> usiz
 }
 
 // The same where the rule's bytes are written at once, and otherwise 0.
-pub(crate) fn bytes_at_once(rule: Quantize, width: usize, column: usize, samples: usize, room: usize) -> usize
+pub(crate) fn bytes_at_once(
+    rule: Quantize,
+    width: usize,
+    column: usize,
+    samples: usize,
+    room: usize,
+) -> usize
     requires { ⌜ column < width ⌝ }
     ensures { λ r. ⌜ Wholes width column samples room r × (0 < r → AtOnce rule) ⌝ }
 {
@@ -53,7 +59,14 @@ pub(crate) fn bytes_at_once(rule: Quantize, width: usize, column: usize, samples
 }
 
 // So many whole bytes, of the samples from index `at` on, into the output from index `to` on.
-pub(crate) fn fill(rule: Quantize, samples: &[u8], at: usize, out: &mut [u8], to: usize, count: usize)
+pub(crate) fn fill(
+    rule: Quantize,
+    samples: &[u8],
+    at: usize,
+    out: &mut [u8],
+    to: usize,
+    count: usize,
+)
     requires { ⌜ (at + 8 * count ≤ length (now samples)) × (to + count ≤ length (now out)) ⌝ }
     ensures { λ r. ⌜ now (out .exit) ≡ filled rule (now (samples .entry)) at (now (out .entry)) to count ⌝ }
 {
