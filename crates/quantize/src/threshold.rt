@@ -29,38 +29,44 @@ pub(crate) fn threshold_dots(bound: u8, gray: &[u8], begun: u32) -> u32
     digits
 }
 
-// The dots of four samples.
-fn four_dots(bound: u8, gray: &[u8], at: usize) -> u32
-    requires { ⌜ at + 4 ≤ length (now gray) ⌝ }
-    ensures { λ r. ⌜ (r ≡ digits (thresholdFrom bound (now (gray .entry)) at) 4) × (r ≤ 15) ⌝ }
+// The dots of eight samples as a byte.
+fn byte(bound: u8, gray: &[u8], at: usize) -> u8
+    requires { ⌜ at + 8 ≤ length (now gray) ⌝ }
+    ensures { λ r. ⌜ r ≡ digits (thresholdFrom bound (now (gray .entry)) at) 8 ⌝ }
 {
     let a = dot(bound, gray, at);
     let b = dot(bound, gray, at + 1);
     let c = dot(bound, gray, at + 2);
     let d = dot(bound, gray, at + 3);
-    8 * a + 4 * b + 2 * c + d
+    let e = dot(bound, gray, at + 4);
+    let f = dot(bound, gray, at + 5);
+    let g = dot(bound, gray, at + 6);
+    let h = dot(bound, gray, at + 7);
+    (128 * a + 64 * b + 32 * c + 16 * d + 8 * e + 4 * f + 2 * g + h) as u8
 }
 
-fn byte(bound: u8, gray: &[u8], at: usize) -> u8
-    requires { ⌜ at + 8 ≤ length (now gray) ⌝ }
-    ensures { λ r. ⌜ r ≡ digits (thresholdFrom bound (now (gray .entry)) at) 8 ⌝ }
+// So many bytes of eight samples each, from sample `at` on, into the output from index `to` on.
+fn block(bound: u8, gray: &[u8], at: usize, out: &mut [u8], to: usize, count: usize)
+    requires { ⌜ (at + 8 * count ≤ length (now gray)) × (to + count ≤ length (now out)) ⌝ }
+    ensures { λ r. ⌜ now (out .exit) ≡ stored bound (now (gray .entry)) at (now (out .entry)) to count ⌝ }
 {
-    let high = four_dots(bound, gray, at);
-    let low = four_dots(bound, gray, at + 4);
-    (16 * high + low) as u8
+    let mut k: usize = 0;
+    while k < count {
+        let from = at + 8 * k;
+        let j = to + k;
+        out[j] = byte(bound, gray, from);
+        k += 1;
+    }
 }
 
-// Two bytes of eight samples each, from sample `at` on, into the output from index `to` on.
-fn two_bytes(bound: u8, gray: &[u8], at: usize, out: &mut [u8], to: usize)
-    requires { ⌜ (at + 16 ≤ length (now gray)) × (to + 2 ≤ length (now out)) ⌝ }
-    ensures { λ r. ⌜ now (out .exit) ≡ stored bound (now (gray .entry)) at (now (out .entry)) to 2 ⌝ }
+// As many, but at most 8.
+fn shortened(n: usize) -> usize
+    ensures { λ r. ⌜ (r ≤ n) × (1 ≤ n → 1 ≤ r) ⌝ }
 {
-    out[to] = byte(bound, gray, at);
-    let next = to + 1;
-    out[next] = byte(bound, gray, at + 8);
+    if n < 8 { n } else { 8 }
 }
 
-// So many such bytes, by twos, which the compiler turns into the fastest code.
+// The same in blocks of at most 8 bytes: the compiler's code for longer runs is slower.
 pub(crate) fn threshold_bytes(
     bound: u8,
     gray: &[u8],
@@ -73,12 +79,9 @@ pub(crate) fn threshold_bytes(
     ensures { λ r. ⌜ now (out .exit) ≡ stored bound (now (gray .entry)) at (now (out .entry)) to count ⌝ }
 {
     let mut k: usize = 0;
-    while 2 <= count - k {
-        two_bytes(bound, gray, at + 8 * k, out, to + k);
-        k += 2;
-    }
-    if k < count {
-        let last = to + k;
-        out[last] = byte(bound, gray, at + 8 * k);
+    while k < count {
+        let m = shortened(count - k);
+        block(bound, gray, at + 8 * k, out, to + k, m);
+        k += m;
     }
 }

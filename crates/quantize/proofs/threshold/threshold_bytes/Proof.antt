@@ -3,9 +3,9 @@ use mathlib.Core.Path.{_≡_, refl, sym, ap, _∙_, subst}
 use mathlib.Core.List.{List}
 use native.Mathlib.Omega.{arith}
 use denote.Ref.{now}
-use lib.ListN.{length, length-set}
+use lib.ListN.{length}
 use Rattle.quantize.specs.Steps.{stored}
-use Rattle.quantize.proofs.Stored.{stored-length, stored-next, stored-more}
+use Rattle.quantize.proofs.Stored.{stored-length, stored-more}
 use Rattle.quantize.proofs.threshold.threshold_bytes.Statement.{statement}
 use Rattle.quantize.proofs.threshold.threshold_bytes.Tie as tie
 
@@ -24,79 +24,58 @@ loop-holds : tie.Need-loop-holds Inv-loop μ-loop
 unfolding stored
 loop-holds c = (omega arith, refl)
 
-sub-loop : tie.Need-sub-loop Inv-loop μ-loop
-sub-loop c = c .loop .inv .0
+sub-shortened : tie.Need-sub-shortened Inv-loop μ-loop
+sub-shortened c = omega arith
 
-mul-two-bytes : tie.Need-mul-two-bytes Inv-loop μ-loop
-mul-two-bytes c = omega arith
+shortened-requires : tie.Need-shortened-requires Inv-loop μ-loop
+shortened-requires c κs = tt
 
-add-two-bytes : tie.Need-add-two-bytes Inv-loop μ-loop
-add-two-bytes c = omega arith
+mul-block : tie.Need-mul-block Inv-loop μ-loop
+mul-block c = omega arith
 
-add-two-bytes-2 : tie.Need-add-two-bytes-2 Inv-loop μ-loop
-add-two-bytes-2 c = omega arith
+add-block : tie.Need-add-block Inv-loop μ-loop
+add-block c = omega arith
 
-two-bytes-requires : tie.Need-two-bytes-requires Inv-loop μ-loop
-two-bytes-requires c κs =
-    let l = c .before .before in
+add-block-2 : tie.Need-add-block-2 Inv-loop μ-loop
+add-block-2 c = omega arith
+
+block-requires : tie.Need-block-requires Inv-loop μ-loop
+block-requires c κs =
+    let l = c .before .before .before in
     let p = l .before .before .before .pre in
-    let t = c .before .loop-test .taken in (
-      omega (arith, p .0, t),
-      subst (λ (n : ℕ). l .before .before .before .args .to + l .loop .k + 2 ≤ n) (sym (long l)) (omega (arith, p .1, t)),
-    )
+    let m = c .before .shortened .ensures in
+    let t = c .before .before .loop-test .taken in
+    (omega (arith, p .0, m .0, t), subst (λ (n : ℕ). l .before .before .before .args .to + l .loop .k + c .before .shortened .result ≤ n) (sym (long l)) (omega (arith, p .1, m .0, t)))
 
 add-k : tie.Need-add-k Inv-loop μ-loop
 add-k c = omega arith
 
 loop-less : tie.Need-loop-less Inv-loop μ-loop
-loop-less c = omega arith
+loop-less c =
+    let m = c .before .before .before .before .shortened .ensures in
+    let t = c .before .before .before .before .before .loop-test .taken in
+    let n = m .1 (omega arith) in
+    omega arith
 
 loop-again : tie.Need-loop-again Inv-loop μ-loop
 loop-again c =
-    let l = c .before .before .before .before .before in
+    let l = c .before .before .before .before .before .before in
     let a = l .before .before .before .args in
-    let t = c .before .before .before .before .loop-test .taken in (
-      omega (arith, t),
-      c .before .before .two-bytes .ensures
-          ∙ ap (λ (o : List ℕ). stored (a .bound) (now (a .gray)) (a .at + 8 * l .loop .k) o (a .to + l .loop .k) 2) (l .loop .inv .1)
-          ∙ stored-more (a .bound) (now (a .gray)) (a .at) (now (a .out)) (a .to) (l .loop .k) 2,
+    let m = c .before .before .before .before .shortened .ensures in
+    let t = c .before .before .before .before .before .loop-test .taken in
+    let n = c .before .before .before .before .shortened .result in (
+      omega (arith, m .0, t),
+      c .before .before .block .ensures
+          ∙ ap (λ (o : List ℕ). stored (a .bound) (now (a .gray)) (a .at + 8 * l .loop .k) o (a .to + l .loop .k) n) (l .loop .inv .1)
+          ∙ stored-more (a .bound) (now (a .gray)) (a .at) (now (a .out)) (a .to) (l .loop .k) n,
     )
 
-add-last : tie.Need-add-last Inv-loop μ-loop
-add-last c = omega arith
-
-mul-byte : tie.Need-mul-byte Inv-loop μ-loop
-mul-byte c = omega arith
-
-add-byte : tie.Need-add-byte Inv-loop μ-loop
-add-byte c = omega arith
-
-byte-requires : tie.Need-byte-requires Inv-loop μ-loop
-byte-requires c κs = omega arith
-
-slice-write-out : tie.Need-slice-write-out Inv-loop μ-loop
-slice-write-out c =
-    let l = c .before .before .before in
-    let n = long l in
-    omega (arith, l .before .before .before .pre)
-
 same-length : tie.Need-same-length Inv-loop μ-loop
-same-length c = simp length-set (long (c .before .before .before))
+same-length c = long (c .before)
 
 returns : tie.Need-returns Inv-loop μ-loop
 returns c =
-    let l = c .before .before .before in
-    let a = l .before .before .before .args in
-    let e : l .loop .k + 1 ≡ a .count = omega arith in
-    rw (l .loop .inv .1, c .byte .ensures) (stored-next (a .bound) (now (a .gray)) (a .at) (now (a .out)) (a .to) (l .loop .k))
-    ∙ ap (stored (a .bound) (now (a .gray)) (a .at) (now (a .out)) (a .to)) e
-
-same-length-2 : tie.Need-same-length-2 Inv-loop μ-loop
-same-length-2 c = long (c .before .before)
-
-returns-2 : tie.Need-returns-2 Inv-loop μ-loop
-returns-2 c =
-    let l = c .before .before in
+    let l = c .before in
     let a = l .before .before .before .args in
     let e : l .loop .k ≡ a .count = omega arith in
     l .loop .inv .1 ∙ ap (stored (a .bound) (now (a .gray)) (a .at) (now (a .out)) (a .to)) e
@@ -108,20 +87,14 @@ threshold-bytes-spec =
     Inv-loop
     μ-loop
     loop-holds
-    sub-loop
-    mul-two-bytes
-    add-two-bytes
-    add-two-bytes-2
-    two-bytes-requires
+    sub-shortened
+    shortened-requires
+    mul-block
+    add-block
+    add-block-2
+    block-requires
     add-k
     loop-less
     loop-again
-    add-last
-    mul-byte
-    add-byte
-    byte-requires
-    slice-write-out
     same-length
-    returns
-    same-length-2
-    returns-2)
+    returns)
