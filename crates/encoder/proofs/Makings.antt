@@ -1,12 +1,12 @@
--- What whole making makes: the header, and the bytes that the scans' samples finish; and cards that are made or refused.
+-- Surplus samples, and cards that are made or refused.
 use Prim.Native.Nat.{ℕ, _-_, _*_, _^_}
-use mathlib.Core.Path.{_≡_, refl, ap, _∙_}
+use mathlib.Core.Path.{_≡_, refl}
 use mathlib.Core.Bool.{false}
 use mathlib.Core.List.{List, [], _∷_, _++_}
 use native.Mathlib.Omega.{arith}
-use lib.ListN.{length, take, length-append}
+use lib.ListN.{length, length-append}
 use lib.Seq.{take-append-le}
-use Rattle.error.specs.Answer.{Answer, gives, refuses, bind, map}
+use Rattle.error.specs.Answer.{gives, refuses}
 use Rattle.error.specs.Emits.{emitted}
 use Rattle.mbi.specs.Bytes.{groups, mbiBytes}
 use Rattle.ext.specs.Write.{octetsBytes, fieldsBytes, lentFields}
@@ -20,19 +20,8 @@ use Rattle.quantize.specs.Diffusion.{part, value, white, residual, valueFrom, h
 use Rattle.quantize.specs.Rule.{dot}
 use Rattle.quantize.specs.Engine.{setting}
 use Rattle.quantize.specs.Finished.{begunBytes, count, frame, dotOf, bitAt, byteAt, finished}
-use Rattle.encoder.specs.File.{fileOf}
-use Rattle.encoder.specs.Make.{checkScans, scanBytes, fileOfScans}
+use Rattle.encoder.specs.Make.{checkScans, fileOfScans}
 use Rattle.encoder.proofs.Scanned.{passed, passes}
-
--- THE FILE
-pub making-is : (ceiling : ℕ) (o : EncodeOptions) (w h n : ℕ) (gray text lengths : List ℕ) (work : ℕ) (front : List ℕ)
-    → checkScans ceiling (o .quantize) w h n (length gray) work ≡ gives tt
-    → extHeader (o .strict) w h (o .ext) text lengths ≡ gives front
-    → fileOfScans ceiling o w h n gray text lengths work ≡ gives (front ++ finished (setting (o .quantize) w h n) (take (n * (w * h)) gray))
-unfolding fileOfScans
-making-is ceiling o w h n gray text lengths work front tests header =
-    ap (λ (a : Answer (Unit {0})). bind a (λ _. fileOf o w h text lengths (scanBytes (o .quantize) w h gray n))) tests
-    ∙ ap (map (λ header. header ++ scanBytes (o .quantize) w h gray n)) header
 
 -- "Surplus is ignored": samples behind the last scan change nothing
 pub surplus-ignored : (ceiling : ℕ) (o : EncodeOptions) (w h n : ℕ) (gray ρ text lengths : List ℕ) (work : ℕ)
@@ -71,8 +60,8 @@ two-surplus : (ρ : List ℕ) → fileOfScans 16 dithering 2 1 2 (scans ++ ρ) [
 two-surplus ρ = surplus-ignored 16 dithering 2 1 2 scans ρ [] [] 4 two-tested
 
 two-made : fileOfScans 16 dithering 2 1 2 scans [] [] 4 ≡ gives (0 ∷ 0 ∷ 2 ∷ 1 ∷ 0x40 ∷ 0x80 ∷ [])
-two-made =
-    making-is 16 dithering 2 1 2 scans [] [] 4 _ two-tested two-fronted ∙ ap (λ (body : List ℕ). gives (0 ∷ 0 ∷ 2 ∷ 1 ∷ body)) two-finished
+unfolding fileOfScans
+two-made = rw (two-tested, two-fronted, two-finished)
 
 -- an output one byte short
 two-short : (old : List ℕ) → length old ≡ 5 → emitted (fileOfScans 16 dithering 2 1 2 scans [] [] 4) old ≡ refuses 25 0
