@@ -73,7 +73,7 @@ fn writes(input: &[u8], output: &[u8]) -> Stated {
     )
 }
 
-/// The example that the Rust quotes of WAP 4.3.1: 0xA0 is 81 20. An 8th byte that passes 32 bits is 2, else 3; a
+/// The worked example in the Rust's comments: 0xA0 is 81 20. An 8th byte that passes 32 bits is 2, else 3; a
 /// start past the end is 1 there.
 fn integers() -> Vec<Stated> {
     vec![
