@@ -1,24 +1,18 @@
 -- What the private functions ask and promise.
 use Prim.Native.Nat.{ℕ, _<_, _≤_}
 use mathlib.Core.Path.{_≡_}
-use mathlib.Core.Bool.{true, _&&_}
+use mathlib.Core.Bool.{true}
 use mathlib.Core.List.{List}
-use lib.Dec.{leb}
-use lib.ListN.{length, drop}
-use Rattle.error.specs.Choice.{if}
 use Rattle.error.specs.Answer.{gives, map}
 use Rattle.mbi.specs.Read.{readMbi}
 use Rattle.ext.specs.Kinds.{absent}
 use Rattle.header.specs.Settings.{inner}
 use Rattle.header.specs.Read.{Outline, outline, outlineHeight, readHeader}
 use Rattle.image.specs.Geometry.{rowBytes, paddingMask}
-use Rattle.api.specs.declared.Sniffed.{Sniffed}
-use Rattle.api.specs.declared.Sniffed.the-variants.{Neither}
 use Rattle.api.specs.declared.front.Front.{Front}
 use Rattle.api.specs.declared.front.Front.the-variants.{Sizes, Unread}
 use Rattle.api.specs.declared.front.Short.{Short}
 use Rattle.api.specs.declared.front.Short.the-variants.{Value, Longer}
-use Rattle.api.specs.Sniff.{sniffBody}
 
 -- the bytes and the mask of rows that have bytes
 pub record Rows (width row mask : ℕ) : Type 0 where
@@ -31,11 +25,6 @@ pub record Sized (width height start size : ℕ) : Type 0 where
   pub wide : 0 < width
   pub high : 0 < height
   pub within : start ≤ size
-
--- what is said of a file with these sizes
-abbrev pub sniffSizes : List ℕ → ℕ → ℕ → ℕ → Sniffed
-sniffSizes bytes width height start =
-    if (leb width 16384 && leb height 16384) (sniffBody width height (drop start bytes)) Neither
 
 -- an integer that was told is the one at the offset
 abbrev pub Reads : List ℕ → ℕ → Short → Type 0

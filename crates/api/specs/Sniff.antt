@@ -37,10 +37,13 @@ sniffBody width height body =
     (sniffLength (planeBytes width height) (length body))
     Neither
 
--- "needs 00 00, shortest sizes 1..16,384": what a strict header has, and sizes up to 16,384
+-- "needs 00 00, shortest sizes 1..16,384": what a strict header has, and sizes up to 16,384, behind which the body starts
+abbrev pub sniffSizes : List ℕ → ℕ → ℕ → ℕ → Sniffed
+sniffSizes bytes width height start =
+    if (leb width 16384 && leb height 16384) (sniffBody width height (drop start bytes)) Neither
+
 abbrev pub sniffHeader : List ℕ → Answer Outline → Sniffed
-sniffHeader bytes (gives h) =
-    if (leb (h .width) 16384 && leb (h .height) 16384) (sniffBody (h .width) (h .height) (drop (h .body) bytes)) Neither
+sniffHeader bytes (gives h) = sniffSizes bytes (h .width) (h .height) (h .body)
 sniffHeader bytes (refuses code offset) = Neither
 
 unfoldable pub sniffed : List ℕ → Sniffed
