@@ -5,6 +5,9 @@ pub mod Range
 pub mod Appending
 pub mod Reading
 pub mod Rowing
+pub mod Further
+pub mod Eights
+pub mod Calming
 pub mod Cells
 pub mod Places
 pub mod Packing
@@ -14,6 +17,7 @@ pub mod Dotting
 pub mod Grown
 pub mod Counting
 pub mod Tracing
+pub mod Chaining
 pub mod Running
 pub mod Causes
 pub mod Following
@@ -21,6 +25,7 @@ pub mod Keeping
 pub mod Ending
 pub mod Opening
 pub mod Stored
+pub mod Filling
 pub mod Bulk
 pub mod Wholes
 pub mod Residuals

@@ -13,7 +13,7 @@ use Rattle.quantize.specs.Bits.{bit, appended}
 use Rattle.quantize.specs.Diffusion.{value, white, residual}
 use Rattle.quantize.specs.Rule.{Rule, dither}
 use Rattle.quantize.specs.Machine.{Carry, clamp, leftOf, cornerOf, overOf, valueOf, diffused, machineDot, next}
-use Rattle.quantize.specs.Steps.{Biased, Stepped, rowCarry, rowBit, carryOf, Diffuses}
+use Rattle.quantize.specs.Steps.{Biased, Stepped, rowCarry, rowBit, carryOf, Dots, Near}
 use Rattle.quantize.proofs.Range.{within, clamp-same}
 use Rattle.quantize.proofs.Reading.{left-at, corner-at, over-set, kept-zero}
 use Rattle.quantize.proofs.Differences.{stepped-calm}
@@ -94,8 +94,20 @@ module _ (w y x : ℕ) (gray : List ℕ) (begun corner : ℕ) (work₀ : List �
       subst (λ (kept : List ℤ). Inv kept 128 (digits * 2 + getD gray i 0 / 128) 128 128 (i + 1)) (kept-zero w work y (x + i) h k (I .aboveIs .is))
       (inv-more work 128 digits 128 128 i I 128 (getD gray i 0 / 128) 128 hr (stepped-calm (getD gray i 0) b e) (pos 0) refl m (omega arith))
 
+  -- the residuals next to the dot after the last one
+  pub inv-near : (work : List ℤ) (left digits aboveLeft above i : ℕ) → Inv work left digits aboveLeft above i → length gray ≤ i → 0 < length gray
+      → Near w y (x + length gray) aboveLeft work left aboveLeft above
+  inv-near work left digits aboveLeft above i I h k =
+      let b = I .bound in
+      let e : i ≡ length gray = omega arith in
+      record {
+        leftIs = subst (λ (n : ℕ). Biased (leftOf work (x + n)) left) e (I .leftIs);
+        cornerIs = corner-on aboveLeft (x + length gray) aboveLeft (I .cornerIs .small) (omega arith) refl;
+        aboveIs = subst (λ (n : ℕ). Biased (overOf w y work (x + n)) above) e (I .aboveIs);
+      }
+
   pub inv-end : (work : List ℤ) (left digits aboveLeft above i : ℕ) → Inv work left digits aboveLeft above i → length gray ≤ i → 0 < length gray
-      → Diffuses w y x gray begun corner work₀ (record { digits = digits; corner = aboveLeft }) work
+      → Dots dither w y x gray begun corner work₀ digits aboveLeft work
   inv-end work left digits aboveLeft above i I h k =
       let b = I .bound in
       let e : i ≡ length gray = omega arith in

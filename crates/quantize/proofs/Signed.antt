@@ -1,4 +1,4 @@
--- Signed arithmetic at 16 bits: what `lift` and `lower` compute, by the sign of their argument.
+-- Signed arithmetic: what `lift` and `lower` compute, by the sign of their argument.
 -- Assumes nothing.
 use mathlib.Core.Path.{_≡_, sym, ap, _∙_, subst}
 use mathlib.Core.Bool.{true, false}
@@ -18,6 +18,11 @@ use Rattle.quantize.proofs.Differences.{sub-neg, sub-pos, lt-or-le}
 pub never : {X : Type 0} → false ≡ true → X
 never e = absurd (subst T (sym e) tt)
 
+-- a number of 16 bits is one of 32
+pub wider : (z : ℤ) → SFits w16 z → SFits w32 z
+wider (pos n) f = let h = f .sfits in record { sfits = omega arith }
+wider (negsuc n) f = let h = f .sfits in record { sfits = omega arith }
+
 -- `lift`: below the range, above it, and within
 pub lift-low : (z : ℤ) → ltZ z (negsuc 127) ≡ true → Biased (clamp z) 0
 lift-low (pos n) t = never t
@@ -27,7 +32,7 @@ pub lift-high : (z : ℤ) → ltZ (pos 128) z ≡ true → Biased (clamp z) 256
 lift-high (pos n) t = let h = ltb-true 128 n t in record { is = ap pos (omega arith); small = omega arith }
 lift-high (negsuc n) t = never t
 
-pub lift-add : (z : ℤ) → ltZ z (negsuc 127) ≡ false → ltZ (pos 128) z ≡ false → SFits w16 (z +ℤ pos 128)
+pub lift-add : (z : ℤ) → ltZ z (negsuc 127) ≡ false → ltZ (pos 128) z ≡ false → SFits w32 (z +ℤ pos 128)
 lift-add (pos n) t u = let h = ltb-false 128 n u in record { sfits = omega arith }
 lift-add (negsuc n) t u = let h = ltb-false 127 n t in rw (sub-pos 128 (suc n) (omega arith)) (record { sfits = omega arith })
 

@@ -1,15 +1,16 @@
 -- What the crate's own functions ask and promise. A residual r is held as the number r + 128.
-use Prim.Native.Nat.{ℕ, zero, suc, _+_, _*_, _%_, _^_, _≤_, _<_}
+use Prim.Native.Nat.{ℕ, zero, suc, _+_, _-_, _*_, _%_, _^_, _≤_, _<_}
 use mathlib.Core.Path.{_≡_}
 use mathlib.Core.Bool.{Bool, true, false}
 use mathlib.Core.Logic.{_⊎_}
 use mathlib.Core.List.{List}
 use lib.Dec.{leb}
-use lib.IntN.{ℤ, subℕ}
-use lib.ListN.{length, getD, take, set}
+use lib.IntN.{ℤ, pos, subℕ}
+use lib.ListN.{length, getD, take, drop, set}
 use Rattle.options.specs.declared.Quantize.{Quantize}
 use Rattle.options.specs.declared.Quantize.the-variants.{Threshold, Dither, Ordered}
 use Rattle.quantize.specs.declared.dither.Dithered.{Dithered}
+use Rattle.quantize.specs.declared.row.Eight.{Eight}
 use Rattle.quantize.specs.declared.turn.Part.{Part}
 use Rattle.quantize.specs.declared.turn.Next.{Next}
 use Rattle.quantize.specs.Bits.{bit, appended, digits}
@@ -17,7 +18,7 @@ use Rattle.quantize.specs.Diffusion.{part, white, residual}
 use Rattle.quantize.specs.Ordered.{number, numbers, exponent, bound, cell}
 use Rattle.quantize.specs.Rule.{Rule, threshold, dither, ordered}
 use Rattle.quantize.specs.Finished.{Setting, count, byteAt}
-use Rattle.quantize.specs.Machine.{Carry, overOf, machineDot, next}
+use Rattle.quantize.specs.Machine.{Carry, leftOf, cornerOf, overOf, machineDot, next}
 use Rattle.quantize.specs.Place.{At, begunBy, Begun}
 
 -- r holds z, which is within -128 .. 128
@@ -35,9 +36,10 @@ pub record Stepped (v : ℤ) (dot rest : ℕ) : Type 0 where
   pub dotIs : dot ≡ bit (white v)
   pub restIs : Biased (residual v) rest
 
--- above row y of w columns there are residuals for the first r columns: what is read above a row of so many is what is read above row y
+-- above row y of w columns there are residuals for the first r columns, all or none: what is read above a row of so many is what is read above row y
 pub record Reaches (w y r : ℕ) : Type 0 where
   pub most : r ≤ w
+  pub all : 0 < r → r ≡ w
   pub is : (kept : List ℤ) (x : ℕ) → overOf w y kept x ≡ overOf r 1 kept x
 
 -- ---- samples of one row, from a column on
@@ -85,6 +87,16 @@ Filled side table = (k : ℕ) → side ≡ 2 ^ k → take (side * side) table �
 abbrev pub Table : ℕ → List ℕ → Type 0
 Table side table = Known side → take (side * side) table ≡ numbers (exponent side)
 
+-- the machine's state, from the numbers that the code keeps
+abbrev pub carryOf : ℕ → List ℤ → Carry
+carryOf corner work = record { corner = subℕ corner 128; kept = work }
+
+-- the digits of `begun` and of the samples' dots, from column x of row y on, and what is kept after them
+pub record Dots (rule : Rule) (w y x : ℕ) (gray : List ℕ) (begun corner : ℕ) (work : List ℤ) (dots corner′ : ℕ) (work′ : List ℤ) : Type 0 where
+  pub digits : dots ≡ appended begun (rowBit rule w y x gray (carryOf corner work)) (length gray)
+  pub carry : rowCarry rule w y x gray (carryOf corner work) (length gray) ≡ carryOf corner′ work′
+  pub small : corner′ ≤ 256
+
 pub record Diffusing (w x n begun corner work : ℕ) : Type 0 where
   pub some : 0 < n
   pub packs : Packs begun n
@@ -92,18 +104,57 @@ pub record Diffusing (w x n begun corner work : ℕ) : Type 0 where
   pub room : w ≤ work
   pub small : corner ≤ 256
 
--- the machine's state, from the numbers that the code keeps
-abbrev pub carryOf : ℕ → List ℤ → Carry
-carryOf corner work = record { corner = subℕ corner 128; kept = work }
+abbrev pub Diffuses : ℕ → ℕ → ℕ → List ℕ → ℕ → ℕ → List ℤ → Dithered → List ℤ → Type 0
+Diffuses w y x gray begun corner work r work′ = Dots dither w y x gray begun corner work (r .digits) (r .corner) work′
 
-pub record Diffuses (w y x : ℕ) (gray : List ℕ) (begun corner : ℕ) (work : List ℤ) (r : Dithered) (work′ : List ℤ) : Type 0 where
-  pub digits : r .digits ≡ appended begun (rowBit dither w y x gray (carryOf corner work)) (length gray)
-  pub carry : rowCarry dither w y x gray (carryOf corner work) (length gray) ≡ carryOf (r .corner) work′
-  pub small : r .corner ≤ 256
+-- ---- whole bytes of a row
 
--- where these are digits, below 65536, the samples alter no number: their dots are the digits, and nothing is above the last one
-abbrev pub Calms : ℕ → ℕ → ℕ → List ℕ → ℕ → ℕ → List ℤ → ℕ → Type 0
-Calms w y x gray begun corner work digits = digits < 65536 → Diffuses w y x gray begun corner work (record { digits = digits; corner = 128 }) work
+-- these numbers hold the residuals next to column x of row y: on its left, above left and above
+pub record Near (w y x corner : ℕ) (work : List ℤ) (left aboveLeft above : ℕ) : Type 0 where
+  pub leftIs : Biased (leftOf work x) left
+  pub cornerIs : Biased (cornerOf (subℕ corner 128) x) aboveLeft
+  pub aboveIs : Biased (overOf w y work x) above
+
+pub record Diffused (w y x : ℕ) (gray : List ℕ) (corner : ℕ) (work : List ℤ) (r : Eight) (work′ : List ℤ) : Type 0 where
+  pub dots : Dots dither w y x gray 0 corner work (r .digits) (r .corner) work′
+  pub near : Near w y (x + length gray) (r .corner) work′ (r .left) (r .corner) (r .above)
+
+-- n samples are black or white; n numbers are 0
+abbrev pub Plain : List ℕ → ℕ → ℕ → Type 0
+Plain samples at n = (i : ℕ) → i < n → getD samples (at + i) 0 % 255 ≡ 0
+
+abbrev pub Clear : List ℤ → ℕ → ℕ → Type 0
+Clear work x n = (i : ℕ) → i < n → getD work (x + i) (pos 0) ≡ pos 0
+
+-- nothing is handed to n black or white samples from column x of row y on, nor to the one after them
+pub record Calm (y x : ℕ) (samples : List ℕ) (at n left corner : ℕ) (work : List ℤ) : Type 0 where
+  pub below : 0 < y
+  pub leftIs : left ≡ 128
+  pub cornerIs : corner ≡ 128
+  pub clear : Clear work x (n + 1)
+  pub plain : Plain samples at n
+
+-- there are samples and room for so many bytes, which do not end the row
+pub record Filling (w x samples at out to count corner : ℕ) : Type 0 where
+  pub there : at + 8 * count ≤ samples
+  pub fits : to + count ≤ out
+  pub inRow : x + 8 * count < w
+  pub small : corner ≤ 256
+
+-- after bytes stored before, the byte of the eight samples from an index on, from column x of row y on, is stored
+pub record ByteMore (rule : Rule) (w y x : ℕ) (samples : List ℕ) (from to : ℕ) (Before : List ℕ → ℕ → List ℤ → Type 0) (out′ : List ℕ) (corner′ : ℕ) (work′ : List ℤ) : Type 0 where
+  pub out : List ℕ
+  pub corner : ℕ
+  pub work : List ℤ
+  pub byte : ℕ
+  pub before : Before out corner work
+  pub dots : Dots rule w y x (take (from + 8 - from) (drop from samples)) 0 corner work byte corner′ work′
+  pub stored : out′ ≡ set out to byte
+
+-- so many bytes, one after the other
+unfoldable pub Bytes : Rule → ℕ → ℕ → ℕ → List ℕ → ℕ → List ℕ → ℕ → ℕ → List ℤ → ℕ → List ℕ → ℕ → List ℤ → Type 0
+Bytes rule w y x samples at out to corner work zero out′ corner′ work′ = (out′ ≡ out) × ((corner′ ≡ corner) × (work′ ≡ work))
+Bytes rule w y x samples at out to corner work (suc k) out′ corner′ work′ = ByteMore rule w y (x + 8 * k) samples (at + 8 * k) (to + k) (Bytes rule w y x samples at out to corner work k) out′ corner′ work′
 
 -- ---- the engine's steps
 
@@ -119,16 +170,14 @@ Served (Threshold t) w work = Unit {0}
 Served Dither w work = 2 * w ≤ work
 Served (Ordered side) w work = Known side
 
--- the rule whose bytes are written at once, and a list with so many of its bytes stored from an index on
+-- the rules whose bytes are written at once
 abbrev pub AtOnce : Quantize → Type 0
 AtOnce (Threshold t) = Unit {0}
-AtOnce Dither = ⊥
+AtOnce Dither = Unit {0}
 AtOnce (Ordered side) = ⊥
 
-abbrev pub filled : Quantize → List ℕ → ℕ → List ℕ → ℕ → ℕ → List ℕ
-filled (Threshold t) gray at out to k = stored t gray at out to k
-filled Dither gray at out to k = out
-filled (Ordered side) gray at out to k = out
+abbrev pub Fills : Quantize → ℕ → ℕ → ℕ → List ℕ → ℕ → List ℕ → ℕ → ℕ → List ℤ → ℕ → List ℕ → ℕ → List ℤ → Type 0
+Fills rule w y x samples at out to corner work k out′ corner′ work′ = (table : List ℕ) → Bytes (ruleOf rule table) w y x samples at out to corner work k out′ corner′ work′
 
 pub record Sound (rule : Quantize) (w h row column begun corner work : ℕ) : Type 0 where
   pub inRow : column < w
@@ -164,10 +213,8 @@ pub record Dotting (rule : Quantize) (w column n begun corner work : ℕ) : Type
   pub fits : w < 2 ^ 64
   pub served : Served rule w work
 
-pub record Dotted (rule : Quantize) (table : List ℕ) (w y x : ℕ) (gray : List ℕ) (begun corner : ℕ) (work : List ℤ) (r : Part) (work′ : List ℤ) : Type 0 where
-  pub digits : r .digits ≡ appended begun (rowBit (ruleOf rule table) w y x gray (carryOf corner work)) (length gray)
-  pub carry : rowCarry (ruleOf rule table) w y x gray (carryOf corner work) (length gray) ≡ carryOf (r .corner) work′
-  pub small : r .corner ≤ 256
+abbrev pub Dotted : Quantize → List ℕ → ℕ → ℕ → ℕ → List ℕ → ℕ → ℕ → List ℤ → Part → List ℤ → Type 0
+Dotted rule table w y x gray begun corner work r work′ = Dots (ruleOf rule table) w y x gray begun corner work (r .digits) (r .corner) work′
 
 -- m samples more, after which the begun byte has these digits
 pub record Advancing (w h frames row column m digits : ℕ) : Type 0 where

@@ -5,23 +5,24 @@ ghost use lib.IntN.{pos, subℕ};
 ghost use lib.ListN.{length, getD};
 ghost use Rattle.quantize.specs.Diffusion.{value};
 ghost use Rattle.quantize.specs.Machine.{clamp, leftOf, cornerOf, overOf};
-ghost use Rattle.quantize.specs.Steps.{Biased, Parted, Stepped, Reaches, Diffusing, Diffuses, Calms};
+ghost use Rattle.quantize.specs.Steps.{Biased, Parted, Stepped, Reaches, Diffusing, Diffuses};
 
 // A number of the work buffer, clamped to -128 ..= 128, plus 128.
-fn lift(x: i16) -> u32
+pub(crate) fn lift(x: i16) -> u32
     ensures { λ r. ⌜ Biased (clamp x) r ⌝ }
 {
-    if x < -128 {
+    let v = x as i32;
+    if v < -128 {
         0
-    } else if 128 < x {
+    } else if 128 < v {
         256
     } else {
-        (x + 128) as u32
+        (v + 128) as u32
     }
 }
 
 // The residual that is held as b.
-fn lower(b: u32) -> i16
+pub(crate) fn lower(b: u32) -> i16
     requires { ⌜ b ≤ 256 ⌝ }
     ensures { λ r. ⌜ r ≡ subℕ b 128 ⌝ }
 {
@@ -37,13 +38,13 @@ fn part(k: u32, b: u32) -> u32
 }
 
 // A dot, 1 where it is white, and its residual, plus 128.
-struct Dot {
-    bit: u32,
-    rest: u32,
+pub struct Dot {
+    pub bit: u32,
+    pub rest: u32,
 }
 
 // The dot with this gray, from the residuals, plus 128, of the dots on its left, above left, above and above right.
-fn step(gray: u8, left: u32, corner: u32, above: u32, ahead: u32) -> Dot
+pub(crate) fn step(gray: u8, left: u32, corner: u32, above: u32, ahead: u32) -> Dot
     requires { ⌜ (left ≤ 256) × (corner ≤ 256) × (above ≤ 256) × (ahead ≤ 256) ⌝ }
     ensures { λ r. ⌜ Stepped (value gray (subℕ left 128) (subℕ corner 128) (subℕ above 128) (subℕ ahead 128)) (r .bit) (r .rest) ⌝ }
 {
@@ -57,7 +58,7 @@ fn step(gray: u8, left: u32, corner: u32, above: u32, ahead: u32) -> Dot
 }
 
 // The residual on the left of column x, plus 128.
-fn left_of(work: &[i16], x: usize) -> u32
+pub(crate) fn left_of(work: &[i16], x: usize) -> u32
     requires { ⌜ x ≤ length (now work) ⌝ }
     ensures { λ r. ⌜ Biased (leftOf (now (work .entry)) x) r ⌝ }
 {
@@ -69,7 +70,7 @@ fn left_of(work: &[i16], x: usize) -> u32
 }
 
 // The residual above the dot on the left of column x, plus 128.
-fn corner_of(corner: u32, x: usize) -> u32
+pub(crate) fn corner_of(corner: u32, x: usize) -> u32
     requires { ⌜ corner ≤ 256 ⌝ }
     ensures { λ r. ⌜ Biased (cornerOf (subℕ corner 128) x) r ⌝ }
 {
@@ -77,14 +78,14 @@ fn corner_of(corner: u32, x: usize) -> u32
 }
 
 // How many columns have residuals above row y.
-fn reach(width: usize, y: usize) -> usize
+pub(crate) fn reach(width: usize, y: usize) -> usize
     ensures { λ r. ⌜ Reaches width y r ⌝ }
 {
     if 0 < y { width } else { 0 }
 }
 
 // The residual above column x, plus 128.
-fn over(work: &[i16], reach: usize, x: usize) -> u32
+pub(crate) fn over(work: &[i16], reach: usize, x: usize) -> u32
     requires { ⌜ reach ≤ length (now work) ⌝ }
     ensures { λ r. ⌜ Biased (overOf reach 1 (now (work .entry)) x) r ⌝ }
 {
@@ -95,52 +96,6 @@ fn over(work: &[i16], reach: usize, x: usize) -> u32
 pub struct Dithered {
     pub digits: u32,
     pub corner: u32,
-}
-
-// The answer of `calm` where it has no digits.
-const BUSY: u32 = 65536;
-
-// The digits where nothing is handed to the samples and each is black or white. They leave no residuals: `work` stays as it is.
-fn calm(
-    width: usize,
-    y: usize,
-    column: usize,
-    gray: &[u8],
-    begun: u32,
-    corner: u32,
-    work: &[i16],
-    left: u32,
-    above_left: u32,
-) -> u32
-    requires { ⌜ Diffusing width column (length (now gray)) begun corner (length (now work)) × Biased (leftOf (now work) column) left × Biased (cornerOf (subℕ corner 128) column) «above_left» ⌝ }
-    ensures { λ r. ⌜ Calms width y column (now (gray .entry)) begun corner (now (work .entry)) r ⌝ }
-{
-    let mut digits = begun;
-    if left != 128 {
-        return BUSY;
-    }
-    if above_left != 128 {
-        return BUSY;
-    }
-    if y == 0 {
-        return BUSY;
-    }
-    if over(work, width, column) != 128 {
-        return BUSY;
-    }
-    let mut i: usize = 0;
-    while i < gray.len() {
-        let x = column + i;
-        if over(work, width, x + 1) != 128 {
-            return BUSY;
-        }
-        if gray[i] % 255 != 0 {
-            return BUSY;
-        }
-        digits = digits * 2 + gray[i] as u32 / 128;
-        i += 1;
-    }
-    digits
 }
 
 // The digits of `begun`, and then a dot for each sample, from a column of a row on. `work` keeps a residual for each column.
@@ -158,23 +113,6 @@ pub(crate) fn dither_dots(
 {
     let mut left = left_of(work, column);
     let mut above_left = corner_of(corner, column);
-    let still = calm(
-        width,
-        y,
-        column,
-        gray,
-        begun,
-        corner,
-        work,
-        left,
-        above_left,
-    );
-    if still < BUSY {
-        return Dithered {
-            digits: still,
-            corner: 128,
-        };
-    }
     let near = reach(width, y);
     let mut above = over(work, near, column);
     let mut digits = begun;

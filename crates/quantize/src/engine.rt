@@ -139,7 +139,19 @@ impl Quantizer {
                 samples.len() - taken,
                 out.len() - written,
             );
-            fill(rule, samples, taken, out, written, k);
+            corner = fill(
+                rule,
+                width,
+                row,
+                column,
+                samples,
+                taken,
+                out,
+                written,
+                k,
+                corner,
+                work,
+            );
             taken += 8 * k;
             written += k;
             column += 8 * k;

@@ -2,6 +2,7 @@
 mod dither;
 mod engine;
 mod ordered;
+mod row;
 mod threshold;
 mod turn;
 mod whole;

@@ -1,13 +1,14 @@
 // A turn of the engine: whole bytes at once, then the samples of one byte.
 use crate::dither::dither_dots;
 use crate::ordered::ordered_dots;
+use crate::row::dither_bytes;
 use crate::threshold::threshold_bytes;
 use crate::threshold::threshold_dots;
 use options::Quantize;
 ghost use mathlib.Core.Path.{_≡_};
 ghost use Prim.Native.Nat.{_+_, _-_, _*_, _^_, _≤_, _<_};
 ghost use lib.ListN.{length};
-ghost use Rattle.quantize.specs.Steps.{Wholes, AtOnce, filled, Shares, Dotting, Dotted, Advancing, Advances};
+ghost use Rattle.quantize.specs.Steps.{Wholes, AtOnce, Served, Filling, Fills, Shares, Dotting, Dotted, Advancing, Advances};
 
 pub struct Part {
     pub digits: u32,
@@ -53,29 +54,46 @@ pub(crate) fn bytes_at_once(
 {
     match rule {
         Quantize::Threshold(_) => whole_bytes(width, column, samples, room),
-        Quantize::Dither => 0,
+        Quantize::Dither => whole_bytes(width, column, samples, room),
         Quantize::Ordered(_) => 0,
     }
 }
 
-// So many whole bytes, of the samples from index `at` on, into the output from index `to` on.
+// So many whole bytes of a row, but not its last, of the samples from index `at` on, into the output from index `to` on. Answers the corner after them.
 pub(crate) fn fill(
     rule: Quantize,
+    width: usize,
+    y: usize,
+    column: usize,
     samples: &[u8],
     at: usize,
     out: &mut [u8],
     to: usize,
     count: usize,
-)
-    requires { ⌜ (at + 8 * count ≤ length (now samples)) × (to + count ≤ length (now out)) ⌝ }
-    ensures { λ r. ⌜ now (out .exit) ≡ filled rule (now (samples .entry)) at (now (out .entry)) to count ⌝ }
+    corner: u32,
+    work: &mut [i16],
+) -> u32
+    requires { ⌜ Filling width column (length (now samples)) at (length (now out)) to count corner × (Served rule width (length (now work)) × (0 < count → AtOnce rule)) ⌝ }
+    ensures { λ r. ⌜ Fills rule width y column (now (samples .entry)) at (now (out .entry)) to corner (now (work .entry)) count (now (out .exit)) r (now (work .exit)) ⌝ }
 {
     match rule {
         Quantize::Threshold(bound) => {
             threshold_bytes(bound, samples, at, out, to, count);
+            corner
         }
-        Quantize::Dither => {}
-        Quantize::Ordered(_) => {}
+        Quantize::Dither => dither_bytes(
+            width,
+            y,
+            column,
+            samples,
+            at,
+            out,
+            to,
+            count,
+            corner,
+            work,
+        ),
+        Quantize::Ordered(_) => corner,
     }
 }
 

@@ -18,18 +18,18 @@ use Rattle.quantize.proofs.dither.dither_dots.Statement.{statement}
 use Rattle.quantize.proofs.dither.dither_dots.Tie as tie
 
 abbrev Inv-loop : tie.InvT-loop
-Inv-loop width y column gray begun corner work₀ left₀ above-left₀ still near above₀ digits₀ i₀ work left above-left above digits i =
+Inv-loop width y column gray begun corner work₀ left₀ above-left₀ near above₀ digits₀ i₀ work left above-left above digits i =
     Inv width y column gray begun corner work₀ work left digits above-left above i
 
 abbrev μ-loop : tie.MeasureT-loop
-μ-loop width y column gray begun corner work₀ left₀ above-left₀ still near above₀ digits₀ i₀ work left above-left above digits i =
+μ-loop width y column gray begun corner work₀ left₀ above-left₀ near above₀ digits₀ i₀ work left above-left above digits i =
     length gray - i
 
 abbrev reached : tie.At-loop Inv-loop μ-loop → tie.After-reach Inv-loop μ-loop
 reached l = l .before .before .before
 
 abbrev start : tie.At-loop Inv-loop μ-loop → tie.Start Inv-loop μ-loop
-start l = reached l .before .before .before .before .before .before .before .before
+start l = reached l .before .before .before .before .before
 
 low : (l : tie.At-loop Inv-loop μ-loop) → l .loop .digits < 65536
 low l =
@@ -44,27 +44,18 @@ left-of-requires c κs = let p = c .before .before .pre in omega (arith, p .with
 corner-of-requires : tie.Need-corner-of-requires Inv-loop μ-loop
 corner-of-requires c κs = c .before .before .before .pre .small
 
-calm-requires : tie.Need-calm-requires Inv-loop μ-loop
-calm-requires c κs = (c .before .before .before .before .before .pre, c .before .before .left-of .ensures, c .before .corner-of .ensures)
-
-same-length : tie.Need-same-length Inv-loop μ-loop
-same-length c = refl
-
-returns : tie.Need-returns Inv-loop μ-loop
-returns c = c .before .calm .ensures (c .if1 .taken)
-
 reach-requires : tie.Need-reach-requires Inv-loop μ-loop
 reach-requires c κs = search needs
 
 over-requires : tie.Need-over-requires Inv-loop μ-loop
-over-requires c κs = omega (arith, c .before .reach .ensures .most, c .before .before .before .before .before .before .before .before .before .pre .room)
+over-requires c κs = omega (arith, c .before .reach .ensures .most, c .before .before .before .before .before .before .pre .room)
 
 loop-holds : tie.Need-loop-holds Inv-loop μ-loop
 loop-holds c =
     let r = c .before .before in
-    let a = r .before .before .before .before .before .before .before .before .args in
+    let a = r .before .before .before .before .before .args in
     inv-start (a .width) (a .y) (a .column) (now (a .gray)) (a .begun) (a .corner) (now (a .work)) _ _ _
-    (r .before .before .before .before .before .left-of .ensures) (r .before .before .before .before .corner-of .ensures) (rw (r .reach .ensures .is (now (a .work)) (a .column)) (c .over .ensures))
+    (r .before .before .left-of .ensures) (r .before .corner-of .ensures) (rw (r .reach .ensures .is (now (a .work)) (a .column)) (c .over .ensures))
 
 add-x : tie.Need-add-x Inv-loop μ-loop
 add-x c = let s = start (c .before) in omega (arith, s .pre .within, s .pre .room, s .good)
@@ -84,8 +75,8 @@ step-requires c κs = let i = c .before .before .before .before .loop .inv in (i
 lower-requires : tie.Need-lower-requires Inv-loop μ-loop
 lower-requires c κs = c .step .ensures .restIs .small
 
-mul-t25 : tie.Need-mul-t25 Inv-loop μ-loop
-mul-t25 c = let l = c .before .before .before .before .before .before in let s = start l in omega (arith, s .pre .within, s .pre .room, s .good, l .loop .inv .long)
+mul-t21 : tie.Need-mul-t21 Inv-loop μ-loop
+mul-t21 c = let l = c .before .before .before .before .before .before in let s = start l in omega (arith, s .pre .within, s .pre .room, s .good, l .loop .inv .long)
 
 in-work : (l : tie.At-loop Inv-loop μ-loop) → l .loop .i < length (now (start l .args .gray)) → start l .args .column + l .loop .i < length (l .loop .work)
 in-work l h = let s = start l in omega (arith, s .pre .within, s .pre .room, l .loop .inv .long)
@@ -117,11 +108,11 @@ loop-again c =
     (rw (reached l .reach .ensures .is (l .loop .work) (a .column + l .loop .i + 1)) (c .before .before .before .before .over2 .ensures)) (c .before .before .step .ensures)
     _ (stored c) t (in-work l t)
 
-same-length-2 : tie.Need-same-length-2 Inv-loop μ-loop
-same-length-2 c = c .before .loop .inv .long
+same-length : tie.Need-same-length Inv-loop μ-loop
+same-length c = c .before .loop .inv .long
 
-returns-2 : tie.Need-returns-2 Inv-loop μ-loop
-returns-2 c =
+returns : tie.Need-returns Inv-loop μ-loop
+returns c =
     let l = c .before in
     let a = start l .args in
     inv-end (a .width) (a .y) (a .column) (now (a .gray)) (a .begun) (a .corner) (now (a .work)) _ _ _ _ _ _ (l .loop .inv) (c .loop-test .left) (start l .pre .some)
@@ -134,9 +125,6 @@ dither-dots-spec =
     μ-loop
     left-of-requires
     corner-of-requires
-    calm-requires
-    same-length
-    returns
     reach-requires
     over-requires
     loop-holds
@@ -146,12 +134,12 @@ dither-dots-spec =
     shared-slice-read-step
     step-requires
     lower-requires
-    mul-t25
+    mul-t21
     slice-set-from-work
     mul-digits
     add-digits
     add-i
     loop-less
     loop-again
-    same-length-2
-    returns-2)
+    same-length
+    returns)

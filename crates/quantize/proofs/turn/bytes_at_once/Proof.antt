@@ -2,7 +2,6 @@ use Prim.Native.Nat.{ℕ, _<_}
 use mathlib.Core.Path.{_≡_, sym, subst}
 use native.Mathlib.Omega.{arith}
 use Rattle.options.specs.declared.Quantize.{Quantize}
-use Rattle.options.specs.declared.Quantize.the-variants.{Threshold}
 use Rattle.quantize.specs.Steps.{AtOnce, Wholes}
 use borrow.Author.Needs.{needs}
 use Rattle.quantize.proofs.turn.bytes_at_once.Statement.{statement}
@@ -11,9 +10,6 @@ use Rattle.quantize.proofs.turn.bytes_at_once.Tie as tie
 none : (w column samples room : ℕ) → column < w → Wholes w column samples room 0
 none w column samples room h =
     record { there = omega arith; fits = omega arith; inRow = omega arith; aligned = λ l. let z : ⊥ = omega arith in absurd z }
-
-once : (r : Quantize) (t : ℕ) → r ≡ Threshold t → AtOnce r
-once r t e = subst AtOnce (sym e) tt
 
 enum-told : tie.Need-enum-told
 enum-told c = search needs
@@ -24,14 +20,17 @@ whole-bytes-requires c κs = search needs
 enum-told-2 : tie.Need-enum-told-2
 enum-told-2 c = search needs
 
+whole-bytes-requires-2 : tie.Need-whole-bytes-requires-2
+whole-bytes-requires-2 c κs = search needs
+
 enum-told-3 : tie.Need-enum-told-3
 enum-told-3 c = search needs
 
 returns : tie.Need-returns
-returns c = (c .whole-bytes .ensures, λ _. once _ _ (c .before .enum-told .given .1))
+returns c = (c .whole-bytes .ensures, λ _. subst AtOnce (sym (c .before .enum-told .given .1)) tt)
 
 returns-2 : tie.Need-returns-2
-returns-2 c = (none _ _ _ _ (c .before .before .pre), λ (l : 0 < 0). let z : ⊥ = omega arith in absurd z)
+returns-2 c = (c .whole-bytes2 .ensures, λ _. subst AtOnce (sym (c .before .enum-told2 .given .1)) tt)
 
 returns-3 : tie.Need-returns-3
 returns-3 c = (none _ _ _ _ (c .before .before .pre), λ (l : 0 < 0). let z : ⊥ = omega arith in absurd z)
@@ -39,4 +38,4 @@ returns-3 c = (none _ _ _ _ (c .before .before .pre), λ (l : 0 < 0). let z : �
 pub bytes-at-once-spec : {M : Type 1} → statement M
 bytes-at-once-spec =
     tie.close
-    (tie.spec enum-told whole-bytes-requires enum-told-2 enum-told-3 returns returns-2 returns-3)
+    (tie.spec enum-told whole-bytes-requires enum-told-2 whole-bytes-requires-2 enum-told-3 returns returns-2 returns-3)
