@@ -30,3 +30,6 @@ pub mod Bulk
 pub mod Wholes
 pub mod Residuals
 pub mod Joining
+pub mod Words
+pub mod Comparing
+pub mod Gathering

@@ -6,6 +6,7 @@ pub mod Rule
 pub mod Finished
 pub mod Machine
 pub mod Place
+pub mod Words
 pub mod Steps
 pub mod Engine
 pub mod Whole

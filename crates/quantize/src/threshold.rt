@@ -3,6 +3,7 @@ ghost use mathlib.Core.Path.{_≡_};
 ghost use Prim.Native.Nat.{_+_, _*_, _≤_};
 ghost use lib.ListN.{length};
 ghost use Rattle.quantize.specs.Bits.{digits, appended};
+ghost use Rattle.quantize.specs.Words.{bytes, samplesFrom, Below, Compares, Gathers};
 ghost use Rattle.quantize.specs.Steps.{Packs, thresholdBit, thresholdFrom, stored};
 
 fn dot(bound: u8, gray: &[u8], at: usize) -> u32
@@ -29,44 +30,55 @@ pub(crate) fn threshold_dots(bound: u8, gray: &[u8], begun: u32) -> u32
     digits
 }
 
+// Eight samples as one number, a byte each, the first the highest. So written, they are one load to the compiler.
+fn word(gray: &[u8], at: usize) -> u64
+    requires { ⌜ at + 8 ≤ length (now gray) ⌝ }
+    ensures { λ r. ⌜ (r ≡ bytes (samplesFrom (now (gray .entry)) at) 8) × Below 256 (samplesFrom (now (gray .entry)) at) ⌝ }
+{
+    (gray[at] as u64) << 56
+        | (gray[at + 1] as u64) << 48
+        | (gray[at + 2] as u64) << 40
+        | (gray[at + 3] as u64) << 32
+        | (gray[at + 4] as u64) << 24
+        | (gray[at + 5] as u64) << 16
+        | (gray[at + 6] as u64) << 8
+        | gray[at + 7] as u64
+}
+
+// The highest bit of each byte.
+const TOPS: u64 = 0x8080_8080_8080_8080;
+
+// The lowest bit of each byte.
+const ONES: u64 = 0x0101_0101_0101_0101;
+
+// The dots of eight samples, a byte each. The highest bit of a byte of `low` says whether the sample's other seven bits are at least those of `bound`.
+fn compared(bound: u8, samples: u64) -> u64
+    ensures { λ r. ⌜ Compares bound samples r ⌝ }
+{
+    let low = (samples | TOPS) - (bound % 128) as u64 * ONES;
+    if bound < 128 {
+        return ((samples | low) & TOPS) >> 7;
+    }
+    (samples & low & TOPS) >> 7
+}
+
+// Eight dots, a byte each, as one byte. In `halves` dot j of the lower half, from the lowest on, is bit 8 j, and that of the upper half bit 8 j + 4; the product brings them to bits 21 + j and 25 + j.
+fn gathered(dots: u64) -> u8
+    ensures { λ r. ⌜ Gathers dots r ⌝ }
+{
+    let halves = dots % 0x1_0000_0000 + dots / 0x1_0000_0000 * 16;
+    (halves * 0x20_4081 / 0x20_0000 % 256) as u8
+}
+
 // The dots of eight samples as a byte.
 fn byte(bound: u8, gray: &[u8], at: usize) -> u8
     requires { ⌜ at + 8 ≤ length (now gray) ⌝ }
     ensures { λ r. ⌜ r ≡ digits (thresholdFrom bound (now (gray .entry)) at) 8 ⌝ }
 {
-    let a = dot(bound, gray, at);
-    let b = dot(bound, gray, at + 1);
-    let c = dot(bound, gray, at + 2);
-    let d = dot(bound, gray, at + 3);
-    let e = dot(bound, gray, at + 4);
-    let f = dot(bound, gray, at + 5);
-    let g = dot(bound, gray, at + 6);
-    let h = dot(bound, gray, at + 7);
-    (128 * a + 64 * b + 32 * c + 16 * d + 8 * e + 4 * f + 2 * g + h) as u8
+    gathered(compared(bound, word(gray, at)))
 }
 
 // So many bytes of eight samples each, from sample `at` on, into the output from index `to` on.
-fn block(bound: u8, gray: &[u8], at: usize, out: &mut [u8], to: usize, count: usize)
-    requires { ⌜ (at + 8 * count ≤ length (now gray)) × (to + count ≤ length (now out)) ⌝ }
-    ensures { λ r. ⌜ now (out .exit) ≡ stored bound (now (gray .entry)) at (now (out .entry)) to count ⌝ }
-{
-    let mut k: usize = 0;
-    while k < count {
-        let from = at + 8 * k;
-        let j = to + k;
-        out[j] = byte(bound, gray, from);
-        k += 1;
-    }
-}
-
-// As many, but at most 8.
-fn shortened(n: usize) -> usize
-    ensures { λ r. ⌜ (r ≤ n) × (1 ≤ n → 1 ≤ r) ⌝ }
-{
-    if n < 8 { n } else { 8 }
-}
-
-// The same in blocks of at most 8 bytes: the compiler's code for longer runs is slower.
 pub(crate) fn threshold_bytes(
     bound: u8,
     gray: &[u8],
@@ -80,8 +92,9 @@ pub(crate) fn threshold_bytes(
 {
     let mut k: usize = 0;
     while k < count {
-        let m = shortened(count - k);
-        block(bound, gray, at + 8 * k, out, to + k, m);
-        k += m;
+        let from = at + 8 * k;
+        let j = to + k;
+        out[j] = byte(bound, gray, from);
+        k += 1;
     }
 }

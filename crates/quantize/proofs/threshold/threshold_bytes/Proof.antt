@@ -1,11 +1,10 @@
-use Prim.Native.Nat.{ℕ, _+_, _-_, _*_, _≤_}
-use mathlib.Core.Path.{_≡_, refl, sym, ap, _∙_, subst}
-use mathlib.Core.List.{List}
+use Prim.Native.Nat.{_-_, _≤_}
+use mathlib.Core.Path.{_≡_, refl, ap, _∙_}
 use native.Mathlib.Omega.{arith}
 use denote.Ref.{now}
 use lib.ListN.{length}
 use Rattle.quantize.specs.Steps.{stored}
-use Rattle.quantize.proofs.Stored.{stored-length, stored-more}
+use Rattle.quantize.proofs.Stored.{stored-length, stored-next}
 use Rattle.quantize.proofs.threshold.threshold_bytes.Statement.{statement}
 use Rattle.quantize.proofs.threshold.threshold_bytes.Tie as tie
 
@@ -24,50 +23,36 @@ loop-holds : tie.Need-loop-holds Inv-loop μ-loop
 unfolding stored
 loop-holds c = (omega arith, refl)
 
-sub-shortened : tie.Need-sub-shortened Inv-loop μ-loop
-sub-shortened c = omega arith
+mul-from : tie.Need-mul-from Inv-loop μ-loop
+mul-from c = omega arith
 
-shortened-requires : tie.Need-shortened-requires Inv-loop μ-loop
-shortened-requires c κs = tt
+add-from : tie.Need-add-from Inv-loop μ-loop
+add-from c = omega arith
 
-mul-block : tie.Need-mul-block Inv-loop μ-loop
-mul-block c = omega arith
+add-j : tie.Need-add-j Inv-loop μ-loop
+add-j c = omega arith
 
-add-block : tie.Need-add-block Inv-loop μ-loop
-add-block c = omega arith
+byte-requires : tie.Need-byte-requires Inv-loop μ-loop
+byte-requires c κs = omega arith
 
-add-block-2 : tie.Need-add-block-2 Inv-loop μ-loop
-add-block-2 c = omega arith
-
-block-requires : tie.Need-block-requires Inv-loop μ-loop
-block-requires c κs =
-    let l = c .before .before .before in
-    let p = l .before .before .before .pre in
-    let m = c .before .shortened .ensures in
-    let t = c .before .before .loop-test .taken in
-    (omega (arith, p .0, m .0, t), subst (λ (n : ℕ). l .before .before .before .args .to + l .loop .k + c .before .shortened .result ≤ n) (sym (long l)) (omega (arith, p .1, m .0, t)))
+slice-write-out : tie.Need-slice-write-out Inv-loop μ-loop
+slice-write-out c =
+    let l = c .before .before in
+    let n = long l in
+    omega (arith, l .before .before .before .pre)
 
 add-k : tie.Need-add-k Inv-loop μ-loop
 add-k c = omega arith
 
 loop-less : tie.Need-loop-less Inv-loop μ-loop
-loop-less c =
-    let m = c .before .before .before .before .shortened .ensures in
-    let t = c .before .before .before .before .before .loop-test .taken in
-    let n = m .1 (omega arith) in
-    omega arith
+loop-less c = omega arith
 
 loop-again : tie.Need-loop-again Inv-loop μ-loop
 loop-again c =
-    let l = c .before .before .before .before .before .before in
-    let a = l .before .before .before .args in
-    let m = c .before .before .before .before .shortened .ensures in
-    let t = c .before .before .before .before .before .loop-test .taken in
-    let n = c .before .before .before .before .shortened .result in (
-      omega (arith, m .0, t),
-      c .before .before .block .ensures
-          ∙ ap (λ (o : List ℕ). stored (a .bound) (now (a .gray)) (a .at + 8 * l .loop .k) o (a .to + l .loop .k) n) (l .loop .inv .1)
-          ∙ stored-more (a .bound) (now (a .gray)) (a .at) (now (a .out)) (a .to) (l .loop .k) n,
+    let l = c .before .before in
+    let a = l .before .before .before .args in (
+      omega arith,
+      rw (l .loop .inv .1, c .byte .ensures) (stored-next (a .bound) (now (a .gray)) (a .at) (now (a .out)) (a .to) (l .loop .k)),
     )
 
 same-length : tie.Need-same-length Inv-loop μ-loop
@@ -87,12 +72,11 @@ threshold-bytes-spec =
     Inv-loop
     μ-loop
     loop-holds
-    sub-shortened
-    shortened-requires
-    mul-block
-    add-block
-    add-block-2
-    block-requires
+    mul-from
+    add-from
+    add-j
+    byte-requires
+    slice-write-out
     add-k
     loop-less
     loop-again
