@@ -12,7 +12,8 @@ use Rattle.quantize.specs.declared.engine.Quantizer.{Quantizer}
 use Rattle.quantize.specs.declared.turn.Part.{Part}
 use Rattle.quantize.specs.declared.turn.Next.{Next}
 use Rattle.quantize.specs.Rule.{Rule}
-use Rattle.quantize.specs.Steps.{Dots, Bytes, ruleOf, Wholes, Shares, Dotted, Advances}
+use Rattle.quantize.specs.Steps.{Dots, ruleOf, Wholes, Shares, Dotted, Advances}
+use Rattle.quantize.specs.Row.{Bytes}
 use Rattle.quantize.proofs.Advancing.{advances-byte}
 use Rattle.quantize.proofs.Eights.{piece}
 use Rattle.quantize.proofs.Running.{Loop, advancing, loop-byte}

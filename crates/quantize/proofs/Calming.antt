@@ -14,7 +14,8 @@ use lib.ListN.{length, getD}
 use Rattle.quantize.specs.Bits.{bit, digits, appended}
 use Rattle.quantize.specs.Rule.{dither}
 use Rattle.quantize.specs.Machine.{clamp, leftOf, cornerOf, overOf}
-use Rattle.quantize.specs.Steps.{Biased, Dots, Near, Calm, Clear, Bytes, thresholdFrom, stored}
+use Rattle.quantize.specs.Steps.{Biased, Dots, thresholdFrom, stored}
+use Rattle.quantize.specs.Row.{Near, Calm, Clear, Bytes}
 use Rattle.quantize.proofs.Differences.{lt-or-le}
 use Rattle.quantize.proofs.Eights.{piece, long, sample}
 use Rattle.quantize.proofs.Reading.{left-at, over-in}

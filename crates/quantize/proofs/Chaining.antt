@@ -12,7 +12,8 @@ use Rattle.quantize.specs.declared.row.Eight.{Eight}
 use Rattle.quantize.specs.Bits.{bit}
 use Rattle.quantize.specs.Rule.{Rule, dither}
 use Rattle.quantize.specs.Machine.{Carry, cornerOf, valueOf, diffused, machineDot, next}
-use Rattle.quantize.specs.Steps.{Biased, rowCarry, rowBit, carryOf, Dots, Near, Diffused, Bytes}
+use Rattle.quantize.specs.Steps.{Biased, rowCarry, rowBit, carryOf, Dots}
+use Rattle.quantize.specs.Row.{Near, Diffused, Bytes}
 use Rattle.quantize.proofs.Appending.{appended-ext, appended-lt}
 use Rattle.quantize.proofs.Eights.{piece, long}
 use Rattle.quantize.proofs.Rowing.{row-bit-le}

@@ -10,7 +10,8 @@ use Rattle.options.specs.declared.Quantize.{Quantize}
 use Rattle.options.specs.declared.Quantize.the-variants.{Threshold, Dither, Ordered}
 use Rattle.quantize.specs.Bits.{digits}
 use Rattle.quantize.specs.Rule.{threshold, dither}
-use Rattle.quantize.specs.Steps.{thresholdFrom, stored, Bytes, ruleOf, AtOnce, Fills}
+use Rattle.quantize.specs.Steps.{thresholdFrom, stored, ruleOf, AtOnce}
+use Rattle.quantize.specs.Row.{Bytes, Fills}
 use Rattle.quantize.proofs.Chaining.{bytes-none}
 use Rattle.quantize.proofs.Dotting.{dots-threshold}
 use Rattle.quantize.proofs.Eights.{piece, byte-is}

@@ -13,7 +13,8 @@ use Rattle.quantize.specs.Bits.{bit, appended}
 use Rattle.quantize.specs.Diffusion.{value, white, residual}
 use Rattle.quantize.specs.Rule.{Rule, dither}
 use Rattle.quantize.specs.Machine.{Carry, clamp, leftOf, cornerOf, overOf, valueOf, diffused, machineDot, next}
-use Rattle.quantize.specs.Steps.{Biased, Stepped, rowCarry, rowBit, carryOf, Dots, Near}
+use Rattle.quantize.specs.Steps.{Biased, Stepped, rowCarry, rowBit, carryOf, Dots}
+use Rattle.quantize.specs.Row.{Near}
 use Rattle.quantize.proofs.Range.{within, clamp-same}
 use Rattle.quantize.proofs.Reading.{left-at, corner-at, over-set, kept-zero}
 use Rattle.quantize.proofs.Differences.{stepped-calm}

@@ -8,6 +8,7 @@ pub mod Machine
 pub mod Place
 pub mod Words
 pub mod Steps
+pub mod Row
 pub mod Engine
 pub mod Whole
 pub mod Examples

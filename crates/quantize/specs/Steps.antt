@@ -5,12 +5,11 @@ use mathlib.Core.Bool.{Bool, true, false}
 use mathlib.Core.Logic.{_⊎_}
 use mathlib.Core.List.{List}
 use lib.Dec.{leb}
-use lib.IntN.{ℤ, pos, subℕ}
-use lib.ListN.{length, getD, take, drop, set}
+use lib.IntN.{ℤ, subℕ}
+use lib.ListN.{length, getD, take, set}
 use Rattle.options.specs.declared.Quantize.{Quantize}
 use Rattle.options.specs.declared.Quantize.the-variants.{Threshold, Dither, Ordered}
 use Rattle.quantize.specs.declared.dither.Dithered.{Dithered}
-use Rattle.quantize.specs.declared.row.Eight.{Eight}
 use Rattle.quantize.specs.declared.turn.Part.{Part}
 use Rattle.quantize.specs.declared.turn.Next.{Next}
 use Rattle.quantize.specs.Bits.{bit, appended, digits}
@@ -18,7 +17,7 @@ use Rattle.quantize.specs.Diffusion.{part, white, residual}
 use Rattle.quantize.specs.Ordered.{number, numbers, exponent, bound, cell}
 use Rattle.quantize.specs.Rule.{Rule, threshold, dither, ordered}
 use Rattle.quantize.specs.Finished.{Setting, count, byteAt}
-use Rattle.quantize.specs.Machine.{Carry, leftOf, cornerOf, overOf, machineDot, next}
+use Rattle.quantize.specs.Machine.{Carry, overOf, machineDot, next}
 use Rattle.quantize.specs.Place.{At, begunBy, Begun}
 
 -- r holds z, which is within -128 .. 128
@@ -107,55 +106,6 @@ pub record Diffusing (w x n begun corner work : ℕ) : Type 0 where
 abbrev pub Diffuses : ℕ → ℕ → ℕ → List ℕ → ℕ → ℕ → List ℤ → Dithered → List ℤ → Type 0
 Diffuses w y x gray begun corner work r work′ = Dots dither w y x gray begun corner work (r .digits) (r .corner) work′
 
--- ---- whole bytes of a row
-
--- these numbers hold the residuals next to column x of row y: on its left, above left and above
-pub record Near (w y x corner : ℕ) (work : List ℤ) (left aboveLeft above : ℕ) : Type 0 where
-  pub leftIs : Biased (leftOf work x) left
-  pub cornerIs : Biased (cornerOf (subℕ corner 128) x) aboveLeft
-  pub aboveIs : Biased (overOf w y work x) above
-
-pub record Diffused (w y x : ℕ) (gray : List ℕ) (corner : ℕ) (work : List ℤ) (r : Eight) (work′ : List ℤ) : Type 0 where
-  pub dots : Dots dither w y x gray 0 corner work (r .digits) (r .corner) work′
-  pub near : Near w y (x + length gray) (r .corner) work′ (r .left) (r .corner) (r .above)
-
--- n samples are black or white; n numbers are 0
-abbrev pub Plain : List ℕ → ℕ → ℕ → Type 0
-Plain samples at n = (i : ℕ) → i < n → getD samples (at + i) 0 % 255 ≡ 0
-
-abbrev pub Clear : List ℤ → ℕ → ℕ → Type 0
-Clear work x n = (i : ℕ) → i < n → getD work (x + i) (pos 0) ≡ pos 0
-
--- nothing is handed to n black or white samples from column x of row y on, nor to the one after them
-pub record Calm (y x : ℕ) (samples : List ℕ) (at n left corner : ℕ) (work : List ℤ) : Type 0 where
-  pub below : 0 < y
-  pub leftIs : left ≡ 128
-  pub cornerIs : corner ≡ 128
-  pub clear : Clear work x (n + 1)
-  pub plain : Plain samples at n
-
--- there are samples and room for so many bytes, which do not end the row
-pub record Filling (w x samples at out to count corner : ℕ) : Type 0 where
-  pub there : at + 8 * count ≤ samples
-  pub fits : to + count ≤ out
-  pub inRow : x + 8 * count < w
-  pub small : corner ≤ 256
-
--- after bytes stored before, the byte of the eight samples from an index on, from column x of row y on, is stored
-pub record ByteMore (rule : Rule) (w y x : ℕ) (samples : List ℕ) (from to : ℕ) (Before : List ℕ → ℕ → List ℤ → Type 0) (out′ : List ℕ) (corner′ : ℕ) (work′ : List ℤ) : Type 0 where
-  pub out : List ℕ
-  pub corner : ℕ
-  pub work : List ℤ
-  pub byte : ℕ
-  pub before : Before out corner work
-  pub dots : Dots rule w y x (take (from + 8 - from) (drop from samples)) 0 corner work byte corner′ work′
-  pub stored : out′ ≡ set out to byte
-
--- so many bytes, one after the other
-unfoldable pub Bytes : Rule → ℕ → ℕ → ℕ → List ℕ → ℕ → List ℕ → ℕ → ℕ → List ℤ → ℕ → List ℕ → ℕ → List ℤ → Type 0
-Bytes rule w y x samples at out to corner work zero out′ corner′ work′ = (out′ ≡ out) × ((corner′ ≡ corner) × (work′ ≡ work))
-Bytes rule w y x samples at out to corner work (suc k) out′ corner′ work′ = ByteMore rule w y (x + 8 * k) samples (at + 8 * k) (to + k) (Bytes rule w y x samples at out to corner work k) out′ corner′ work′
-
 -- ---- the engine's steps
 
 -- the rule that the code's values stand for
@@ -175,9 +125,6 @@ abbrev pub AtOnce : Quantize → Type 0
 AtOnce (Threshold t) = Unit {0}
 AtOnce Dither = Unit {0}
 AtOnce (Ordered side) = ⊥
-
-abbrev pub Fills : Quantize → ℕ → ℕ → ℕ → List ℕ → ℕ → List ℕ → ℕ → ℕ → List ℤ → ℕ → List ℕ → ℕ → List ℤ → Type 0
-Fills rule w y x samples at out to corner work k out′ corner′ work′ = (table : List ℕ) → Bytes (ruleOf rule table) w y x samples at out to corner work k out′ corner′ work′
 
 pub record Sound (rule : Quantize) (w h row column begun corner work : ℕ) : Type 0 where
   pub inRow : column < w

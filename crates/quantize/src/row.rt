@@ -13,9 +13,10 @@ ghost use Prim.Native.Nat.{_+_, _≤_, _<_};
 ghost use lib.ListN.{length};
 ghost use Rattle.quantize.specs.Machine.{overOf};
 ghost use Rattle.quantize.specs.Rule.{dither};
-ghost use Rattle.quantize.specs.Steps.{Biased, Near, Diffusing, Diffused, Plain, Clear, Calm, Filling, Bytes};
+ghost use Rattle.quantize.specs.Steps.{Biased, Diffusing};
+ghost use Rattle.quantize.specs.Row.{Near, Diffused, Plain, Clear, Calm, Filling, Bytes};
 
-// The digits of some dots, and the residuals next to the following dot, plus 128: on its left, above left and above.
+// The digits of eight dots, and the residuals next to the following dot, plus 128: on its left, above left and above.
 struct Eight {
     digits: u32,
     left: u32,
@@ -31,7 +32,7 @@ fn inside(work: &[i16], reach: usize, x: usize) -> u32
     if 0 < reach { lift(work[x]) } else { 128 }
 }
 
-// A dot for each sample, from a column of a row on and not to its end. `work` keeps a residual for each column.
+// A dot for each sample, as `dither_dots` makes them, from a column of a row on and not to its end: without the test for the end the compiler unrolls the loop.
 fn dither_byte(
     width: usize,
     y: usize,

@@ -8,7 +8,8 @@ use options::Quantize;
 ghost use mathlib.Core.Path.{_≡_};
 ghost use Prim.Native.Nat.{_+_, _-_, _*_, _^_, _≤_, _<_};
 ghost use lib.ListN.{length};
-ghost use Rattle.quantize.specs.Steps.{Wholes, AtOnce, Served, Filling, Fills, Shares, Dotting, Dotted, Advancing, Advances};
+ghost use Rattle.quantize.specs.Steps.{Wholes, AtOnce, Served, Shares, Dotting, Dotted, Advancing, Advances};
+ghost use Rattle.quantize.specs.Row.{Filling, Fills};
 
 pub struct Part {
     pub digits: u32,

@@ -8,7 +8,7 @@ use borrow.Author.Needs.{needs}
 use denote.Ref.{now}
 use lib.ListN.{length, getD}
 use Rattle.quantize.specs.Rule.{dither}
-use Rattle.quantize.specs.Steps.{Near, Bytes}
+use Rattle.quantize.specs.Row.{Near, Bytes}
 use Rattle.quantize.proofs.Calming.{calm-all}
 use Rattle.quantize.proofs.Chaining.{Chain, bytes-none, chain-start, chain-more, chain-end, byte-small, near-own}
 use Rattle.quantize.proofs.Eights.{long}
