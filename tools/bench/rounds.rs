@@ -1,7 +1,7 @@
 //! Medians of interleaved rounds, in the CPU time of this thread, so that other programs on the
 //! machine disturb little.
 
-const ROUNDS: usize = 51;
+const ROUNDS: usize = 201;
 /// About how long each side runs in one round, in ns.
 const ROUND: f64 = 1_000_000.0;
 
