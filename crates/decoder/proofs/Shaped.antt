@@ -30,7 +30,7 @@ pub unless : {B P : Type 0} (t : Bool) (code offset : ℕ) (y : Answer B) (b : B
 unless true code offset y b f e = zero-one (cc)
 unless false code offset y b f e = f refl e
 
-pub when : {B P : Type 0} (t : Bool) (code offset : ℕ) (y : Answer B) (b : B) → (y ≡ gives b → P) → if t y (refuses code offset) ≡ gives b → P
+when : {B P : Type 0} (t : Bool) (code offset : ℕ) (y : Answer B) (b : B) → (y ≡ gives b → P) → if t y (refuses code offset) ≡ gives b → P
 when true code offset y b f e = f e
 when false code offset y b f e = zero-one (cc)
 

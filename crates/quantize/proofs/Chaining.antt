@@ -14,9 +14,9 @@ use Rattle.quantize.specs.Rule.{Rule, dither}
 use Rattle.quantize.specs.Machine.{Carry, cornerOf, valueOf, diffused, machineDot, next}
 use Rattle.quantize.specs.Steps.{Biased, rowCarry, rowBit, carryOf, Dots}
 use Rattle.quantize.specs.Row.{Near, Diffused, Bytes}
-use Rattle.quantize.proofs.Appending.{appended-ext, appended-lt}
+use Rattle.quantize.proofs.Appending.{appended-ext}
 use Rattle.quantize.proofs.Eights.{piece, long}
-use Rattle.quantize.proofs.Rowing.{row-bit-le}
+use Rattle.quantize.proofs.Rowing.{dots-small}
 use Rattle.quantize.proofs.Tracing.{row-long}
 
 pub bytes-none : (rule : Rule) (w y x : ℕ) (samples : List ℕ) (at : ℕ) (out : List ℕ) (to corner : ℕ) (work : List ℤ) (k : ℕ) → k ≡ 0 → Bytes rule w y x samples at out to corner work k out corner work
@@ -79,8 +79,7 @@ module _ (w y x : ℕ) (samples : List ℕ) (at : ℕ) (out₀ : List ℕ) (to c
 
     pub byte-small : r .digits < 256
     byte-small =
-        rw (d .dots .digits, eight)
-        (appended-lt 0 (rowBit dither w y (x + 8 * k) (piece samples (at + 8 * k) there) (carryOf aboveLeft work)) (row-bit-le dither w y (x + 8 * k) (piece samples (at + 8 * k) there) (carryOf aboveLeft work)) 0 8 (omega arith))
+        dots-small dither w y (x + 8 * k) (piece samples (at + 8 * k) there) 0 aboveLeft work (r .digits) (r .corner) work′ 0 8 (d .dots) (omega arith) eight
 
     same : cornerOf (subℕ aboveLeft 128) (x + 8 * k) ≡ cornerOf (subℕ (C .last) 128) (x + 8 * k)
     same = near-own w y (x + 8 * k) (C .last) work left aboveLeft above (C .near) .cornerIs .is ∙ sym (C .near .cornerIs .is)

@@ -62,8 +62,8 @@ begun-ext w d e n begun p h b =
 
 module _ (q : Quantizer) (samples out : List ℕ) (work : List ℤ) (r : Ran) (out′ : List ℕ) (work′ : List ℤ) (fits : r .taken ≤ length samples) (octets : (i : ℕ) → getD samples i 0 < 256)
     (counts : (s : Setting) (n : ℕ) → Stands q s n → Counts q s n (length samples) (length out) (length work) r)
-    (machine : (s : Setting) (n : ℕ) (d : ℕ → ℕ) → Stands q s n → Begun (s .width) d n (q .begun)
-    → ((i : ℕ) → i < r .taken → d (n + i) ≡ machineBit s n (carryOf (q .corner) work) samples i) → Machines q s n d samples out work r out′ work′)
+    (machine : (s : Setting) (n : ℕ) (d : ℕ → ℕ) → Stands q s n → Begun (s .width) d n (q .place .begun)
+    → ((i : ℕ) → i < r .taken → d (n + i) ≡ machineBit s n (carryOf (q .place .corner) work) samples i) → Machines q s n d samples out work r out′ work′)
     (room : (s : Setting) (n : ℕ) → Stands q s n → 0 < r .taken → s .rule ≡ dither → s .width ≤ length work) where
   module _ (s : Setting) (xs : List ℕ) (H : Holds q work s xs) where
     abbrev n : ℕ
@@ -73,7 +73,7 @@ module _ (q : Quantizer) (samples out : List ℕ) (work : List ℤ) (r : Ran) (o
     joined = xs ++ take (r .taken) samples
 
     abbrev c : Carry
-    c = carryOf (q .corner) work
+    c = carryOf (q .place .corner) work
 
     C : Counts q s n (length samples) (length out) (length work) r
     C = counts s n (H .stands)
@@ -85,7 +85,7 @@ module _ (q : Quantizer) (samples out : List ℕ) (work : List ℤ) (r : Ran) (o
     high = let a = H .stands .at .inFrame in omega arith
 
     corner-held : Held (c .corner)
-    corner-held = record { n = q .corner; holds = record { is = refl; small = H .stands .cornerSmall } }
+    corner-held = record { n = q .place .corner; holds = record { is = refl; small = H .stands .cornerSmall } }
 
     long : length joined ≡ n + r .taken
     long = length-append xs (take (r .taken) samples) ∙ ap (λ (t : ℕ). n + t) (length-take-le (r .taken) samples fits)
@@ -100,8 +100,8 @@ module _ (q : Quantizer) (samples out : List ℕ) (work : List ℤ) (r : Ran) (o
     dots-all : (i : ℕ) → i < r .taken → dotOf s joined (n + i) ≡ machineBit s n c samples i
     dots-all i l = dots-are (omega arith) i l
 
-    begun-is : Begun (s .width) (dotOf s joined) n (q .begun)
-    begun-is = begun-ext (s .width) (dotOf s xs) (dotOf s joined) n (q .begun) wide (λ i l. sym (dotOf-stays s xs (take (r .taken) samples) i wide l)) (H .begun)
+    begun-is : Begun (s .width) (dotOf s joined) n (q .place .begun)
+    begun-is = begun-ext (s .width) (dotOf s xs) (dotOf s joined) n (q .place .begun) wide (λ i l. sym (dotOf-stays s xs (take (r .taken) samples) i wide l)) (H .begun)
 
     M : Machines q s n (dotOf s joined) samples out work r out′ work′
     M = machine s n (dotOf s joined) (H .stands) begun-is dots-all
@@ -112,7 +112,7 @@ module _ (q : Quantizer) (samples out : List ℕ) (work : List ℤ) (r : Ran) (o
         rw (length-upto (byteAt (s .width) (dotOf s xs)) (count s n), long, C .written)
         (drop-upto (byteAt (s .width) (dotOf s joined)) (count s n) (r .written))
 
-    keeps-is : Keeps (s .rule) (s .width) (s .height) joined (carryOf (r .quantizer .corner) work′)
+    keeps-is : Keeps (s .rule) (s .width) (s .height) joined (carryOf (r .quantizer .place .corner) work′)
     unfolding carried
     keeps-is =
         ⊎-elim
@@ -138,7 +138,7 @@ module _ (q : Quantizer) (samples out : List ℕ) (work : List ℤ) (r : Ran) (o
 -- ---- nothing can be taken
 
 pub runs-none : (q : Quantizer) (samples out : List ℕ) (work : List ℤ) → ((i : ℕ) → getD samples i 0 < 256)
-    → (Sound (q .rule) (q .width) (q .height) (q .row) (q .column) (q .begun) (q .corner) (length work) → ⊥)
+    → (Sound (q .rule) (q .width) (q .height) (q .place .row) (q .place .column) (q .place .begun) (q .place .corner) (length work) → ⊥)
     → Runs q samples out work (record { quantizer = q; taken = 0; written = 0 }) out work
 unfolding upto carried
 runs-none q samples out work octets h =
@@ -173,8 +173,8 @@ runs-none q samples out work octets h =
           stands = rw add-zero t;
         }
 
-    machine : (s : Setting) (n : ℕ) (d : ℕ → ℕ) → Stands q s n → Begun (s .width) d n (q .begun)
-        → ((i : ℕ) → i < 0 → d (n + i) ≡ machineBit s n (carryOf (q .corner) work) samples i) → Machines q s n d samples out work (record { quantizer = q; taken = 0; written = 0 }) out work
+    machine : (s : Setting) (n : ℕ) (d : ℕ → ℕ) → Stands q s n → Begun (s .width) d n (q .place .begun)
+        → ((i : ℕ) → i < 0 → d (n + i) ≡ machineBit s n (carryOf (q .place .corner) work) samples i) → Machines q s n d samples out work (record { quantizer = q; taken = 0; written = 0 }) out work
     machine s n d t b k = record { bytes = refl; begun = rw add-zero b; carry = refl }
 
 -- ---- the loop's end
@@ -186,7 +186,7 @@ End q samples out frames column taken written = (frames ≤ 0) ⊎ ((0 < frames)
 module _ (q : Quantizer) (samples out : List ℕ) (work : List ℤ) (out′ : List ℕ) (work′ : List ℤ) (frames row column begun corner taken written : ℕ)
     (L : Loop q samples out work out′ work′ frames row column begun corner taken written) (e : End q samples out′ frames column taken written) (octets : (i : ℕ) → getD samples i 0 < 256) where
   abbrev q′ : Quantizer
-  q′ = record { rule = q .rule; table = q .table; width = q .width; height = q .height; frames = frames; row = row; column = column; begun = begun; corner = corner }
+  q′ = record { rule = q .rule; table = q .table; width = q .width; height = q .height; place = record { frames = frames; row = row; column = column; begun = begun; corner = corner } }
 
   abbrev ran : Ran
   ran = record { quantizer = q′; taken = taken; written = written }
@@ -236,8 +236,8 @@ module _ (q : Quantizer) (samples out : List ℕ) (work : List ℤ) (out′ : Li
     room-is : 0 < taken → s .rule ≡ dither → s .width ≤ length work
     room-is l d = let k = long-enough (s .rule) (s .width) (length work) d served in omega arith
 
-  machine-are : (s : Setting) (n : ℕ) (d : ℕ → ℕ) → Stands q s n → Begun (s .width) d n (q .begun)
-      → ((i : ℕ) → i < taken → d (n + i) ≡ machineBit s n (carryOf (q .corner) work) samples i) → Machines q s n d samples out work ran out′ work′
+  machine-are : (s : Setting) (n : ℕ) (d : ℕ → ℕ) → Stands q s n → Begun (s .width) d n (q .place .begun)
+      → ((i : ℕ) → i < taken → d (n + i) ≡ machineBit s n (carryOf (q .place .corner) work) samples i) → Machines q s n d samples out work ran out′ work′
   machine-are s n d t b k =
       let f = L .packed s n d t (record { begunIs = b; dots = k }) in
       record { bytes = f .bytes; begun = f .begunIs; carry = P s n t .carry }

@@ -19,6 +19,7 @@ pub mod Counting
 pub mod Tracing
 pub mod Chaining
 pub mod Running
+pub mod Taking
 pub mod Causes
 pub mod Following
 pub mod Keeping

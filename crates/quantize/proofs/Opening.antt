@@ -44,7 +44,7 @@ keeps-none dither w h c = rw (zero-mod, zero-div, zero-mod) (diffusion-frame w (
 keeps-none (ordered side table) w h c = tt
 
 pub opens : (rule : Quantize) (table : List ℕ) (w h frames : ℕ) → Tabled rule table
-    → Opens rule w h frames (record { rule = rule; table = table; width = w; height = h; frames = frames; row = 0; column = 0; begun = 0; corner = 128 })
+    → Opens rule w h frames (record { rule = rule; table = table; width = w; height = h; place = record { frames = frames; row = 0; column = 0; begun = 0; corner = 128 } })
 opens rule table w h frames t =
     record {
       ruleIs = refl;
@@ -82,5 +82,5 @@ two-rows i l =
     (λ _. omega arith) (record { n = 128; holds = record { is = refl; small = omega arith } }) i l
 
 -- an example: a new quantizer for dithering, over the same buffer
-opened : Holds (record { rule = Dither; table = []; width = 2; height = 2; frames = 1; row = 0; column = 0; begun = 0; corner = 128 }) (pos 300 ∷ negsuc 400 ∷ []) (setting Dither 2 2 1) []
+opened : Holds (record { rule = Dither; table = []; width = 2; height = 2; place = record { frames = 1; row = 0; column = 0; begun = 0; corner = 128 } }) (pos 300 ∷ negsuc 400 ∷ []) (setting Dither 2 2 1) []
 opened = opens Dither [] 2 2 1 (λ _. refl) .holds tt (omega arith) (omega arith) (pos 300 ∷ negsuc 400 ∷ [])

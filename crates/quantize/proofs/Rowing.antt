@@ -1,6 +1,6 @@
 -- The invariant of `dither_dots`, that a turn keeps it, and what it says at the end.
 -- Assumes nothing.
-use Prim.Native.Nat.{ℕ, suc, _+_, _*_, _/_, _%_, _≤_, _<_}
+use Prim.Native.Nat.{ℕ, suc, _+_, _*_, _/_, _%_, _^_, _≤_, _<_}
 use mathlib.Core.Path.{_≡_, refl, sym, ap, _∙_, subst}
 use mathlib.Core.List.{List}
 use native.Mathlib.Nat.{add-zero}
@@ -18,7 +18,7 @@ use Rattle.quantize.specs.Row.{Near}
 use Rattle.quantize.proofs.Range.{within, clamp-same}
 use Rattle.quantize.proofs.Reading.{left-at, corner-at, over-set, kept-zero}
 use Rattle.quantize.proofs.Differences.{stepped-calm}
-use Rattle.quantize.proofs.Appending.{bit-le, one-more}
+use Rattle.quantize.proofs.Appending.{bit-le, one-more, appended-lt}
 
 pub biased-zero : Biased (pos 0) 128
 biased-zero = record { is = refl; small = omega arith }
@@ -39,6 +39,12 @@ dot-le {v} s = subst (λ (n : ℕ). n ≤ 1) (sym (s .dotIs)) (bit-le (white v))
 pub row-bit-le : (rule : Rule) (w y x : ℕ) (gray : List ℕ) (c : Carry) (i : ℕ) → rowBit rule w y x gray c i ≤ 1
 unfolding rowBit
 row-bit-le rule w y x gray c i = bit-le (machineDot rule w y (x + i) (getD gray i 0) (rowCarry rule w y x gray c i))
+
+-- the digits after n samples more
+pub dots-small : (rule : Rule) (w y x : ℕ) (gray : List ℕ) (begun corner : ℕ) (work : List ℤ) (digits corner′ : ℕ) (work′ : List ℤ) (a n : ℕ)
+    → Dots rule w y x gray begun corner work digits corner′ work′ → begun < 2 ^ a → length gray ≡ n → digits < 2 ^ (a + n)
+dots-small rule w y x gray begun corner work digits corner′ work′ a n d h e =
+    rw (d .digits, e) (appended-lt begun (rowBit rule w y x gray (carryOf corner work)) (row-bit-le rule w y x gray (carryOf corner work)) a n h)
 
 module _ (w y x : ℕ) (gray : List ℕ) (begun corner : ℕ) (work₀ : List ℤ) where
   abbrev at : ℕ → Carry

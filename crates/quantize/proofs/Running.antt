@@ -23,15 +23,14 @@ use Rattle.quantize.specs.Place.{At, begunBy, Begun}
 use Rattle.quantize.specs.Steps.{rowCarry, rowBit, carryOf, ruleOf, Served, Sound, Shares, Dotting, Dotted, Advancing, Moves, Advances}
 use Rattle.quantize.specs.Engine.{Stands}
 use Rattle.quantize.proofs.Differences.{lt-or-le}
-use Rattle.quantize.proofs.Appending.{appended-lt}
-use Rattle.quantize.proofs.Rowing.{row-bit-le}
+use Rattle.quantize.proofs.Rowing.{dots-small}
 use Rattle.quantize.proofs.Grown.{grown-set}
 use Rattle.quantize.proofs.Packing.{begun-more}
 use Rattle.quantize.proofs.Tracing.{row-beyond, row-long, row-spared, carried-row, machine-row}
 
 module _ (q : Quantizer) (samples out₀ : List ℕ) (work₀ : List ℤ) where
   abbrev c₀ : Carry
-  c₀ = carryOf (q .corner) work₀
+  c₀ = carryOf (q .place .corner) work₀
 
   -- the place and the machine after `taken` samples and `written` bytes, where q stands for n samples of s
   pub record Placed (s : Setting) (n : ℕ) (work : List ℤ) (frames row column corner taken written : ℕ) : Type 0 where
@@ -46,7 +45,7 @@ module _ (q : Quantizer) (samples out₀ : List ℕ) (work₀ : List ℤ) where
 
   -- d has the dots of the begun byte and the machine's
   pub record Fed (s : Setting) (n : ℕ) (d : ℕ → ℕ) (taken : ℕ) : Type 0 where
-    pub begunIs : Begun (s .width) d n (q .begun)
+    pub begunIs : Begun (s .width) d n (q .place .begun)
     pub dots : (i : ℕ) → i < taken → d (n + i) ≡ machineBit s n c₀ samples i
 
   pub record Loop (out : List ℕ) (work : List ℤ) (frames row column begun corner taken written : ℕ) : Type 0 where
@@ -61,8 +60,8 @@ module _ (q : Quantizer) (samples out₀ : List ℕ) (work₀ : List ℤ) where
     pub placed : (s : Setting) (n : ℕ) → Stands q s n → Placed s n work frames row column corner taken written
     pub packed : (s : Setting) (n : ℕ) (d : ℕ → ℕ) → Stands q s n → Fed s n d taken → Packed s n d out begun taken written
 
-  pub loop-start : Sound (q .rule) (q .width) (q .height) (q .row) (q .column) (q .begun) (q .corner) (length work₀)
-      → Loop out₀ work₀ (q .frames) (q .row) (q .column) (q .begun) (q .corner) 0 0
+  pub loop-start : Sound (q .rule) (q .width) (q .height) (q .place .row) (q .place .column) (q .place .begun) (q .place .corner) (length work₀)
+      → Loop out₀ work₀ (q .place .frames) (q .place .row) (q .place .column) (q .place .begun) (q .place .corner) 0 0
   unfolding carried upto
   loop-start h =
       record {
@@ -115,14 +114,9 @@ module _ (q : Quantizer) (samples out₀ : List ℕ) (work₀ : List ℤ) where
       kept-is : rowCarry rule (q .width) row column piece (carryOf corner work) (length piece) .kept ≡ work′
       kept-is = ap (λ (c : Carry). c .kept) (dt .carry)
 
-      digits-small : r .digits < 2 ^ (column % 8 + m)
-      digits-small =
-          rw (dt .digits, piece-long)
-          (appended-lt begun (rowBit rule (q .width) row column piece (carryOf corner work)) (λ i. row-bit-le rule (q .width) row column piece (carryOf corner work) i) (column % 8) m (L .sound .begunSmall))
-
       pub advancing : q .height < 2 ^ 64 → Advancing (q .width) (q .height) frames row column m (r .digits)
       advancing h =
-          record { some = omega (arith, some); left = left; inRow = sh .inRow; inByte = sh .inByte; inFrame = L .sound .inFrame; high = h; digitsSmall = digits-small }
+          record { some = omega (arith, some); left = left; inRow = sh .inRow; inByte = sh .inByte; inFrame = L .sound .inFrame; high = h; digitsSmall = dots-small rule (q .width) row column piece begun corner work (r .digits) (r .corner) work′ (column % 8) m dt (L .sound .begunSmall) piece-long }
 
       long-is : length work′ ≡ length work
       long-is = sym (ap length kept-is) ∙ row-long rule (q .width) row column piece (carryOf corner work) (length piece)

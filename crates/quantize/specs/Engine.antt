@@ -50,9 +50,9 @@ pub record Stands (q : Quantizer) (s : Setting) (n : ℕ) : Type 0 where
   pub knows : Knows (q .rule)
   pub width : s .width ≡ q .width
   pub height : s .height ≡ q .height
-  pub at : At s n (q .frames) (q .row) (q .column)
-  pub cornerSmall : q .corner ≤ 256
-  pub begunSmall : q .begun < 2 ^ (q .column % 8)
+  pub at : At s n (q .place .frames) (q .place .row) (q .place .column)
+  pub cornerSmall : q .place .corner ≤ 256
+  pub begunSmall : q .place .begun < 2 ^ (q .place .column % 8)
 
 -- dithering's numbers, where the next sample goes to column x of row y of the scan: up to there the row's residuals, from there on those above
 pub record Diffusion (w : ℕ) (scan : Scan) (x y : ℕ) (c : Carry) : Type 0 where
@@ -69,8 +69,8 @@ Keeps (ordered side table) w h xs c = Unit {0}
 -- the quantizer and the work buffer are as the samples xs leave them
 pub record Holds (q : Quantizer) (work : List ℤ) (s : Setting) (xs : List ℕ) : Type 0 where
   pub stands : Stands q s (length xs)
-  pub begun : Begun (s .width) (dotOf s xs) (length xs) (q .begun)
-  pub keeps : Keeps (s .rule) (s .width) (s .height) xs (carryOf (q .corner) work)
+  pub begun : Begun (s .width) (dotOf s xs) (length xs) (q .place .begun)
+  pub keeps : Keeps (s .rule) (s .width) (s .height) xs (carryOf (q .place .corner) work)
 
 -- ---- the contracts
 
@@ -108,8 +108,8 @@ pub record Counts (q : Quantizer) (s : Setting) (n samples room work : ℕ) (r :
 -- the bytes are the running machine's, from the numbers found: d has the begun byte's dots and the machine's
 pub record Machines (q : Quantizer) (s : Setting) (n : ℕ) (d : ℕ → ℕ) (samples out : List ℕ) (work : List ℤ) (r : Ran) (out′ : List ℕ) (work′ : List ℤ) : Type 0 where
   pub bytes : out′ ≡ upto (r .written) (λ j. byteAt (s .width) d (count s n + j)) ++ drop (r .written) out
-  pub begun : Begun (s .width) d (n + r .taken) (r .quantizer .begun)
-  pub carry : carried s n (carryOf (q .corner) work) samples (r .taken) ≡ carryOf (r .quantizer .corner) work′
+  pub begun : Begun (s .width) d (n + r .taken) (r .quantizer .place .begun)
+  pub carry : carried s n (carryOf (q .place .corner) work) samples (r .taken) ≡ carryOf (r .quantizer .place .corner) work′
 
 -- the bytes are the definition's, where the buffer is as the last call left it
 pub record Defined (s : Setting) (xs samples out : List ℕ) (r : Ran) (out′ : List ℕ) (work′ : List ℤ) : Type 0 where
@@ -124,6 +124,6 @@ pub record Runs (q : Quantizer) (samples out : List ℕ) (work : List ℤ) (r : 
   pub spared : (q .rule ≡ Dither → ⊥) → work′ ≡ work
   pub idle : (Ready (q .rule) (q .width) (q .height) (length work) → ⊥) → Idles q out work r out′ work′
   pub counts : (s : Setting) (n : ℕ) → Stands q s n → Counts q s n (length samples) (length out) (length work) r
-  pub machine : (s : Setting) (n : ℕ) (d : ℕ → ℕ) → Stands q s n → Begun (s .width) d n (q .begun)
-      → ((i : ℕ) → i < r .taken → d (n + i) ≡ machineBit s n (carryOf (q .corner) work) samples i) → Machines q s n d samples out work r out′ work′
+  pub machine : (s : Setting) (n : ℕ) (d : ℕ → ℕ) → Stands q s n → Begun (s .width) d n (q .place .begun)
+      → ((i : ℕ) → i < r .taken → d (n + i) ≡ machineBit s n (carryOf (q .place .corner) work) samples i) → Machines q s n d samples out work r out′ work′
   pub defined : (s : Setting) (xs : List ℕ) → Holds q work s xs → Defined s xs samples out r out′ work′

@@ -6,9 +6,11 @@ use lib.IntN.{ℤ, pos, subℕ}
 use lib.ListN.{length, getD, take, drop, set}
 use Rattle.options.specs.declared.Quantize.{Quantize}
 use Rattle.quantize.specs.declared.row.Eight.{Eight}
+use Rattle.quantize.specs.declared.turn.Place.{Place}
+use Rattle.quantize.specs.declared.turn.Filled.{Filled}
 use Rattle.quantize.specs.Rule.{Rule, dither}
 use Rattle.quantize.specs.Machine.{leftOf, cornerOf, overOf}
-use Rattle.quantize.specs.Steps.{Biased, Dots, ruleOf}
+use Rattle.quantize.specs.Steps.{Biased, Dots, ruleOf, Served, Wholes}
 
 -- these numbers hold the residuals next to column x of row y: on its left, above left and above
 pub record Near (w y x corner : ℕ) (work : List ℤ) (left aboveLeft above : ℕ) : Type 0 where
@@ -60,3 +62,15 @@ Bytes rule w y x samples at out to corner work (suc k) out′ corner′ work′ 
 -- under each table
 abbrev pub Fills : Quantize → ℕ → ℕ → ℕ → List ℕ → ℕ → List ℕ → ℕ → ℕ → List ℤ → ℕ → List ℕ → ℕ → List ℤ → Type 0
 Fills rule w y x samples at out to corner work k out′ corner′ work′ = (table : List ℕ) → Bytes (ruleOf rule table) w y x samples at out to corner work k out′ corner′ work′
+
+-- the row goes on, and no more was taken or written than there is
+pub record RowFilling (rule : Quantize) (w : ℕ) (p : Place) (samples at out to work : ℕ) : Type 0 where
+  pub inRow : p .column < w
+  pub takenFits : at ≤ samples
+  pub writtenFits : to ≤ out
+  pub small : p .corner ≤ 256
+  pub served : Served rule w work
+
+pub record RowFilled (rule : Quantize) (w : ℕ) (p : Place) (samples : List ℕ) (at : ℕ) (out : List ℕ) (to : ℕ) (work : List ℤ) (r : Filled) (out′ : List ℕ) (work′ : List ℤ) : Type 0 where
+  pub wholes : Wholes w (p .column) (length samples - at) (length out - to) (r .bytes)
+  pub fills : Fills rule w (p .row) (p .column) samples at out to (p .corner) work (r .bytes) out′ (r .corner) work′

@@ -12,6 +12,8 @@ use Rattle.options.specs.declared.Quantize.the-variants.{Threshold, Dither, Ord
 use Rattle.quantize.specs.declared.dither.Dithered.{Dithered}
 use Rattle.quantize.specs.declared.turn.Part.{Part}
 use Rattle.quantize.specs.declared.turn.Next.{Next}
+use Rattle.quantize.specs.declared.turn.Place.{Place}
+use Rattle.quantize.specs.declared.turn.Taken.{Taken}
 use Rattle.quantize.specs.Bits.{bit, appended, digits}
 use Rattle.quantize.specs.Diffusion.{part, white, residual}
 use Rattle.quantize.specs.Ordered.{number, numbers, exponent, bound, cell}
@@ -188,3 +190,19 @@ pub record Advances (w h frames row column m digits : ℕ) (r : Next) : Type 0 w
       → r .byte ≡ byteAt (s .width) d (count s n)
   pub begunIs : (s : Setting) (n : ℕ) (d : ℕ → ℕ) → s .width ≡ w → s .height ≡ h → At s n frames row column → digits ≡ begunBy (s .width) d n (n % s .width % 8 + m)
       → Begun (s .width) d (n + m) (r .begun)
+
+-- n samples, which end no later than the begun byte
+pub record Taking (rule : Quantize) (w h : ℕ) (p : Place) (n work : ℕ) : Type 0 where
+  pub dotting : Dotting rule w (p .column) n (p .begun) (p .corner) work
+  pub left : 0 < p .frames
+  pub inByte : p .column % 8 + n ≤ 8
+  pub inFrame : p .row < h
+  pub high : h < 2 ^ 64
+  pub begunSmall : p .begun < 2 ^ (p .column % 8)
+
+pub record Takes (rule : Quantize) (table : List ℕ) (w h : ℕ) (p : Place) (gray : List ℕ) (work : List ℤ) (r : Taken) (work′ : List ℤ) : Type 0 where
+  -- the digits of the begun byte after them
+  pub digits : ℕ
+  pub dotted : Dotted rule table w (p .row) (p .column) gray (p .begun) (p .corner) work (record { digits = digits; corner = r .place .corner }) work′
+  pub advances : Advances w h (p .frames) (p .row) (p .column) (length gray) digits
+      (record { frames = r .place .frames; row = r .place .row; column = r .place .column; begun = r .place .begun; byte = r .byte; whole = r .whole })

@@ -1,10 +1,9 @@
 // The quantising engine, which whole planes and making sessions run.
 use crate::ordered::numbers;
-use crate::turn::advance;
-use crate::turn::bytes_at_once;
-use crate::turn::dots;
-use crate::turn::fill;
+use crate::turn::Place;
+use crate::turn::fill_row;
 use crate::turn::share;
+use crate::turn::take;
 use options::Quantize;
 ghost use mathlib.Core.Path.{_≡_};
 ghost use lib.ListN.{length};
@@ -12,21 +11,14 @@ ghost use Rattle.quantize.specs.Whole.{knownSide};
 ghost use Rattle.quantize.specs.Engine.{Opens, Runs, Tabled};
 ghost use Rattle.quantize.specs.Steps.{Able};
 
-// Samples of at most so many frames on their way to bytes: the rule and the sizes, and where the next sample goes.
+// Samples of at most so many frames on their way to bytes.
 pub struct Quantizer {
     rule: Quantize,
     // The ordered numbers of the rule's side, row by row, at the front.
     table: [u8; 64],
     width: usize,
     height: usize,
-    // The frames that are not full.
-    frames: usize,
-    row: usize,
-    column: usize,
-    // The dots of the begun byte, as binary digits.
-    begun: u32,
-    // The residual above the dot on the left, plus 128.
-    corner: u32,
+    place: Place,
 }
 
 // How many samples were taken, and how many bytes were written at the output's front.
@@ -49,28 +41,19 @@ pub(crate) fn known(side: u8) -> bool
 }
 
 // Whether samples can be taken: a place in the frame, a known side, and 2 × width numbers of work where the rule needs them.
-fn able(
-    rule: Quantize,
-    width: usize,
-    height: usize,
-    row: usize,
-    column: usize,
-    begun: u32,
-    corner: u32,
-    work: usize,
-) -> bool
-    ensures { λ r. ⌜ Able rule width height row column begun corner work r ⌝ }
+fn able(rule: Quantize, width: usize, height: usize, p: Place, work: usize) -> bool
+    ensures { λ r. ⌜ Able rule width height (p .row) (p .column) (p .begun) (p .corner) work r ⌝ }
 {
-    if width <= column {
+    if width <= p.column {
         return false;
     }
-    if height <= row {
+    if height <= p.row {
         return false;
     }
-    if 256 < corner {
+    if 256 < p.corner {
         return false;
     }
-    if begun >> (column % 8) as u32 != 0 {
+    if p.begun >> (p.column % 8) as u32 != 0 {
         return false;
     }
     match rule {
@@ -101,11 +84,13 @@ impl Quantizer {
             table: table,
             width: width as usize,
             height: height as usize,
-            frames: frames as usize,
-            row: 0,
-            column: 0,
-            begun: 0,
-            corner: 128,
+            place: Place {
+                frames: frames as usize,
+                row: 0,
+                column: 0,
+                begun: 0,
+                corner: 128,
+            },
         }
     }
 
@@ -117,70 +102,33 @@ impl Quantizer {
         let table = self.table;
         let width = self.width;
         let height = self.height;
-        let mut frames = self.frames;
-        let mut row = self.row;
-        let mut column = self.column;
-        let mut begun = self.begun;
-        let mut corner = self.corner;
+        let mut p = self.place;
         let mut taken: usize = 0;
         let mut written: usize = 0;
-        if !able(rule, width, height, row, column, begun, corner, work.len()) {
+        if !able(rule, width, height, p, work.len()) {
             return Ran {
                 quantizer: self,
                 taken: 0,
                 written: 0,
             };
         }
-        while 0 < frames {
-            let k = bytes_at_once(
-                rule,
-                width,
-                column,
-                samples.len() - taken,
-                out.len() - written,
-            );
-            corner = fill(
-                rule,
-                width,
-                row,
-                column,
-                samples,
-                taken,
-                out,
-                written,
-                k,
-                corner,
-                work,
-            );
-            taken += 8 * k;
-            written += k;
-            column += 8 * k;
-            let m = share(width, column, samples.len() - taken, out.len() - written);
+        while 0 < p.frames {
+            let f = fill_row(rule, width, p, samples, taken, out, written, work);
+            taken += 8 * f.bytes;
+            written += f.bytes;
+            p.column += 8 * f.bytes;
+            p.corner = f.corner;
+            let m = share(width, p.column, samples.len() - taken, out.len() - written);
             if m == 0 {
                 break;
             }
             let end = taken + m;
-            let p = dots(
-                rule,
-                &table,
-                width,
-                row,
-                column,
-                &samples[taken..end],
-                begun,
-                corner,
-                work,
-            );
-            let n = advance(width, height, frames, row, column, m, p.digits);
-            if n.whole {
-                out[written] = n.byte;
+            let t = take(rule, &table, width, height, p, &samples[taken..end], work);
+            if t.whole {
+                out[written] = t.byte;
                 written += 1;
             }
-            frames = n.frames;
-            row = n.row;
-            column = n.column;
-            begun = n.begun;
-            corner = p.corner;
+            p = t.place;
             taken = end;
         }
         Ran {
@@ -189,11 +137,7 @@ impl Quantizer {
                 table: table,
                 width: width,
                 height: height,
-                frames: frames,
-                row: row,
-                column: column,
-                begun: begun,
-                corner: corner,
+                place: p,
             },
             taken: taken,
             written: written,

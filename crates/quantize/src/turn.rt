@@ -8,14 +8,41 @@ use options::Quantize;
 ghost use mathlib.Core.Path.{_≡_};
 ghost use Prim.Native.Nat.{_+_, _-_, _*_, _^_, _≤_, _<_};
 ghost use lib.ListN.{length};
-ghost use Rattle.quantize.specs.Steps.{Wholes, AtOnce, Served, Shares, Dotting, Dotted, Advancing, Advances};
-ghost use Rattle.quantize.specs.Row.{Filling, Fills};
+ghost use Rattle.quantize.specs.Steps.{Wholes, AtOnce, Served, Shares, Dotting, Dotted, Advancing, Advances, Taking, Takes};
+ghost use Rattle.quantize.specs.Row.{Filling, Fills, RowFilling, RowFilled};
 
+// Where the next sample goes, and what is kept for it.
+pub struct Place {
+    // The frames that are not full.
+    pub frames: usize,
+    pub row: usize,
+    pub column: usize,
+    // The dots of the begun byte, as binary digits.
+    pub begun: u32,
+    // The residual above the dot on the left, plus 128.
+    pub corner: u32,
+}
+
+// How many bytes were written at once, and the corner after them.
+pub struct Filled {
+    pub bytes: usize,
+    pub corner: u32,
+}
+
+// The place after some samples, the byte that they go into, and whether they finish it.
+pub struct Taken {
+    pub place: Place,
+    pub byte: u8,
+    pub whole: bool,
+}
+
+// The digits of the begun byte after some samples, and the corner.
 pub struct Part {
     pub digits: u32,
     pub corner: u32,
 }
 
+// The place after some samples, but for the corner, and the byte that they go into.
 pub struct Next {
     pub frames: usize,
     pub row: usize,
@@ -43,13 +70,7 @@ fn whole_bytes(width: usize, column: usize, samples: usize, room: usize) -> usiz
 }
 
 // The same where the rule's bytes are written at once, and otherwise 0.
-pub(crate) fn bytes_at_once(
-    rule: Quantize,
-    width: usize,
-    column: usize,
-    samples: usize,
-    room: usize,
-) -> usize
+fn bytes_at_once(rule: Quantize, width: usize, column: usize, samples: usize, room: usize) -> usize
     requires { ⌜ column < width ⌝ }
     ensures { λ r. ⌜ Wholes width column samples room r × (0 < r → AtOnce rule) ⌝ }
 {
@@ -61,7 +82,7 @@ pub(crate) fn bytes_at_once(
 }
 
 // So many whole bytes of a row, but not its last, of the samples from index `at` on, into the output from index `to` on. Answers the corner after them.
-pub(crate) fn fill(
+fn fill(
     rule: Quantize,
     width: usize,
     y: usize,
@@ -98,6 +119,40 @@ pub(crate) fn fill(
     }
 }
 
+// As many whole bytes of the row as the samples from index `at` on give and the output from index `to` on takes.
+pub(crate) fn fill_row(
+    rule: Quantize,
+    width: usize,
+    p: Place,
+    samples: &[u8],
+    at: usize,
+    out: &mut [u8],
+    to: usize,
+    work: &mut [i16],
+) -> Filled
+    requires { ⌜ RowFilling rule width p (length (now samples)) at (length (now out)) to (length (now work)) ⌝ }
+    ensures { λ r. ⌜ RowFilled rule width p (now (samples .entry)) at (now (out .entry)) to (now (work .entry)) r (now (out .exit)) (now (work .exit)) ⌝ }
+{
+    let k = bytes_at_once(rule, width, p.column, samples.len() - at, out.len() - to);
+    let corner = fill(
+        rule,
+        width,
+        p.row,
+        p.column,
+        samples,
+        at,
+        out,
+        to,
+        k,
+        p.corner,
+        work,
+    );
+    Filled {
+        bytes: k,
+        corner: corner,
+    }
+}
+
 // How many of so many samples go into the begun byte: without room for the byte not the last one.
 pub(crate) fn share(width: usize, column: usize, samples: usize, room: usize) -> usize
     requires { ⌜ column < width ⌝ }
@@ -114,7 +169,7 @@ pub(crate) fn share(width: usize, column: usize, samples: usize, room: usize) ->
 }
 
 // The digits of `begun`, and then a dot for each sample, from a column of row y on.
-pub(crate) fn dots(
+fn dots(
     rule: Quantize,
     table: &[u8; 64],
     width: usize,
@@ -156,7 +211,7 @@ fn pad(digits: u32, m: u32) -> u8
 }
 
 // The place after m samples more, which end no later than the begun byte; the byte, and whether they finish it.
-pub(crate) fn advance(
+fn advance(
     width: usize,
     height: usize,
     frames: usize,
@@ -208,5 +263,51 @@ pub(crate) fn advance(
         begun: 0,
         byte: byte,
         whole: true,
+    }
+}
+
+// Takes samples that end no later than the begun byte.
+pub(crate) fn take(
+    rule: Quantize,
+    table: &[u8; 64],
+    width: usize,
+    height: usize,
+    p: Place,
+    gray: &[u8],
+    work: &mut [i16],
+) -> Taken
+    requires { ⌜ Taking rule width height p (length (now gray)) (length (now work)) ⌝ }
+    ensures { λ r. ⌜ Takes rule (now (table .entry)) width height p (now (gray .entry)) (now (work .entry)) r (now (work .exit)) ⌝ }
+{
+    let d = dots(
+        rule,
+        table,
+        width,
+        p.row,
+        p.column,
+        gray,
+        p.begun,
+        p.corner,
+        work,
+    );
+    let n = advance(
+        width,
+        height,
+        p.frames,
+        p.row,
+        p.column,
+        gray.len(),
+        d.digits,
+    );
+    Taken {
+        place: Place {
+            frames: n.frames,
+            row: n.row,
+            column: n.column,
+            begun: n.begun,
+            corner: d.corner,
+        },
+        byte: n.byte,
+        whole: n.whole,
     }
 }

@@ -40,13 +40,13 @@ known-requires : tie.Need-known-requires
 known-requires c κs = search needs
 
 returns-5 : tie.Need-returns-5
-returns-5 c = able-threshold (c .before .before .before .before .before .if1 .left) (c .before .before .before .before .if2 .left) (c .before .before .before .if3 .left) (div-zero _ _ (pow-pos (c .before .before .before .before .before .before .args .column % 8)) (c .before .before .if4 .left)) _ (c .enum-told .given .1)
+returns-5 c = able-threshold (c .before .before .before .before .before .before .before .before .before .if1 .left) (c .before .before .before .before .before .before .before .if2 .left) (c .before .before .before .before .before .if3 .left) (div-zero _ _ (pow-pos (c .before .before .before .before .before .before .before .before .before .before .before .args .p .column % 8)) (c .before .before .if4 .left)) _ (c .enum-told .given .1)
 
 returns-6 : tie.Need-returns-6
-returns-6 c = able-dither (c .before .before .before .before .before .if1 .left) (c .before .before .before .before .if2 .left) (c .before .before .before .if3 .left) (div-zero _ _ (pow-pos (c .before .before .before .before .before .before .args .column % 8)) (c .before .before .if4 .left)) (c .enum-told2 .given .1)
+returns-6 c = able-dither (c .before .before .before .before .before .before .before .before .before .if1 .left) (c .before .before .before .before .before .before .before .if2 .left) (c .before .before .before .before .before .if3 .left) (div-zero _ _ (pow-pos (c .before .before .before .before .before .before .before .before .before .before .before .args .p .column % 8)) (c .before .before .if4 .left)) (c .enum-told2 .given .1)
 
 returns-7 : tie.Need-returns-7
-returns-7 c = able-ordered (c .before .before .before .before .before .before .before .if1 .left) (c .before .before .before .before .before .before .if2 .left) (c .before .before .before .before .before .if3 .left) (div-zero _ _ (pow-pos (c .before .before .before .before .before .before .before .before .args .column % 8)) (c .before .before .before .before .if4 .left)) _ _ (c .before .before .rule .given .1) (c .known .ensures)
+returns-7 c = able-ordered (c .before .before .before .before .before .before .before .before .before .before .before .if1 .left) (c .before .before .before .before .before .before .before .before .before .if2 .left) (c .before .before .before .before .before .before .before .if3 .left) (div-zero _ _ (pow-pos (c .before .before .before .before .before .before .before .before .before .before .before .before .before .args .p .column % 8)) (c .before .before .before .before .if4 .left)) _ _ (c .before .before .rule .given .1) (c .known .ensures)
 
 pub able-spec : {M : Type 1} → statement M
 able-spec =
