@@ -15,7 +15,7 @@ use Rattle.quantize.specs.Rule.{Rule}
 use Rattle.quantize.specs.Steps.{Dots, ruleOf, Wholes, Shares, Dotted, Advances}
 use Rattle.quantize.specs.Row.{Bytes}
 use Rattle.quantize.proofs.Advancing.{advances-byte}
-use Rattle.quantize.proofs.Eights.{piece}
+use Rattle.quantize.proofs.Pieces.{piece}
 use Rattle.quantize.proofs.Running.{Loop, advancing, loop-byte}
 
 module _ (q : Quantizer) (samples out₀ : List ℕ) (work₀ : List ℤ) (high : q .height < 2 ^ 64) where
@@ -25,7 +25,7 @@ module _ (q : Quantizer) (samples out₀ : List ℕ) (work₀ : List ℤ) (high 
   -- one byte, from a byte's start on and not to the row's end
   module _ (out : List ℕ) (work : List ℤ) (frames row column begun corner taken written : ℕ) (L : Loop q samples out₀ work₀ out work frames row column begun corner taken written) (left : 0 < frames)
       (aligned : column % 8 ≡ 0) (there : taken + 8 ≤ length samples) (room : written < length out) (inRow : column + 8 < q .width) (byte corner′ : ℕ) (work′ : List ℤ)
-      (dots : Dots rule (q .width) row column (piece samples taken there) 0 corner work byte corner′ work′) where
+      (dots : Dots rule (q .width) row column (piece samples taken 8) 0 corner work byte corner′ work′) where
     none : begun ≡ 0
     none = let b : begun < 2 ^ 0 = subst (λ (k : ℕ). begun < 2 ^ k) aligned (L .sound .begunSmall) in omega arith
 
@@ -48,7 +48,7 @@ module _ (q : Quantizer) (samples out₀ : List ℕ) (work₀ : List ℤ) (high 
     some : _≡_ {A = ℕ} 8 0 → ⊥
     some e = omega arith
 
-    dotted : Dotted (q .rule) (q .table) (q .width) row column (piece samples taken there) begun corner work part work′
+    dotted : Dotted (q .rule) (q .table) (q .width) row column (piece samples taken 8) begun corner work part work′
     dotted = rw none dots
 
     advances : Advances (q .width) (q .height) frames row column 8 byte next

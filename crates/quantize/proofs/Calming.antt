@@ -1,6 +1,6 @@
 -- Black and white samples to which nothing is handed: dithering's bytes are those of the threshold 128, and it keeps what it found.
 -- Assumes nothing.
-use Prim.Native.Nat.{ℕ, zero, suc, _+_, _-_, _*_, _/_, _%_, _≤_, _<_}
+use Prim.Native.Nat.{ℕ, zero, suc, _+_, _*_, _/_, _%_, _≤_, _<_}
 use mathlib.Core.Path.{_≡_, refl, sym, ap, _∙_, subst}
 use mathlib.Core.List.{List}
 use mathlib.Core.Logic.{⊎-elim}
@@ -9,15 +9,15 @@ use native.Mathlib.Numerals.{add-one}
 use native.Mathlib.Omega.{arith}
 use borrow.Author.Tests.{le-leb, lt-leb}
 use lib.Dec.{leb}
-use lib.IntN.{ℤ, pos, subℕ}
+use lib.IntN.{ℤ, subℕ}
 use lib.ListN.{length, getD}
 use Rattle.quantize.specs.Bits.{bit, digits, appended}
 use Rattle.quantize.specs.Rule.{dither}
-use Rattle.quantize.specs.Machine.{clamp, leftOf, cornerOf, overOf}
+use Rattle.quantize.specs.Machine.{leftOf, cornerOf, overOf}
 use Rattle.quantize.specs.Steps.{Biased, Dots, thresholdFrom, stored}
-use Rattle.quantize.specs.Row.{Near, Calm, Clear, Bytes}
+use Rattle.quantize.specs.Row.{Near, Calm, Bytes}
 use Rattle.quantize.proofs.Differences.{lt-or-le}
-use Rattle.quantize.proofs.Eights.{piece, long, sample}
+use Rattle.quantize.proofs.Pieces.{piece, piece-length, piece-at}
 use Rattle.quantize.proofs.Reading.{left-at, over-in}
 use Rattle.quantize.proofs.Rowing.{Inv, biased-zero, corner-on, inv-start, inv-calm, inv-end}
 
@@ -30,23 +30,23 @@ module _ (w y x corner : ℕ) (samples : List ℕ) (from : ℕ) (work : List ℤ
     (octets : (i : ℕ) → getD samples i 0 < 256) (plain : (i : ℕ) → i < 8 → getD samples (from + i) 0 % 255 ≡ 0)
     (near : Near w y x corner work 128 128 128) (over : (i : ℕ) → i ≤ 8 → Biased (overOf w y work (x + i)) 128) where
   abbrev eight : List ℕ
-  eight = piece samples from there
+  eight = piece samples from 8
 
   turns : (i : ℕ) → i ≤ 8 → Inv w y x eight 0 corner work work 128 (appended 0 (thresholdFrom 128 samples from) i) 128 128 i
   unfolding appended
   turns zero h = inv-start w y x eight 0 corner work 128 128 128 (near .leftIs) (near .cornerIs) (near .aboveIs)
   turns (suc i) h =
-      let e = sample samples from there i (omega arith) in
+      let e = piece-at samples from 8 i (omega arith) in
       let g : getD eight i 0 < 256 = subst (λ (n : ℕ). n < 256) e (octets (from + i)) in
       let p : getD eight i 0 % 255 ≡ 0 = subst (λ (n : ℕ). n % 255 ≡ 0) e (plain i (omega arith)) in
       let d : getD eight i 0 / 128 ≡ thresholdFrom 128 samples from i = half (getD eight i 0) g ∙ ap (λ (n : ℕ). bit (leb 128 n)) (sym e) in
       let o : Biased (overOf w y work (x + i + 1)) 128 = subst (λ (n : ℕ). Biased (overOf w y work n) 128) (omega arith) (over (suc i) h) in
       rw (← add-one i, ← d)
-      (inv-calm w y x eight 0 corner work work (appended 0 (thresholdFrom 128 samples from) i) i (turns i (omega arith)) o below (omega arith) room (omega (arith, long samples from there)) g p)
+      (inv-calm w y x eight 0 corner work work (appended 0 (thresholdFrom 128 samples from) i) i (turns i (omega arith)) o below (omega arith) room (omega (arith, piece-length samples from 8 there)) g p)
 
   pub calm-byte : Dots dither w y x eight 0 corner work (digits (thresholdFrom 128 samples from) 8) 128 work
   calm-byte =
-      let n = long samples from there in
+      let n = piece-length samples from 8 there in
       inv-end w y x eight 0 corner work work 128 (appended 0 (thresholdFrom 128 samples from) 8) 128 128 8 (turns 8 (omega arith)) (omega arith) (omega arith)
 
 -- so many bytes

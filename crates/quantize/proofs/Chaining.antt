@@ -12,10 +12,10 @@ use Rattle.quantize.specs.declared.row.Eight.{Eight}
 use Rattle.quantize.specs.Bits.{bit}
 use Rattle.quantize.specs.Rule.{Rule, dither}
 use Rattle.quantize.specs.Machine.{Carry, cornerOf, valueOf, diffused, machineDot, next}
-use Rattle.quantize.specs.Steps.{Biased, rowCarry, rowBit, carryOf, Dots}
+use Rattle.quantize.specs.Steps.{rowCarry, rowBit, carryOf, Dots}
 use Rattle.quantize.specs.Row.{Near, Diffused, Bytes}
 use Rattle.quantize.proofs.Appending.{appended-ext}
-use Rattle.quantize.proofs.Eights.{piece, long}
+use Rattle.quantize.proofs.Pieces.{piece, piece-length}
 use Rattle.quantize.proofs.Rowing.{dots-small}
 use Rattle.quantize.proofs.Tracing.{row-long}
 
@@ -73,13 +73,13 @@ module _ (w y x : ℕ) (samples : List ℕ) (at : ℕ) (out₀ : List ℕ) (to c
       record { bound = omega arith; outLong = refl; workLong = refl; last = corner; bytes = (refl, (refl, refl)); near = rw add-zero n; lastIs = λ h. let z : ⊥ = omega arith in absurd z }
 
   module _ (out : List ℕ) (work : List ℤ) (left aboveLeft above k : ℕ) (C : Chain out work left aboveLeft above k) (more : k < count) (there : at + 8 * k + 8 ≤ length samples)
-      (r : Eight) (work′ : List ℤ) (d : Diffused w y (x + 8 * k) (piece samples (at + 8 * k) there) aboveLeft work r work′) where
-    eight : length (piece samples (at + 8 * k) there) ≡ 8
-    eight = long samples (at + 8 * k) there
+      (r : Eight) (work′ : List ℤ) (d : Diffused w y (x + 8 * k) (piece samples (at + 8 * k) 8) aboveLeft work r work′) where
+    eight : length (piece samples (at + 8 * k) 8) ≡ 8
+    eight = piece-length samples (at + 8 * k) 8 there
 
     pub byte-small : r .digits < 256
     byte-small =
-        dots-small dither w y (x + 8 * k) (piece samples (at + 8 * k) there) 0 aboveLeft work (r .digits) (r .corner) work′ 0 8 (d .dots) (omega arith) eight
+        dots-small dither w y (x + 8 * k) (piece samples (at + 8 * k) 8) 0 aboveLeft work (r .digits) (r .corner) work′ 0 8 (d .dots) (omega arith) eight
 
     same : cornerOf (subℕ aboveLeft 128) (x + 8 * k) ≡ cornerOf (subℕ (C .last) 128) (x + 8 * k)
     same = near-own w y (x + 8 * k) (C .last) work left aboveLeft above (C .near) .cornerIs .is ∙ sym (C .near .cornerIs .is)
@@ -87,7 +87,7 @@ module _ (w y x : ℕ) (samples : List ℕ) (at : ℕ) (out₀ : List ℕ) (to c
     work-long : length work′ ≡ length work
     work-long =
         sym (ap (λ (c : Carry). length (c .kept)) (d .dots .carry))
-        ∙ row-long dither w y (x + 8 * k) (piece samples (at + 8 * k) there) (carryOf aboveLeft work) (length (piece samples (at + 8 * k) there))
+        ∙ row-long dither w y (x + 8 * k) (piece samples (at + 8 * k) 8) (carryOf aboveLeft work) (length (piece samples (at + 8 * k) 8))
 
     pub chain-more : Chain (set out (to + k) (r .digits)) work′ (r .left) (r .corner) (r .above) (k + 1)
     unfolding Bytes
@@ -105,7 +105,7 @@ module _ (w y x : ℕ) (samples : List ℕ) (at : ℕ) (out₀ : List ℕ) (to c
                 work = work;
                 byte = r .digits;
                 before = C .bytes;
-                dots = dots-corner w y (x + 8 * k) (piece samples (at + 8 * k) there) work aboveLeft (C .last) same 0 (r .digits) (r .corner) work′ (omega (arith, eight)) (d .dots);
+                dots = dots-corner w y (x + 8 * k) (piece samples (at + 8 * k) 8) work aboveLeft (C .last) same 0 (r .digits) (r .corner) work′ (omega (arith, eight)) (d .dots);
                 stored = refl;
               });
           near = subst (λ (n : ℕ). Near w y n (r .corner) work′ (r .left) (r .corner) (r .above)) e (subst (λ (n : ℕ). Near w y (x + 8 * k + n) (r .corner) work′ (r .left) (r .corner) (r .above)) eight (d .near));

@@ -1,8 +1,8 @@
 -- Eight samples compared with a bound at once: the dot of each is the highest bit of its byte.
 -- Assumes nothing.
-use Prim.Native.Nat.{ℕ, zero, suc, _+_, _-_, _*_, _/_, _%_, _^_, _≤_, _<_}
+use Prim.Native.Nat.{ℕ, zero, suc, _+_, _-_, _*_, _/_, _%_, _≤_, _<_}
 use mathlib.Core.Path.{_≡_, refl, sym, ap, ap₂, _∙_}
-use mathlib.Core.Logic.{_⊎_, ⊎-elim}
+use mathlib.Core.Logic.{⊎-elim}
 use native.Mathlib.Nat.{mul-div-cancel, lt-of-le-of-lt}
 use native.Mathlib.Omega.{arith}
 use lib.Bits.{bitAnd, bitOr, and-shr, or-shr, and-high, and-le-l, or-lt, or-block, or-comm, or-zero-r, or-add-and}

@@ -14,7 +14,8 @@ use Rattle.quantize.specs.Steps.{thresholdFrom, stored, ruleOf, AtOnce}
 use Rattle.quantize.specs.Row.{Bytes, Fills}
 use Rattle.quantize.proofs.Chaining.{bytes-none}
 use Rattle.quantize.proofs.Dotting.{dots-threshold}
-use Rattle.quantize.proofs.Eights.{piece, byte-is}
+use Rattle.quantize.proofs.Pieces.{piece}
+use Rattle.quantize.proofs.Stored.{byte-piece}
 
 module _ (rule : Quantize) (w y x : ℕ) (samples : List ℕ) (at : ℕ) (out : List ℕ) (to corner : ℕ) (work : List ℤ) where
   threshold-bytes : (t k : ℕ) → corner ≤ 256 → at + 8 * k ≤ length samples → Bytes (threshold t) w y x samples at out to corner work k (stored t samples at out to k) corner work
@@ -29,7 +30,7 @@ module _ (rule : Quantize) (w y x : ℕ) (samples : List ℕ) (at : ℕ) (out : 
         work = work;
         byte = byte;
         before = threshold-bytes t k h (omega arith);
-        dots = dots-threshold (Threshold t) out w y (x + 8 * k) (piece samples (at + 8 * k) m) 0 corner work t byte refl h (byte-is samples (at + 8 * k) m t);
+        dots = dots-threshold (Threshold t) out w y (x + 8 * k) (piece samples (at + 8 * k) 8) 0 corner work t byte refl h (byte-piece t samples (at + 8 * k) m);
         stored = refl;
       }
 

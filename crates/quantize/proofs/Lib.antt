@@ -3,10 +3,10 @@ pub mod Differences
 pub mod Signed
 pub mod Range
 pub mod Appending
+pub mod Pieces
 pub mod Reading
 pub mod Rowing
 pub mod Further
-pub mod Eights
 pub mod Calming
 pub mod Cells
 pub mod Places

@@ -9,7 +9,7 @@ use native.Mathlib.Nat.{add-zero, add-assoc, lt-of-lt-of-le}
 use native.Mathlib.Omega.{arith}
 use lib.IntN.{ℤ}
 use lib.Pow.{pow-mono}
-use lib.ListN.{length, take, drop, set, length-set, length-take, length-drop}
+use lib.ListN.{length, drop, set, length-set}
 use lib.Seq.{drop-set-lt, drop-drop}
 use Rattle.options.specs.declared.Quantize.the-variants.{Dither}
 use Rattle.quantize.specs.declared.engine.Quantizer.{Quantizer}
@@ -25,6 +25,7 @@ use Rattle.quantize.specs.Engine.{Stands}
 use Rattle.quantize.proofs.Differences.{lt-or-le}
 use Rattle.quantize.proofs.Rowing.{dots-small}
 use Rattle.quantize.proofs.Grown.{grown-set}
+use Rattle.quantize.proofs.Pieces.{piece, piece-length}
 use Rattle.quantize.proofs.Packing.{begun-more}
 use Rattle.quantize.proofs.Tracing.{row-beyond, row-long, row-spared, carried-row, machine-row}
 
@@ -81,21 +82,18 @@ module _ (q : Quantizer) (samples out₀ : List ℕ) (work₀ : List ℤ) where
 
   module _ (out : List ℕ) (work : List ℤ) (frames row column begun corner taken written : ℕ) (L : Loop out work frames row column begun corner taken written) (left : 0 < frames)
       (m : ℕ) (sh : Shares (q .width) column (length samples - taken) (length out - written) m) (some : m ≡ 0 → ⊥) where
-    abbrev piece : List ℕ
-    piece = take (taken + m - taken) (drop taken samples)
-
     pub end-fits : taken + m ≤ length samples
     end-fits = let a = sh .there in let b = L .takenFits in omega arith
 
-    pub piece-long : length piece ≡ m
-    piece-long = length-take (taken + m - taken) (drop taken samples) ∙ (let a = length-drop taken samples in let b = end-fits in omega arith)
+    pub piece-long : length (piece samples taken m) ≡ m
+    piece-long = piece-length samples taken m end-fits
 
     begun-small : begun < 256
     begun-small =
         let b = L .sound .begunSmall in
         lt-of-lt-of-le b (pow-mono {i = column % 8} {j = 8} (omega arith))
 
-    pub dotting : q .width < 2 ^ 64 → Dotting (q .rule) (q .width) column (length piece) begun corner (length work)
+    pub dotting : q .width < 2 ^ 64 → Dotting (q .rule) (q .width) column (length (piece samples taken m)) begun corner (length work)
     dotting h =
         let e = piece-long in
         record {
@@ -107,25 +105,25 @@ module _ (q : Quantizer) (samples out₀ : List ℕ) (work₀ : List ℤ) where
           served = L .sound .served;
         }
 
-    module _ (r : Part) (work′ : List ℤ) (dt : Dotted (q .rule) (q .table) (q .width) row column piece begun corner work r work′) where
+    module _ (r : Part) (work′ : List ℤ) (dt : Dotted (q .rule) (q .table) (q .width) row column (piece samples taken m) begun corner work r work′) where
       abbrev rule : Rule
       rule = ruleOf (q .rule) (q .table)
 
-      kept-is : rowCarry rule (q .width) row column piece (carryOf corner work) (length piece) .kept ≡ work′
+      kept-is : rowCarry rule (q .width) row column (piece samples taken m) (carryOf corner work) (length (piece samples taken m)) .kept ≡ work′
       kept-is = ap (λ (c : Carry). c .kept) (dt .carry)
 
       pub advancing : q .height < 2 ^ 64 → Advancing (q .width) (q .height) frames row column m (r .digits)
       advancing h =
-          record { some = omega (arith, some); left = left; inRow = sh .inRow; inByte = sh .inByte; inFrame = L .sound .inFrame; high = h; digitsSmall = dots-small rule (q .width) row column piece begun corner work (r .digits) (r .corner) work′ (column % 8) m dt (L .sound .begunSmall) piece-long }
+          record { some = omega (arith, some); left = left; inRow = sh .inRow; inByte = sh .inByte; inFrame = L .sound .inFrame; high = h; digitsSmall = dots-small rule (q .width) row column (piece samples taken m) begun corner work (r .digits) (r .corner) work′ (column % 8) m dt (L .sound .begunSmall) piece-long }
 
       long-is : length work′ ≡ length work
-      long-is = sym (ap length kept-is) ∙ row-long rule (q .width) row column piece (carryOf corner work) (length piece)
+      long-is = sym (ap length kept-is) ∙ row-long rule (q .width) row column (piece samples taken m) (carryOf corner work) (length (piece samples taken m))
 
       beyond-is : drop (2 * q .width) work′ ≡ drop (2 * q .width) work
-      beyond-is = sym (ap (drop (2 * q .width)) kept-is) ∙ row-beyond rule (q .width) row column piece (carryOf corner work) (2 * q .width) (length piece) (omega (arith, piece-long, sh .inRow))
+      beyond-is = sym (ap (drop (2 * q .width)) kept-is) ∙ row-beyond rule (q .width) row column (piece samples taken m) (carryOf corner work) (2 * q .width) (length (piece samples taken m)) (omega (arith, piece-long, sh .inRow))
 
       spared-is : (q .rule ≡ Dither → ⊥) → work′ ≡ work
-      spared-is h = sym kept-is ∙ row-spared (q .rule) (q .table) h (q .width) row column piece (carryOf corner work) (length piece)
+      spared-is h = sym kept-is ∙ row-spared (q .rule) (q .table) h (q .width) row column (piece samples taken m) (carryOf corner work) (length (piece samples taken m))
 
       module _ (nx : Next) (ad : Advances (q .width) (q .height) frames row column m (r .digits) nx) where
         sound-is : Sound (q .rule) (q .width) (q .height) (nx .row) (nx .column) (nx .begun) (r .corner) (length work′)
@@ -161,7 +159,7 @@ module _ (q : Quantizer) (samples out₀ : List ℕ) (work₀ : List ℤ) where
           carry-is : carried s n c₀ samples (taken + m) ≡ carryOf (r .corner) work′
           carry-is =
               carried-row s n c₀ samples taken frames row column (P .at) left m in-row m (omega arith)
-              ∙ (let e : rowCarry rule (q .width) row column piece (carryOf corner work) m ≡ carryOf (r .corner) work′ = subst (λ (k : ℕ). rowCarry rule (q .width) row column piece (carryOf corner work) k ≡ carryOf (r .corner) work′) piece-long (dt .carry) in
+              ∙ (let e : rowCarry rule (q .width) row column (piece samples taken m) (carryOf corner work) m ≡ carryOf (r .corner) work′ = subst (λ (k : ℕ). rowCarry rule (q .width) row column (piece samples taken m) (carryOf corner work) k ≡ carryOf (r .corner) work′) piece-long (dt .carry) in
               rw (P .carry, t .rule, t .width) e)
 
           placed-is : (written′ : ℕ) → written + bit (nx .whole) ≡ written′ → Placed s n work′ (nx .frames) (nx .row) (nx .column) (r .corner) (taken + m) written′
@@ -176,7 +174,7 @@ module _ (q : Quantizer) (samples out₀ : List ℕ) (work₀ : List ℤ) where
             K : Packed s n d out begun taken written
             K = L .packed s n d t (record { begunIs = f .begunIs; dots = λ i h. f .dots i (omega arith) })
 
-            dots-are : (i : ℕ) → i < m → d (n + taken + i) ≡ rowBit rule (q .width) row column piece (carryOf corner work) i
+            dots-are : (i : ℕ) → i < m → d (n + taken + i) ≡ rowBit rule (q .width) row column (piece samples taken m) (carryOf corner work) i
             dots-are i h =
                 rw add-assoc (f .dots (taken + i) (omega arith))
                 ∙ machine-row s n c₀ samples taken frames row column (P .at) left m in-row i h
@@ -185,7 +183,7 @@ module _ (q : Quantizer) (samples out₀ : List ℕ) (work₀ : List ℤ) where
             digits-are : r .digits ≡ begunBy (s .width) d (n + taken) ((n + taken) % s .width % 8 + m)
             digits-are =
                 dt .digits ∙ rw piece-long
-                (begun-more s (n + taken) frames row column (P .at) d begun m (rowBit rule (q .width) row column piece (carryOf corner work)) in-row (K .begunIs) dots-are)
+                (begun-more s (n + taken) frames row column (P .at) d begun m (rowBit rule (q .width) row column (piece samples taken m) (carryOf corner work)) in-row (K .begunIs) dots-are)
 
             begun-is : Begun (s .width) d (n + (taken + m)) (nx .begun)
             begun-is = rw (← add-assoc) (ad .begunIs s (n + taken) d (t .width) (t .height) (P .at) digits-are)

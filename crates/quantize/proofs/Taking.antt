@@ -1,19 +1,20 @@
 -- A turn of `run`'s loop: the samples of one byte are taken.
 -- Assumes nothing.
-use Prim.Native.Nat.{ℕ, _+_, _-_, _^_, _≤_, _<_}
-use mathlib.Core.Path.{_≡_, sym, subst}
+use Prim.Native.Nat.{ℕ, _+_, _-_, _^_, _<_}
+use mathlib.Core.Path.{_≡_, subst}
 use mathlib.Core.Bool.{true, false}
 use mathlib.Core.List.{List}
 use mathlib.Core.Logic.{_⊎_, ⊎-elim}
 use native.Mathlib.Omega.{arith}
 use lib.IntN.{ℤ}
-use lib.ListN.{length, take, drop, set}
+use lib.ListN.{length, set}
 use Rattle.quantize.specs.declared.engine.Quantizer.{Quantizer}
 use Rattle.quantize.specs.declared.turn.Next.{Next}
 use Rattle.quantize.specs.declared.turn.Part.{Part}
 use Rattle.quantize.specs.declared.turn.Place.{Place}
 use Rattle.quantize.specs.declared.turn.Taken.{Taken}
 use Rattle.quantize.specs.Steps.{Shares, Advances, Taking, Takes}
+use Rattle.quantize.proofs.Pieces.{piece}
 use Rattle.quantize.proofs.Running.{Loop, piece-long, dotting, room-left, loop-on, loop-byte}
 
 module _ (q : Quantizer) (samples out₀ : List ℕ) (work₀ : List ℤ) (out : List ℕ) (work : List ℤ) (frames row column begun corner taken written : ℕ)
@@ -21,13 +22,13 @@ module _ (q : Quantizer) (samples out₀ : List ℕ) (work₀ : List ℤ) (out :
   abbrev place : Place
   place = record { frames = frames; row = row; column = column; begun = begun; corner = corner }
 
-  abbrev piece : List ℕ
-  piece = take (taken + m - taken) (drop taken samples)
+  abbrev share : List ℕ
+  share = piece samples taken m
 
-  long : length piece ≡ m
+  long : length share ≡ m
   long = piece-long q samples out₀ work₀ out work frames row column begun corner taken written L left m sh some
 
-  pub taking : q .width < 2 ^ 64 → q .height < 2 ^ 64 → Taking (q .rule) (q .width) (q .height) place (length piece) (length work)
+  pub taking : q .width < 2 ^ 64 → q .height < 2 ^ 64 → Taking (q .rule) (q .width) (q .height) place (length share) (length work)
   taking h k =
       record {
         dotting = dotting q samples out₀ work₀ out work frames row column begun corner taken written L left m sh some h;
@@ -38,7 +39,7 @@ module _ (q : Quantizer) (samples out₀ : List ℕ) (work₀ : List ℤ) (out :
         begunSmall = L .sound .begunSmall;
       }
 
-  module _ (t : Taken) (work′ : List ℤ) (T : Takes (q .rule) (q .table) (q .width) (q .height) place piece work t work′) where
+  module _ (t : Taken) (work′ : List ℤ) (T : Takes (q .rule) (q .table) (q .width) (q .height) place share work t work′) where
     abbrev part : Part
     part = record { digits = T .digits; corner = t .place .corner }
 

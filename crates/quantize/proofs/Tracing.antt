@@ -1,12 +1,12 @@
 -- The running machine along a part of a row, and what it leaves alone.
 -- Assumes nothing.
-use Prim.Native.Nat.{ℕ, zero, suc, _+_, _-_, _*_, _/_, _%_, _≤_, _<_}
-use mathlib.Core.Path.{_≡_, refl, sym, ap, _∙_}
+use Prim.Native.Nat.{ℕ, zero, suc, _+_, _*_, _/_, _%_, _≤_, _<_}
+use mathlib.Core.Path.{_≡_, refl, ap, _∙_}
 use mathlib.Core.List.{List}
 use native.Mathlib.Nat.{add-zero, add-suc, add-assoc}
 use native.Mathlib.Omega.{arith}
 use lib.ListN.{length, getD, take, drop, length-set}
-use lib.Seq.{getD-take, getD-drop, drop-set-lt}
+use lib.Seq.{drop-set-lt}
 use Rattle.options.specs.declared.Quantize.{Quantize}
 use Rattle.options.specs.declared.Quantize.the-variants.{Threshold, Dither, Ordered}
 use Rattle.quantize.specs.Diffusion.{residual}
@@ -16,6 +16,7 @@ use Rattle.quantize.specs.Machine.{Carry, valueOf, diffused, next, carri
 use Rattle.quantize.specs.Place.{At}
 use Rattle.quantize.specs.Steps.{rowCarry, rowBit, ruleOf}
 use Rattle.quantize.proofs.Dotting.{threshold-carry, ordered-carry}
+use Rattle.quantize.proofs.Pieces.{piece, piece-at}
 use Rattle.quantize.proofs.Places.{column-is, frame-row-is, at-inside}
 
 -- ---- numbers that a row's part leaves alone
@@ -51,12 +52,6 @@ row-spared (Ordered side) table h w y x gray c i = ap (λ (d : Carry). d .kept) 
 -- ---- the machine from a place on, within a row
 
 module _ (s : Setting) (n : ℕ) (c : Carry) (xs : List ℕ) (t frames row column : ℕ) (a : At s (n + t) frames row column) (left : 0 < frames) (m : ℕ) (inRow : column + m ≤ s .width) where
-  abbrev piece : List ℕ
-  piece = take (t + m - t) (drop t xs)
-
-  sample : (i : ℕ) → i < m → getD xs (t + i) 0 ≡ getD piece i 0
-  sample i h = sym (getD-take (t + m - t) (drop t xs) i 0 (omega arith) ∙ getD-drop t xs i 0)
-
   column-at : (i : ℕ) → i < m → (n + (t + i)) % s .width ≡ column + i
   column-at i h =
       rw (← add-assoc) (column-is s (n + t + i) frames row (column + i) (at-inside s (n + t) frames row column a i left (omega arith)))
@@ -65,13 +60,13 @@ module _ (s : Setting) (n : ℕ) (c : Carry) (xs : List ℕ) (t frames row colum
   row-at i h =
       rw (← add-assoc) (frame-row-is s (n + t + i) frames row (column + i) (at-inside s (n + t) frames row column a i left (omega arith)))
 
-  pub carried-row : (i : ℕ) → i ≤ m → carried s n c xs (t + i) ≡ rowCarry (s .rule) (s .width) row column piece (carried s n c xs t) i
+  pub carried-row : (i : ℕ) → i ≤ m → carried s n c xs (t + i) ≡ rowCarry (s .rule) (s .width) row column (piece xs t m) (carried s n c xs t) i
   unfolding carried rowCarry
   carried-row zero h = ap (carried s n c xs) (add-zero t)
   carried-row (suc i) h =
       let e = carried-row i (omega arith) in
-      rw (add-suc, row-at i (omega arith), column-at i (omega arith), sample i (omega arith), e)
+      rw (add-suc, row-at i (omega arith), column-at i (omega arith), piece-at xs t m i (omega arith), e)
 
-  pub machine-row : (i : ℕ) → i < m → machineBit s n c xs (t + i) ≡ rowBit (s .rule) (s .width) row column piece (carried s n c xs t) i
+  pub machine-row : (i : ℕ) → i < m → machineBit s n c xs (t + i) ≡ rowBit (s .rule) (s .width) row column (piece xs t m) (carried s n c xs t) i
   unfolding machineBit rowBit
-  machine-row i h = rw (row-at i h, column-at i h, sample i h, carried-row i (omega arith))
+  machine-row i h = rw (row-at i h, column-at i h, piece-at xs t m i h, carried-row i (omega arith))

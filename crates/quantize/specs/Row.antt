@@ -59,7 +59,7 @@ unfoldable pub Bytes : Rule → ℕ → ℕ → ℕ → List ℕ → ℕ → Lis
 Bytes rule w y x samples at out to corner work zero out′ corner′ work′ = (out′ ≡ out) × ((corner′ ≡ corner) × (work′ ≡ work))
 Bytes rule w y x samples at out to corner work (suc k) out′ corner′ work′ = ByteMore rule w y (x + 8 * k) samples (at + 8 * k) (to + k) (Bytes rule w y x samples at out to corner work k) out′ corner′ work′
 
--- under each table
+-- the same for the rule that the code's values stand for, with any table
 abbrev pub Fills : Quantize → ℕ → ℕ → ℕ → List ℕ → ℕ → List ℕ → ℕ → ℕ → List ℤ → ℕ → List ℕ → ℕ → List ℤ → Type 0
 Fills rule w y x samples at out to corner work k out′ corner′ work′ = (table : List ℕ) → Bytes (ruleOf rule table) w y x samples at out to corner work k out′ corner′ work′
 

@@ -1,8 +1,8 @@
 // Floyd and Steinberg's dithering. A residual r is held as r + 128.
 ghost use mathlib.Core.Path.{_≡_};
 ghost use Prim.Native.Nat.{_+_, _≤_, _<_};
-ghost use lib.IntN.{pos, subℕ};
-ghost use lib.ListN.{length, getD};
+ghost use lib.IntN.{subℕ};
+ghost use lib.ListN.{length};
 ghost use Rattle.quantize.specs.Diffusion.{value};
 ghost use Rattle.quantize.specs.Machine.{clamp, leftOf, cornerOf, overOf};
 ghost use Rattle.quantize.specs.Steps.{Biased, Parted, Stepped, Reaches, Diffusing, Diffuses};

@@ -6,7 +6,6 @@ use crate::turn::share;
 use crate::turn::take;
 use options::Quantize;
 ghost use mathlib.Core.Path.{_≡_};
-ghost use lib.ListN.{length};
 ghost use Rattle.quantize.specs.Whole.{knownSide};
 ghost use Rattle.quantize.specs.Engine.{Opens, Runs, Tabled};
 ghost use Rattle.quantize.specs.Steps.{Able};

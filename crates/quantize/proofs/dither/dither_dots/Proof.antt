@@ -1,7 +1,7 @@
 -- `quantize::dither::dither_dots` meets its contract.
 -- Assumes nothing.
 use Prim.Native.Nat.{ℕ, _+_, _-_, _<_}
-use mathlib.Core.Path.{_≡_, refl, _∙_, sym, subst}
+use mathlib.Core.Path.{_≡_, _∙_, sym, subst}
 use native.Mathlib.Omega.{arith}
 use borrow.Author.Needs.{needs}
 use denote.Ref.{now}

@@ -1,17 +1,17 @@
 -- `quantize::row::dither_bytes` meets its contract.
 -- Assumes nothing.
 use Prim.Native.Nat.{ℕ, _+_, _-_, _*_, _≤_, _<_}
-use mathlib.Core.Path.{_≡_, refl, sym, subst}
+use mathlib.Core.Path.{sym, subst}
 use mathlib.Core.List.{List}
 use native.Mathlib.Omega.{arith}
 use borrow.Author.Needs.{needs}
 use denote.Ref.{now}
-use lib.ListN.{length, getD}
+use lib.ListN.{length}
 use Rattle.quantize.specs.Rule.{dither}
 use Rattle.quantize.specs.Row.{Near, Bytes}
 use Rattle.quantize.proofs.Calming.{calm-all}
 use Rattle.quantize.proofs.Chaining.{Chain, bytes-none, chain-start, chain-more, chain-end, byte-small, near-own}
-use Rattle.quantize.proofs.Eights.{long}
+use Rattle.quantize.proofs.Pieces.{piece-length}
 use Rattle.quantize.proofs.row.dither_bytes.Statement.{statement}
 use Rattle.quantize.proofs.row.dither_bytes.Tie as tie
 
@@ -127,7 +127,7 @@ dither-byte-requires c κs =
     let s = start l in
     let a = s .args in
     let i = l .loop .inv in
-    let n = long (now (a .samples)) (a .at + 8 * l .loop .k) (there l (c .before .before .loop-test .taken)) in (
+    let n = piece-length (now (a .samples)) (a .at + 8 * l .loop .k) 8 (there l (c .before .before .loop-test .taken)) in (
       record { some = omega arith; packs = (omega arith, omega arith); within = omega (arith, s .pre .0 .inRow); room = omega (arith, s .pre .1, i .workLong); small = i .near .cornerIs .small },
       omega (arith, s .pre .0 .inRow),
       near-own (a .width) (a .y) (a .column + 8 * l .loop .k) (i .last) (l .loop .work) _ _ _ (i .near),

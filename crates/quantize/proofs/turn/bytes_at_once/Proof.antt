@@ -1,7 +1,6 @@
 use Prim.Native.Nat.{ℕ, _<_}
-use mathlib.Core.Path.{_≡_, sym, subst}
+use mathlib.Core.Path.{sym, subst}
 use native.Mathlib.Omega.{arith}
-use Rattle.options.specs.declared.Quantize.{Quantize}
 use Rattle.quantize.specs.Steps.{AtOnce, Wholes}
 use borrow.Author.Needs.{needs}
 use Rattle.quantize.proofs.turn.bytes_at_once.Statement.{statement}
