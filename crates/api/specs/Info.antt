@@ -1,11 +1,11 @@
 -- What is told of a file without reading its dots (document 01, api.rs): "`info` tests no limit and says 1 frame when the body is short."
 use Prim.Native.Nat.{ℕ}
-use mathlib.Core.Bool.{false}
 use mathlib.Core.List.{List}
 use lib.ListN.{length}
 use Rattle.error.specs.Answer.{Answer, gives, map, refusal}
 use Rattle.ext.specs.Kinds.{Span}
 use Rattle.header.specs.Read.{Outline, extSpan}
+use Rattle.options.specs.Limits.{lenient}
 use Rattle.decoder.specs.Body.{framesIn}
 use Rattle.decoder.specs.Image.{headerOf}
 use Rattle.api.specs.declared.ImageInfo.{ImageInfo}
@@ -27,7 +27,7 @@ infoOf size h =
 
 -- the header is read leniently
 unfoldable pub readInfo : List ℕ → Answer Info
-readInfo bytes = map (infoOf (length bytes)) (headerOf false bytes)
+readInfo bytes = map (infoOf (length bytes)) (headerOf lenient bytes)
 
 -- what the code's values mean
 abbrev pub told : ImageInfo → Info

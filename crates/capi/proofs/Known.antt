@@ -1,14 +1,12 @@
 -- The settings that numbers ask for.
 use Prim.Native.Nat.{ℕ, zero, suc, _<_, _≤_}
 use mathlib.Core.Path.{_≡_, refl, sym, ap, _∙_}
-use mathlib.Core.Bool.{Bool}
 use native.Mathlib.Omega.{arith}
 use borrow.Author.Tests.{ne-eqb}
-use lib.Dec.{eqb}
 use Rattle.error.specs.Answer.{Answer, gives, refuses, bind}
 use Rattle.image.specs.declared.PixelFormat.{PixelFormat}
 use Rattle.image.specs.declared.PixelFormat.the-variants.{MonoWhite}
-use Rattle.options.specs.Limits.{Bound, Decoding}
+use Rattle.options.specs.Limits.{Bound, Mode, strict, Decoding}
 use Rattle.capi.specs.Asked.{formatOf, strictOf, limitOf, settingsOf}
 
 pub white : (n : ℕ) → n ≤ 1 → (n ≡ 0 → ⊥) → formatOf n ≡ gives MonoWhite
@@ -16,10 +14,10 @@ white zero h k = absurd (k refl)
 white (suc zero) h k = refl
 white (suc (suc n)) h k = let f : ⊥ = omega arith in absurd f
 
-strict-known : (n : ℕ) → n ≤ 1 → strictOf n ≡ gives (eqb n 1)
-strict-known zero h = refl
-strict-known (suc zero) h = refl
-strict-known (suc (suc n)) h = let f : ⊥ = omega arith in absurd f
+pub strict-known : (n : ℕ) → n ≤ 1 → (n ≡ 0 → ⊥) → strictOf n ≡ gives strict
+strict-known zero h k = absurd (k refl)
+strict-known (suc zero) h k = refl
+strict-known (suc (suc n)) h k = let f : ⊥ = omega arith in absurd f
 
 module _ (f s w h p b : ℕ) where
   pub format-unknown : 1 < f → refuses 29 0 ≡ settingsOf f s w h p b
@@ -35,8 +33,8 @@ module _ (f s w h p b : ℕ) where
       go (suc zero) k = refl
       go (suc (suc n)) k = let f : ⊥ = omega arith in absurd f
 
-  pub known : (format : PixelFormat) (mw mh mp mb : Bound) → s ≤ 1 → formatOf f ≡ gives format
+  pub known : (format : PixelFormat) (mode : Mode) (mw mh mp mb : Bound) → formatOf f ≡ gives format → strictOf s ≡ gives mode
       → mw ≡ limitOf 32 w → mh ≡ limitOf 32 h → mp ≡ limitOf 64 p → mb ≡ limitOf 64 b
-      → gives (record { maxWidth = mw; maxHeight = mh; maxPixels = mp; maxBytes = mb; strict = eqb s 1; format = format }) ≡ settingsOf f s w h p b
+      → gives (record { maxWidth = mw; maxHeight = mh; maxPixels = mp; maxBytes = mb; mode = mode; format = format }) ≡ settingsOf f s w h p b
   unfolding settingsOf
-  known format mw mh mp mb k e ew eh ep eb = rw (e, strict-known s k, ew, eh, ep, eb)
+  known format mode mw mh mp mb e m ew eh ep eb = rw (e, m, ew, eh, ep, eb)

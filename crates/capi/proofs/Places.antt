@@ -9,10 +9,10 @@ use lib.ListN.{length}
 use Rattle.error.specs.Choice.{if}
 use Rattle.error.specs.Answer.{Answer, gives, refuses, bind, map}
 use Rattle.header.specs.Read.{Outline, outline, readHeader}
-use Rattle.options.specs.Limits.{Decoding, Bound, admits, checkLimits}
+use Rattle.options.specs.Limits.{lenient, Decoding, Bound, admits, settled, checkLimits}
 use Rattle.decoder.specs.Body.{planeOf, framesIn}
 use Rattle.decoder.specs.Image.{imageSettings, headerOf, testBody, readImage}
-use Rattle.decoder.specs.Frames.{Image, imageOf, fitted, decoded}
+use Rattle.decoder.specs.Frames.{Image, imageOf, fitted, decoded, decodedBy}
 use Rattle.api.specs.Info.{Info, infoOf, readInfo}
 use Rattle.capi.proofs.Near.{Told, told, Placed, header-placed}
 
@@ -49,21 +49,29 @@ body-numbered d size h p =
 
 image-numbered : (d : Decoding) (bytes : List ℕ) → Numbered (readImage d bytes)
 unfolding readImage
-image-numbered d bytes = go (headerOf (d .strict) bytes) (header-placed (imageSettings (d .strict)) bytes)
+image-numbered d bytes = go (headerOf (d .mode) bytes) (header-placed (imageSettings (d .mode)) bytes)
   where
     go : (x : Answer Outline) → Placed x → Numbered (bind x (testBody d (length bytes)))
     go (gives h) p = body-numbered d (length bytes) h p
     go (refuses code offset) p = p
 
-pub decoded-numbered : (ceiling : ℕ) (d : Decoding) (bytes : List ℕ) (room : ℕ) → Numbered (decoded ceiling d bytes room)
+decoded-numbered : (ceiling : ℕ) (d : Decoding) (bytes : List ℕ) (room : ℕ) → Numbered (decoded ceiling d bytes room)
 unfolding decoded
 decoded-numbered ceiling d bytes room =
     numbered-bind (readImage d bytes) _ (image-numbered d bytes)
     (λ h. pick (leb (framesIn ceiling (length bytes) h * planeOf h) room) _ _ tt (told (omega arith) (omega arith) (omega arith)))
 
+settled-numbered : (d : Decoding) → Numbered (settled d)
+unfolding settled
+settled-numbered d = tt
+
+pub read-numbered : (ceiling : ℕ) (d : Decoding) (bytes : List ℕ) (room : ℕ) → Numbered (decodedBy ceiling d bytes room)
+read-numbered ceiling d bytes room =
+    numbered-bind (settled d) _ (settled-numbered d) (λ s. decoded-numbered ceiling s bytes room)
+
 pub info-numbered : (bytes : List ℕ) → Numbered (readInfo bytes)
 unfolding readInfo
-info-numbered bytes = go (headerOf false bytes) (header-placed (imageSettings false) bytes)
+info-numbered bytes = go (headerOf lenient bytes) (header-placed (imageSettings lenient) bytes)
   where
     go : (x : Answer Outline) → Placed x → Numbered (map (infoOf (length bytes)) x)
     go (gives h) p = tt

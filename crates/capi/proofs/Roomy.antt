@@ -1,5 +1,5 @@
 -- An output as long as the file is long enough: reading then answers as the tests of the image do, without 25.
-use Prim.Native.Nat.{ℕ, _*_, _≤_}
+use Prim.Native.Nat.{ℕ, _+_, _*_, _≤_}
 use mathlib.Core.Path.{_≡_, refl, sym, ap, _∙_}
 use mathlib.Core.List.{List, [], _∷_}
 use native.Mathlib.Omega.{arith}
@@ -14,19 +14,19 @@ use Rattle.decoder.specs.Image.{readImage}
 use Rattle.decoder.specs.Frames.{Image, imageOf, fitted, decoded}
 use Rattle.decoder.proofs.Fitted.{plane-there, frames-there}
 
-pub roomy : (d : Decoding) (bytes : List ℕ) (room : ℕ) → length bytes ≤ room
-    → decoded 16 d bytes room ≡ map (λ h. imageOf h (framesIn 16 (length bytes) h)) (readImage d bytes)
+pub roomy : (more : ℕ) (d : Decoding) (bytes : List ℕ) (room : ℕ) → length bytes ≤ room
+    → decoded (1 + more) d bytes room ≡ map (λ h. imageOf h (framesIn (1 + more) (length bytes) h)) (readImage d bytes)
 unfolding decoded
-roomy d bytes room l = go (readImage d bytes) refl
+roomy more d bytes room l = go (readImage d bytes) refl
   where
     go : (x : Answer Outline) → readImage d bytes ≡ x
-        → bind x (λ h. fitted room h (framesIn 16 (length bytes) h)) ≡ map (λ h. imageOf h (framesIn 16 (length bytes) h)) x
+        → bind x (λ h. fitted room h (framesIn (1 + more) (length bytes) h)) ≡ map (λ h. imageOf h (framesIn (1 + more) (length bytes) h)) x
     go (gives h) e =
-        let t = frames-there 15 bytes h (framesIn 16 (length bytes) h) refl (plane-there d bytes h e) in
-        if-true _ _ _ (le-leb (framesIn 16 (length bytes) h * planeOf h) room (omega (arith, t)))
+        let t = frames-there more bytes h (framesIn (1 + more) (length bytes) h) refl (plane-there d bytes h e) in
+        if-true _ _ _ (le-leb (framesIn (1 + more) (length bytes) h * planeOf h) room (omega (arith, t)))
     go (refuses code offset) e = refl
 
 -- a card of one dot, and an output of its five bytes
 example : (d : Decoding) → decoded 16 d (0 ∷ 0 ∷ 1 ∷ 1 ∷ 128 ∷ []) 5
     ≡ map (λ h. imageOf h (framesIn 16 5 h)) (readImage d (0 ∷ 0 ∷ 1 ∷ 1 ∷ 128 ∷ []))
-example d = roomy d (0 ∷ 0 ∷ 1 ∷ 1 ∷ 128 ∷ []) 5 (omega arith)
+example d = roomy 15 d (0 ∷ 0 ∷ 1 ∷ 1 ∷ 128 ∷ []) 5 (omega arith)

@@ -6,7 +6,7 @@ use native.Mathlib.Omega.{arith}
 use lib.ListN.{length}
 use Rattle.error.specs.Answer.{Answer, gives, refuses, refusal}
 use Rattle.error.specs.declared.WbmpError.{WbmpError}
-use Rattle.options.specs.Limits.{Decoding}
+use Rattle.options.specs.Limits.{Decoding, ceilingOf}
 use Rattle.header.specs.Read.{extSpan}
 use Rattle.decoder.specs.Frames.{Image, Decodes, image}
 use Rattle.decoder.specs.declared.DecodedImage.{DecodedImage}
@@ -58,7 +58,7 @@ module _ (bytes : List ℕ) (w h n b x k s l p : ℕ) where
 
 module _ (settings : Answer Decoding) (bytes old : List ℕ) (w h n b : ℕ) where
   -- a reading that answers x, where the settings are known
-  asked-is : (d : Decoding) (new : List ℕ) (x : Answer Image) → gives d ≡ settings → Decodes 16 d bytes x old new
+  asked-is : (d : Decoding) (new : List ℕ) (x : Answer Image) → gives d ≡ settings → Decodes (ceilingOf d) d bytes x old new
       → (x ≡ readAsked settings bytes (length old)) × (new ≡ outputAsked settings bytes old)
   asked-is d new x e q =
       (q .answer ∙ ap (λ (a : Answer Decoding). readAsked a bytes (length old)) e, q .output-is ∙ ap (λ (a : Answer Decoding). outputAsked a bytes old) e)
@@ -75,7 +75,7 @@ module _ (settings : Answer Decoding) (bytes old : List ℕ) (w h n b : ℕ) whe
         written-is = lent _ _ (λ i. i .written) b e;
       }
 
-  pub reads : (d : Decoding) (new : List ℕ) (i : DecodedImage) → gives d ≡ settings → Decodes 16 d bytes (gives (image i)) old new
+  pub reads : (d : Decoding) (new : List ℕ) (i : DecodedImage) → gives d ≡ settings → Decodes (ceilingOf d) d bytes (gives (image i)) old new
       → Reads settings bytes 0 old new (w, i .width) (h, i .height) (n, i .frames) (b, i .bytes)
   reads d new i e q =
       let a = asked-is d new (gives (image i)) e q in
@@ -88,7 +88,7 @@ module _ (settings : Answer Decoding) (bytes old : List ℕ) (w h n b : ℕ) whe
         written-is = lent _ _ (λ i. i .written) b (a .0);
       }
 
-  pub refuses-read : (d : Decoding) (new : List ℕ) (err : WbmpError) (r : ℕ) → gives d ≡ settings → Decodes 16 d bytes (refusal err) old new
+  pub refuses-read : (d : Decoding) (new : List ℕ) (err : WbmpError) (r : ℕ) → gives d ≡ settings → Decodes (ceilingOf d) d bytes (refusal err) old new
       → r ≡ err .code + 256 * err .offset → Reads settings bytes r old new (w, w) (h, h) (n, n) (b, b)
   refuses-read d new err r e q = let a = asked-is d new (refusal err) e q in refuses-as err r new (a .0) (a .1)
 

@@ -5,11 +5,12 @@ use mathlib.Core.List.{List}
 use native.Mathlib.Omega.{arith}
 use lib.Dec.{eqb}
 use Rattle.error.specs.Answer.{Answer, gives, refuses}
+use Rattle.options.specs.Limits.{ceilingOf}
 use Rattle.api.specs.Info.{readInfo}
 use Rattle.capi.specs.Packed.{packed}
 use Rattle.capi.specs.Asked.{formatOf, strictOf, settingsOf, readAsked}
 use Rattle.capi.proofs.Near.{Told, told}
-use Rattle.capi.proofs.Places.{Numbered, numbered-bind, pick, decoded-numbered, info-numbered}
+use Rattle.capi.proofs.Places.{Numbered, numbered-bind, pick, read-numbered, info-numbered}
 
 pub record Unpacked (code offset r : ℕ) : Type 0 where
   pub refused : 0 < r
@@ -38,7 +39,7 @@ read-returned format strict width height pixels bytes s room =
     (numbered-bind (settingsOf format strict width height pixels bytes) _
     (numbered-bind (formatOf format) _ (pick (eqb format 0) _ _ tt (pick (eqb format 1) _ _ tt unknown))
     (λ f. numbered-bind (strictOf strict) _ (pick (eqb strict 0) _ _ tt (pick (eqb strict 1) _ _ tt unknown)) (λ b. tt)))
-    (λ d. decoded-numbered 16 d s room))
+    (λ d. read-numbered (ceilingOf d) d s room))
   where
     unknown : Told 29 0
     unknown = told (omega arith) (omega arith) (omega arith)

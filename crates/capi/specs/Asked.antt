@@ -1,6 +1,5 @@
 -- Reading as C asks for it (document 01, "C side").
 use Prim.Native.Nat.{ℕ, _-_, _^_}
-use mathlib.Core.Bool.{Bool, true, false}
 use mathlib.Core.List.{List}
 use lib.Dec.{eqb}
 use Rattle.error.specs.Choice.{if}
@@ -8,8 +7,8 @@ use Rattle.error.specs.Answer.{Answer, gives, refuses, bind}
 use Rattle.error.specs.Emits.{output}
 use Rattle.image.specs.declared.PixelFormat.{PixelFormat}
 use Rattle.image.specs.declared.PixelFormat.the-variants.{MonoBlack, MonoWhite}
-use Rattle.options.specs.Limits.{Bound, absent, atMost, Decoding, decoding}
-use Rattle.decoder.specs.Frames.{Image, decoded, shown}
+use Rattle.options.specs.Limits.{Bound, absent, atMost, Mode, lenient, strict, Decoding, ceilingOf, decoding}
+use Rattle.decoder.specs.Frames.{Image, decodedBy, shownBy}
 use Rattle.capi.specs.declared.asked.Settings.{Settings}
 use Rattle.capi.specs.declared.asked.Settings.the-variants.{Unknown}
 
@@ -17,8 +16,8 @@ use Rattle.capi.specs.declared.asked.Settings.the-variants.{Unknown}
 abbrev pub formatOf : ℕ → Answer PixelFormat
 formatOf n = if (eqb n 0) (gives MonoBlack) (if (eqb n 1) (gives MonoWhite) (refuses 29 0))
 
-abbrev pub strictOf : ℕ → Answer Bool
-strictOf n = if (eqb n 0) (gives false) (if (eqb n 1) (gives true) (refuses 29 0))
+abbrev pub strictOf : ℕ → Answer Mode
+strictOf n = if (eqb n 0) (gives lenient) (if (eqb n 1) (gives strict) (refuses 29 0))
 
 -- a limit of so many bits: the type's largest number says that it is absent
 abbrev pub limitOf : ℕ → ℕ → Bound
@@ -26,25 +25,25 @@ limitOf bits n = if (eqb n (2 ^ bits - 1)) absent (atMost n)
 
 -- the settings from format, strictness and the limits of width, height, pixels and plane bytes
 unfoldable pub settingsOf : ℕ → ℕ → ℕ → ℕ → ℕ → ℕ → Answer Decoding
-settingsOf format strict width height pixels bytes =
+settingsOf format strictness width height pixels bytes =
     bind (formatOf format)
-    (λ f. bind (strictOf strict)
-    (λ s. gives (record {
+    (λ f. bind (strictOf strictness)
+    (λ m. gives (record {
       maxWidth = limitOf 32 width;
       maxHeight = limitOf 32 height;
       maxPixels = limitOf 64 pixels;
       maxBytes = limitOf 64 bytes;
-      strict = s;
+      mode = m;
       format = f;
     })))
 
--- "29, before all reading": the settings, and then whole reading, up to 16 frames, into an output of so many bytes
+-- "29, before all reading": the settings, and then whole reading with them into an output of so many bytes
 abbrev pub readAsked : Answer Decoding → List ℕ → ℕ → Answer Image
-readAsked settings bytes room = bind settings (λ d. decoded 16 d bytes room)
+readAsked settings bytes room = bind settings (λ d. decodedBy (ceilingOf d) d bytes room)
 
 -- the lent output afterwards: the planes at its front and the rest as it was; nothing is altered by a refusal
 abbrev pub outputAsked : Answer Decoding → List ℕ → List ℕ → List ℕ
-outputAsked settings bytes old = output (bind settings (λ d. shown 16 d bytes)) old
+outputAsked settings bytes old = output (bind settings (λ d. shownBy (ceilingOf d) d bytes)) old
 
 -- what the code's values mean
 abbrev pub meaning : Settings → Answer Decoding

@@ -1,12 +1,13 @@
 // The settings that C asks for by numbers.
 use image::PixelFormat;
+use options::DecodeMode;
 use options::DecodeOptions;
 use options::Limit;
 ghost use mathlib.Core.Path.{_≡_};
 ghost use Prim.Native.Nat.{_≤_};
 ghost use Rattle.error.specs.Answer.{gives};
-ghost use Rattle.options.specs.Limits.{bound};
-ghost use Rattle.capi.specs.Asked.{formatOf, limitOf, settingsOf, meaning};
+ghost use Rattle.options.specs.Limits.{bound, modeOf};
+ghost use Rattle.capi.specs.Asked.{formatOf, strictOf, limitOf, settingsOf, meaning};
 
 pub(crate) enum Settings {
     Known(DecodeOptions),
@@ -41,6 +42,16 @@ fn pixel_format(format: u32) -> PixelFormat
     PixelFormat::MonoWhite
 }
 
+fn decode_mode(strict: u32) -> DecodeMode
+    requires { ⌜ strict ≤ 1 ⌝ }
+    ensures { λ r. ⌜ strictOf strict ≡ gives (modeOf r) ⌝ }
+{
+    if strict == 0 {
+        return DecodeMode::Lenient;
+    }
+    DecodeMode::Strict
+}
+
 pub(crate) fn asked(
     format: u32,
     strict: u32,
@@ -58,12 +69,13 @@ pub(crate) fn asked(
         return Settings::Unknown;
     }
     let pixels = pixel_format(format);
+    let mode = decode_mode(strict);
     Settings::Known(DecodeOptions {
         max_width: limit_u32(max_width),
         max_height: limit_u32(max_height),
         max_pixels: limit_u64(max_pixels),
         max_bytes: limit_u64(max_bytes),
-        strict: strict == 1,
+        mode,
         format: pixels,
     })
 }

@@ -22,6 +22,7 @@ use Rattle.header.specs.Write.{fixByte, sizeBytes, headerBytes, fieldsHeader, p
 use Rattle.header.specs.declared.ExtPresence.{ExtPresence}
 use Rattle.header.specs.declared.ExtPresence.the-variants.{Absent, Present}
 use Rattle.header.proofs.RoundTrip.{shown, Fitting, header-back}
+use Rattle.options.specs.Limits.{Mode, lenient, strict}
 use Rattle.options.specs.declared.EncodeOptions.{EncodeOptions}
 use Rattle.decoder.specs.Image.{imageSettings}
 use Rattle.decoder.proofs.Shaped.{bind-gives, unless, positive, neither}
@@ -98,15 +99,15 @@ single (Present ParameterPairs11) text lengths kind octet e = go (eqb (sum lengt
     go false e = zero-one (cc)
 
 -- a reading that takes lent fields reads them back
-pub fitting : (strict written : Bool) (presence : ExtPresence) (text lengths : List ℕ) (fields : Fields) → presented presence text lengths ≡ gives fields
-    → Taken strict fields → Fitting (imageSettings strict) written fields
-fitting true written presence text lengths fields e t = subst (Fitting (imageSettings true) written) (sym t) tt
-fitting false written presence text lengths none e t = tt
-fitting false written presence text lengths (bitfield octets) e t = (t, refl, refl, λ z. zero-one (cc))
-fitting false written presence text lengths (reserved kind octet) e t = (single presence text lengths kind octet e, refl, refl, λ z. zero-one (cc))
-fitting false written presence text lengths (pairs ps) e t = (t, refl, refl, λ z. zero-one (cc))
+pub fitting : (mode : Mode) (written : Bool) (presence : ExtPresence) (text lengths : List ℕ) (fields : Fields) → presented presence text lengths ≡ gives fields
+    → Taken mode written fields → Fitting (imageSettings mode) written fields
+fitting strict written presence text lengths fields e t = subst (Fitting (imageSettings strict) written) (sym t) tt
+fitting lenient written presence text lengths none e t = tt
+fitting lenient written presence text lengths (bitfield octets) e t = (t, refl, refl, λ z. zero-one (cc))
+fitting lenient written presence text lengths (reserved kind octet) e t = (single presence text lengths kind octet e, refl, refl, λ z. zero-one (cc))
+fitting lenient written presence text lengths (pairs ps) e t = (t, refl, refl, λ z. zero-one (cc))
 
 -- every reading takes no fields
-pub plain : (strict : Bool) → Taken strict none
-plain true = refl
-plain false = tt
+pub plain : (mode : Mode) (written : Bool) → Taken mode written none
+plain strict written = refl
+plain lenient written = tt

@@ -10,3 +10,10 @@ pub mod SniffsExact
 pub mod ScanDots
 pub mod Made
 pub mod MadeCards
+pub mod FieldsLeft
+pub mod CutShown
+pub mod CutRead
+pub mod Calling
+pub mod Taken
+pub mod Condition3
+pub mod ListCards

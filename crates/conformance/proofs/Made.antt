@@ -86,13 +86,13 @@ unfolding fileOfScans
 made-is ceiling o width height count gray text lengths work header p e = rw (p, e)
 
 -- Whole reading that takes the fields and admits the size shows the dots that the rule gives each scan.
-pub made-back : (ceiling : ℕ) (d : Decoding) (o : EncodeOptions) (width height count : ℕ) (gray text lengths : List ℕ) (work : ℕ) (bytes : List ℕ)
-    (fields : Fields) → width < 4294967296 → height < 4294967296
-    → presented (o .ext) text lengths ≡ gives fields → Taken (d .strict) fields → Admitted d width height
+pub made-back : (ceiling most : ℕ) (d : Decoding) (o : EncodeOptions) (width height count : ℕ) (gray text lengths : List ℕ) (work : ℕ) (bytes : List ℕ)
+    (fields : Fields) → width < 4294967296 → height < 4294967296 → 1 ≤ most
+    → presented (o .ext) text lengths ≡ gives fields → Taken (d .mode) (o .strict) fields → Admitted d width height
     → fileOfScans ceiling o width height count gray text lengths work ≡ gives bytes
-    → ReadsBack ceiling d bytes width height fields count (λ k. finished (setting (o .quantize) width height 1) (lentScan width height gray k))
+    → ReadsBack most d bytes width height fields count (λ k. finished (setting (o .quantize) width height 1) (lentScan width height gray k))
     (λ k. scanWhite (o .quantize) width height (lentScan width height gray k))
-made-back ceiling d o width height count gray text lengths work bytes fields wb hb e t a w =
+made-back ceiling most d o width height count gray text lengths work bytes fields wb hb r e t a w =
     let p = passed ceiling o width height count gray text lengths work bytes w in
     let rule = o .quantize in
     let body = scanBytes rule width height gray count in
@@ -102,20 +102,20 @@ made-back ceiling d o width height count gray text lengths work bytes fields wb 
     (λ k x y l.
     ap (λ (s : List ℕ). isWhite MonoBlack width height (rowBytes width) s x y) (planes k l)
     ∙ scan-dots rule width height (lentScan width height gray k) (made-size rule width height gray (f .wide) (f .high) count (p .tests .enough) k l) x y)
-    (file-back ceiling d (o .strict) width height fields count body bytes f (p .tests .sized) wb hb
-    (fitting (d .strict) (o .strict) (o .ext) text lengths fields e t) a
+    (file-back most d (o .strict) width height fields count body bytes f (p .tests .sized .some) r wb hb
+    (fitting (d .mode) (o .strict) (o .ext) text lengths fields e t) a
     (body-size rule width height gray (f .wide) (f .high) count (p .tests .enough) count (omega arith))
     (finished-octets (setting rule width height count) _))
 
 -- What has no fields is read back strictly too.
-pub made-plain : (ceiling : ℕ) (d : Decoding) (o : EncodeOptions) (width height count : ℕ) (gray text lengths : List ℕ) (work : ℕ) (bytes : List ℕ)
-    → width < 4294967296 → height < 4294967296 → o .ext ≡ Absent → Admitted d width height
+pub made-plain : (ceiling most : ℕ) (d : Decoding) (o : EncodeOptions) (width height count : ℕ) (gray text lengths : List ℕ) (work : ℕ) (bytes : List ℕ)
+    → width < 4294967296 → height < 4294967296 → 1 ≤ most → o .ext ≡ Absent → Admitted d width height
     → fileOfScans ceiling o width height count gray text lengths work ≡ gives bytes
-    → ReadsBack ceiling d bytes width height none count (λ k. finished (setting (o .quantize) width height 1) (lentScan width height gray k))
+    → ReadsBack most d bytes width height none count (λ k. finished (setting (o .quantize) width height 1) (lentScan width height gray k))
     (λ k. scanWhite (o .quantize) width height (lentScan width height gray k))
-made-plain ceiling d o width height count gray text lengths work bytes wb hb e a w =
-    made-back ceiling d o width height count gray text lengths work bytes none wb hb
-    (ap (λ (p : ExtPresence). presented p text lengths) e) (plain (d .strict)) a w
+made-plain ceiling most d o width height count gray text lengths work bytes wb hb r e a w =
+    made-back ceiling most d o width height count gray text lengths work bytes none wb hb r
+    (ap (λ (p : ExtPresence). presented p text lengths) e) (plain (d .mode) (o .strict)) a w
 
 pub made-exact : (o : EncodeOptions) (width height count : ℕ) (gray text lengths : List ℕ) (work : ℕ) (bytes : List ℕ)
     → o .ext ≡ Absent → width ≤ 16384 → height ≤ 16384 → fileOfScans 16 o width height count gray text lengths work ≡ gives bytes

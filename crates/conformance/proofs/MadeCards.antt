@@ -57,12 +57,17 @@ lenient : ReadsBack 16 defaults fielded 2 1 (bitfield (5 ∷ [])) 2 (λ k. finis
     (λ k. scanWhite Dither 2 1 (lentScan 2 1 scans k))
 unfolding lentFields
 lenient =
-    made-back 16 defaults (maker (Present Bitfield00)) 2 1 2 scans (5 ∷ []) [] 4 fielded (bitfield (5 ∷ [])) (omega arith) (omega arith) refl (omega arith)
+    made-back 16 16 defaults (maker (Present Bitfield00)) 2 1 2 scans (5 ∷ []) [] 4 fielded (bitfield (5 ∷ [])) (omega arith) (omega arith) (omega arith) refl (omega arith)
     (admitted false) fielded-made
 
 strict : ReadsBack 16 (withStrict true defaults) bare 2 1 none 2 (λ k. finished (setting Dither 2 1 1) (lentScan 2 1 scans k))
     (λ k. scanWhite Dither 2 1 (lentScan 2 1 scans k))
-strict = made-plain 16 (withStrict true defaults) (maker Absent) 2 1 2 scans [] [] 4 bare (omega arith) (omega arith) refl (admitted true) bare-made
+strict = made-plain 16 16 (withStrict true defaults) (maker Absent) 2 1 2 scans [] [] 4 bare (omega arith) (omega arith) (omega arith) refl (admitted true) bare-made
+
+-- the first frame alone
+first : ReadsBack 1 defaults bare 2 1 none 2 (λ k. finished (setting Dither 2 1 1) (lentScan 2 1 scans k))
+    (λ k. scanWhite Dither 2 1 (lentScan 2 1 scans k))
+first = made-plain 16 1 defaults (maker Absent) 2 1 2 scans [] [] 4 bare (omega arith) (omega arith) (omega arith) refl (admitted false) bare-made
 
 exact : sniffed bare ≡ Exact
 exact = made-exact (maker Absent) 2 1 2 scans [] [] 4 bare refl (omega arith) (omega arith) bare-made

@@ -1,11 +1,12 @@
 -- A file of a header and so many planes is read back.
-use Prim.Native.Nat.{ℕ, zero, suc, _+_, _-_, _*_, _/_, _≤_, _<_}
+use Prim.Native.Nat.{ℕ, zero, suc, _+_, _-_, _*_, _/_, _≤_, _<_, min}
 use mathlib.Core.Path.{_≡_, refl, sym, ap, _∙_, subst}
-use mathlib.Core.Bool.{Bool}
+use mathlib.Core.Bool.{Bool, true, false}
 use mathlib.Core.List.{List, _++_}
 use native.Mathlib.Nat.{mul-le-mul-right, mul-div-cancel, mul-le-mul}
 use native.Mathlib.Omega.{arith}
-use borrow.Author.Tests.{le-leb, le-ltb}
+use borrow.Author.Tests.{leb-true, leb-false, le-leb, le-ltb}
+use lib.Dec.{leb}
 use lib.ListN.{length, take, drop, length-drop}
 use lib.Seq.{drop-drop, length-take-le}
 use Rattle.error.specs.Answer.{Answer, gives, bind, map}
@@ -24,38 +25,44 @@ use Rattle.options.specs.Limits.{Decoding, checkLimits}
 use Rattle.decoder.specs.Body.{extraFrames, framesIn, sourcePlane, planeAt, planes}
 use Rattle.decoder.specs.Image.{imageSettings, testBody, readImage}
 use Rattle.decoder.specs.Frames.{imageOf, fitted, decoded, shown}
-use Rattle.decoder.proofs.Counted.{few}
+use Rattle.decoder.proofs.Counted.{few, many}
 use Rattle.decoder.proofs.Planed.{planes-length}
-use Rattle.encoder.proofs.Counted.{Counted}
 use Rattle.conformance.specs.ReadBack.{Admitted, planeIn, ReadsBack}
 use Rattle.conformance.proofs.Joined.{up-to, piece-back}
 use Rattle.conformance.proofs.Files.{Filed, head, header-read, behind, size-is}
 use Rattle.conformance.proofs.ReadDots.{read-dots}
 
--- so many planes are counted
-pub planes-counted : (ceiling w h count plane size : ℕ) → 0 < plane → Counted ceiling w h count → size ≡ count * plane
-    → 1 + extraFrames (ceiling - 1) plane size ≡ count
-planes-counted ceiling w h zero plane size p c e = let z : ⊥ = omega (arith, c .some) in absurd z
-planes-counted ceiling w h (suc n) plane size p c e =
-    let m : size - plane ≡ n * plane = omega arith in
-    let q : (size - plane) / plane ≡ n = ap (λ (k : ℕ). k / plane) m ∙ mul-div-cancel n p in
-    let l : (size - plane) / plane ≤ ceiling - 1 = omega (arith, c .few) in
-    ap (λ (k : ℕ). 1 + k) (sym (few (ceiling - 1) plane size l) ∙ q) ∙ omega arith
+-- so many planes are counted, up to a ceiling
+pub planes-counted : (most count plane size : ℕ) → 0 < plane → 1 ≤ count → 1 ≤ most → size ≡ count * plane
+    → 1 + extraFrames (most - 1) plane size ≡ min count most
+planes-counted most zero plane size p c r e = let z : ⊥ = omega arith in absurd z
+planes-counted most (suc n) plane size p c r e = go (leb n (most - 1)) refl
+  where
+    whole : (size - plane) / plane ≡ n
+    whole = let m : size - plane ≡ n * plane = omega arith in ap (λ (k : ℕ). k / plane) m ∙ mul-div-cancel n p
+
+    go : (t : Bool) → leb n (most - 1) ≡ t → 1 + extraFrames (most - 1) plane size ≡ min (suc n) most
+    go true l =
+        let k = leb-true n (most - 1) l in
+        ap (λ (k : ℕ). 1 + k) (sym (few (most - 1) plane size (omega (arith, whole))) ∙ whole) ∙ omega arith
+    go false l =
+        let k = leb-false n (most - 1) l in
+        ap (λ (k : ℕ). 1 + k) (sym (many (most - 1) plane size (omega (arith, whole)))) ∙ omega arith
 
 pub plane-some : (w h : ℕ) → 0 < w → 0 < h → 0 < planeBytes w h
 plane-some w h p q =
     let m : 1 * 1 ≤ rowBytes w * h = mul-le-mul {n₁ = 1} {m₁ = 1} {n₂ = rowBytes w} {m₂ = h} (omega arith) (omega arith) in
     omega arith
 
-module _ (ceiling : ℕ) (d : Decoding) (strict : Bool) (width height : ℕ) (fields : Fields) (count : ℕ) (body bytes : List ℕ)
-    (f : Filed strict width height fields body bytes) (c : Counted ceiling width height count) (wb : width < 4294967296) (hb : height < 4294967296)
-    (fit : Fitting (imageSettings (d .strict)) strict fields) (adm : Admitted d width height)
+module _ (most : ℕ) (d : Decoding) (strict : Bool) (width height : ℕ) (fields : Fields) (count : ℕ) (body bytes : List ℕ)
+    (f : Filed strict width height fields body bytes) (c : 1 ≤ count) (r : 1 ≤ most) (wb : width < 4294967296) (hb : height < 4294967296)
+    (fit : Fitting (imageSettings (d .mode)) strict fields) (adm : Admitted d width height)
     (whole : length body ≡ count * planeBytes width height) where
-  abbrev header : Header
+  abbrev pub header : Header
   header = head strict width height fields body bytes f
 
-  read : readHeader (imageSettings (d .strict)) bytes ≡ gives header
-  read = header-read strict width height fields body bytes f (imageSettings (d .strict)) wb hb fit
+  read : readHeader (imageSettings (d .mode)) bytes ≡ gives header
+  read = header-read strict width height fields body bytes f (imageSettings (d .mode)) wb hb fit
 
   abbrev plane : ℕ
   plane = planeBytes width height
@@ -64,23 +71,26 @@ module _ (ceiling : ℕ) (d : Decoding) (strict : Bool) (width height : ℕ) (fi
   some = plane-some width height (f .wide) (f .high)
 
   -- all planes stand behind the header
-  all-there : length bytes ≡ header .body + count * plane
+  pub all-there : length bytes ≡ header .body + count * plane
   all-there = size-is strict width height fields body bytes f ∙ ap (λ (n : ℕ). header .body + n) whole
 
   left : length bytes - header .body ≡ count * plane
   left = omega (arith, all-there)
 
   one-there : plane ≤ count * plane
-  one-there = let m : 1 * plane ≤ count * plane = mul-le-mul-right plane (c .some) in omega arith
+  one-there = let m : 1 * plane ≤ count * plane = mul-le-mul-right plane c in omega arith
 
-  image-read : readImage d bytes ≡ gives (outline header)
+  pub image-read : readImage d bytes ≡ gives (outline header)
   unfolding readImage testBody checkLimits
   image-read =
       ap (λ (a : Answer Header). bind (map outline a) (testBody d (length bytes))) read
       ∙ rw (adm .wide, adm .high, adm .pixels, adm .bytes, left, le-ltb (count * plane) plane one-there)
 
-  frames-are : framesIn ceiling (length bytes) (outline header) ≡ count
-  frames-are = planes-counted ceiling width height count plane (length bytes - header .body) some c left
+  abbrev frames : ℕ
+  frames = min count most
+
+  pub frames-are : framesIn most (length bytes) (outline header) ≡ frames
+  frames-are = planes-counted most count plane (length bytes - header .body) some c r left
 
   -- plane k as the file has it
   source-is : (k : ℕ) → sourcePlane bytes (outline header) k ≡ planeIn width height body k
@@ -102,11 +112,11 @@ module _ (ceiling : ℕ) (d : Decoding) (strict : Bool) (width height : ℕ) (fi
   unfolding planes
   next k l = refl
 
-  plane-shown : (k : ℕ) → k < count
-      → planeIn width height (shownPlanes count) k ≡ convertFormat MonoBlack (d .format) width height (rowBytes width) (planeIn width height body k)
+  plane-shown : (k : ℕ) → k < frames
+      → planeIn width height (shownPlanes frames) k ≡ convertFormat MonoBlack (d .format) width height (rowBytes width) (planeIn width height body k)
   unfolding planeAt
   plane-shown k l =
-      piece-back plane count (planeAt (d .format) bytes (outline header)) shownPlanes long next count k (omega arith) l
+      piece-back plane count (planeAt (d .format) bytes (outline header)) shownPlanes long next frames k (omega arith) l
       ∙ ap (convertFormat MonoBlack (d .format) width height (rowBytes width)) (source-is k)
 
   -- the bytes of plane k
@@ -118,38 +128,38 @@ module _ (ceiling : ℕ) (d : Decoding) (strict : Bool) (width height : ℕ) (fi
       subst Octets (source-there plane plane body k (omega (arith, up-to plane k count l, whole))) (bytes-source plane plane body k o)
 
   pub file-back : Octets body
-      → ReadsBack ceiling d bytes width height fields count (planeIn width height body)
+      → ReadsBack most d bytes width height fields count (planeIn width height body)
       (λ k. isWhite MonoBlack width height (rowBytes width) (planeIn width height body k))
   unfolding decoded shown
   file-back o =
       record {
-        image = imageOf (outline header) count;
-        output = shownPlanes count;
+        image = imageOf (outline header) frames;
+        output = shownPlanes frames;
         answer = λ room l.
-            ap (λ (a : Answer Outline). bind a (λ h. fitted room h (framesIn ceiling (length bytes) h))) image-read
+            ap (λ (a : Answer Outline). bind a (λ h. fitted room h (framesIn most (length bytes) h))) image-read
             ∙ ap (fitted room (outline header)) frames-are
-            ∙ if-true _ _ _ (le-leb (count * plane) room (omega (arith, long count (omega arith))));
+            ∙ if-true _ _ _ (le-leb (frames * plane) room (omega (arith, long frames (omega arith))));
         shows =
-            ap (map (λ h. planes (d .format) bytes h (framesIn ceiling (length bytes) h))) image-read
+            ap (map (λ h. planes (d .format) bytes h (framesIn most (length bytes) h))) image-read
             ∙ ap (λ (n : ℕ). gives (shownPlanes n)) frames-are;
         widthIs = refl;
         heightIs = refl;
         framesAre = refl;
-        writtenIs = sym (long count (omega arith));
+        writtenIs = sym (long frames (omega arith));
         fixIs = refl;
         fieldsAre = ap (map (λ (h : Header). h .fields)) read;
-        bodyIs = omega (arith, all-there, long count (omega arith));
-        size = long count (omega arith);
+        bodyIs = sym all-there;
+        size = long frames (omega arith);
         planeIs = plane-shown;
         dots = λ k x y l.
             ap (λ (s : List ℕ). isWhite (d .format) width height (rowBytes width) s x y) (plane-shown k l)
-            ∙ read-dots width height (f .wide) (f .high) wb hb (d .format) (planeIn width height body k) (source-size k l) (source-bytes o k l) x y;
+            ∙ read-dots width height (f .wide) (f .high) wb hb (d .format) (planeIn width height body k) (source-size k (omega arith)) (source-bytes o k (omega arith)) x y;
       }
 
 -- the same by other names of the planes and dots
-pub renamed : {ceiling : ℕ} {d : Decoding} {bytes : List ℕ} {width height : ℕ} {fields : Fields} {count : ℕ} {plane plane′ : ℕ → List ℕ}
+pub renamed : {most : ℕ} {d : Decoding} {bytes : List ℕ} {width height : ℕ} {fields : Fields} {count : ℕ} {plane plane′ : ℕ → List ℕ}
     {white white′ : ℕ → ℕ → ℕ → Bool} → ((k : ℕ) → k < count → plane k ≡ plane′ k) → ((k x y : ℕ) → k < count → white k x y ≡ white′ k x y)
-    → ReadsBack ceiling d bytes width height fields count plane white → ReadsBack ceiling d bytes width height fields count plane′ white′
+    → ReadsBack most d bytes width height fields count plane white → ReadsBack most d bytes width height fields count plane′ white′
 renamed {d = d} {width = width} {height = height} p w r =
     record {
       image = r .image;
@@ -164,6 +174,6 @@ renamed {d = d} {width = width} {height = height} p w r =
       fieldsAre = r .fieldsAre;
       bodyIs = r .bodyIs;
       size = r .size;
-      planeIs = λ k l. r .planeIs k l ∙ ap (convertFormat MonoBlack (d .format) width height (rowBytes width)) (p k l);
-      dots = λ k x y l. r .dots k x y l ∙ w k x y l;
+      planeIs = λ k l. r .planeIs k l ∙ ap (convertFormat MonoBlack (d .format) width height (rowBytes width)) (p k (omega arith));
+      dots = λ k x y l. r .dots k x y l ∙ w k x y (omega arith);
     }

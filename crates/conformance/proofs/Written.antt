@@ -105,13 +105,13 @@ module _ (ceiling : ℕ) (o : EncodeOptions) (format : PixelFormat) (width heigh
         subst Octets (source-there n n planes k (lent-there k l)) (bytes-source n n planes k b)
 
 -- Whole reading that takes the fields and admits the size shows what was lent.
-pub written-back : (ceiling : ℕ) (d : Decoding) (o : EncodeOptions) (format : PixelFormat) (width height count stride : ℕ)
-    (planes text lengths bytes : List ℕ) (fields : Fields) → width < 4294967296 → height < 4294967296 → Octets planes
-    → presented (o .ext) text lengths ≡ gives fields → Taken (d .strict) fields → Admitted d width height
+pub written-back : (ceiling most : ℕ) (d : Decoding) (o : EncodeOptions) (format : PixelFormat) (width height count stride : ℕ)
+    (planes text lengths bytes : List ℕ) (fields : Fields) → width < 4294967296 → height < 4294967296 → 1 ≤ most → Octets planes
+    → presented (o .ext) text lengths ≡ gives fields → Taken (d .mode) (o .strict) fields → Admitted d width height
     → fileOfPlanes ceiling o format width height count stride planes text lengths ≡ gives bytes
-    → ReadsBack ceiling d bytes width height fields count (λ k. wireBits format width height stride (lentPlane width height stride planes k))
+    → ReadsBack most d bytes width height fields count (λ k. wireBits format width height stride (lentPlane width height stride planes k))
     (λ k. isWhite format width height stride (lentPlane width height stride planes k))
-written-back ceiling d o format width height count stride planes text lengths bytes fields wb hb b e t a w =
+written-back ceiling most d o format width height count stride planes text lengths bytes fields wb hb r b e t a w =
     let p = passed ceiling o format width height count stride planes text lengths bytes w in
     let body = wirePlanes format width height stride planes count in
     let octets = lent-octets ceiling o format width height count stride planes text lengths bytes p b in
@@ -119,16 +119,16 @@ written-back ceiling d o format width height count stride planes text lengths by
     (λ k x y l.
     ap (λ (s : List ℕ). isWhite MonoBlack width height (rowBytes width) s x y) (body-plane format width height stride planes count k l)
     ∙ wire-dots format width height stride _ (lent-passes ceiling o format width height count stride planes text lengths bytes p k l) (octets k l) x y)
-    (file-back ceiling d (o .strict) width height fields count body bytes (filed o width height text lengths body bytes fields e (p .file))
-    (p .tests .frames) wb hb (fitting (d .strict) (o .strict) (o .ext) text lengths fields e t) a (planes-length format width height stride planes count)
+    (file-back most d (o .strict) width height fields count body bytes (filed o width height text lengths body bytes fields e (p .file))
+    (p .tests .frames .some) r wb hb (fitting (d .mode) (o .strict) (o .ext) text lengths fields e t) a (planes-length format width height stride planes count)
     (octets-body format width height stride planes count octets))
 
 -- What has no fields is read back strictly too.
-pub written-plain : (ceiling : ℕ) (d : Decoding) (o : EncodeOptions) (format : PixelFormat) (width height count stride : ℕ)
-    (planes text lengths bytes : List ℕ) → width < 4294967296 → height < 4294967296 → Octets planes → o .ext ≡ Absent → Admitted d width height
+pub written-plain : (ceiling most : ℕ) (d : Decoding) (o : EncodeOptions) (format : PixelFormat) (width height count stride : ℕ)
+    (planes text lengths bytes : List ℕ) → width < 4294967296 → height < 4294967296 → 1 ≤ most → Octets planes → o .ext ≡ Absent → Admitted d width height
     → fileOfPlanes ceiling o format width height count stride planes text lengths ≡ gives bytes
-    → ReadsBack ceiling d bytes width height none count (λ k. wireBits format width height stride (lentPlane width height stride planes k))
+    → ReadsBack most d bytes width height none count (λ k. wireBits format width height stride (lentPlane width height stride planes k))
     (λ k. isWhite format width height stride (lentPlane width height stride planes k))
-written-plain ceiling d o format width height count stride planes text lengths bytes wb hb b e a w =
-    written-back ceiling d o format width height count stride planes text lengths bytes none wb hb b
-    (ap (λ (p : ExtPresence). presented p text lengths) e) (plain (d .strict)) a w
+written-plain ceiling most d o format width height count stride planes text lengths bytes wb hb r b e a w =
+    written-back ceiling most d o format width height count stride planes text lengths bytes none wb hb r b
+    (ap (λ (p : ExtPresence). presented p text lengths) e) (plain (d .mode) (o .strict)) a w

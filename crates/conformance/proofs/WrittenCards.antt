@@ -53,11 +53,11 @@ lenient : ReadsBack 16 (withFormat MonoWhite defaults) paired 9 2 (pairs (record
     (λ k. wireBits MonoWhite 9 2 3 (lentPlane 9 2 3 nineByTwo k)) (λ k. isWhite MonoWhite 9 2 3 (lentPlane 9 2 3 nineByTwo k))
 unfolding lentFields cutPairs sum
 lenient =
-    written-back 16 (withFormat MonoWhite defaults) (writer (Present ParameterPairs11)) MonoWhite 9 2 2 3 nineByTwo (0x6B ∷ 0x31 ∷ 0x32 ∷ []) (1 ∷ 2 ∷ []) paired _
-    (omega arith) (omega arith) (octets-by nineByTwo refl) refl (omega arith, tt) (admitted false) paired-written
+    written-back 16 16 (withFormat MonoWhite defaults) (writer (Present ParameterPairs11)) MonoWhite 9 2 2 3 nineByTwo (0x6B ∷ 0x31 ∷ 0x32 ∷ []) (1 ∷ 2 ∷ []) paired _
+    (omega arith) (omega arith) (omega arith) (octets-by nineByTwo refl) refl (omega arith, tt) (admitted false) paired-written
 
 strict : ReadsBack 16 (withStrict true (withFormat MonoWhite defaults)) bare 9 2 none 2
     (λ k. wireBits MonoWhite 9 2 3 (lentPlane 9 2 3 nineByTwo k)) (λ k. isWhite MonoWhite 9 2 3 (lentPlane 9 2 3 nineByTwo k))
 strict =
-    written-plain 16 (withStrict true (withFormat MonoWhite defaults)) (writer Absent) MonoWhite 9 2 2 3 nineByTwo [] [] bare
-    (omega arith) (omega arith) (octets-by nineByTwo refl) refl (admitted true) bare-written
+    written-plain 16 16 (withStrict true (withFormat MonoWhite defaults)) (writer Absent) MonoWhite 9 2 2 3 nineByTwo [] [] bare
+    (omega arith) (omega arith) (omega arith) (octets-by nineByTwo refl) refl (admitted true) bare-written

@@ -1,7 +1,7 @@
 -- What it is for a file to be read back.
-use Prim.Native.Nat.{ℕ, _+_, _*_, _≤_, _<_}
+use Prim.Native.Nat.{ℕ, _+_, _*_, _≤_, _<_, min}
 use mathlib.Core.Path.{_≡_}
-use mathlib.Core.Bool.{Bool, true, false, _&&_}
+use mathlib.Core.Bool.{Bool, true, _&&_}
 use mathlib.Core.List.{List}
 use lib.Dec.{ltb}
 use lib.ListN.{length, take, drop}
@@ -13,7 +13,7 @@ use Rattle.image.specs.Dots.{isWhite}
 use Rattle.image.specs.Geometry.{rowBytes, planeBytes}
 use Rattle.image.specs.Rows.{convertFormat}
 use Rattle.image.specs.declared.PixelFormat.the-variants.{MonoBlack}
-use Rattle.options.specs.Limits.{Decoding, admits}
+use Rattle.options.specs.Limits.{Mode, lenient, strict, Decoding, admits}
 use Rattle.options.specs.declared.Quantize.{Quantize}
 use Rattle.quantize.specs.Rule.{dot}
 use Rattle.quantize.specs.Finished.{frame}
@@ -21,17 +21,18 @@ use Rattle.quantize.specs.Engine.{meaning}
 use Rattle.decoder.specs.Image.{fieldsOf}
 use Rattle.decoder.specs.Frames.{Image, shown, decoded}
 
--- fields within the ceiling of 4,096, or none: lenient reading takes what is written with these
+-- fields within the ceiling of 4,096, or none
 abbrev pub Within : Fields → Type 0
 Within none = Unit {0}
 Within (bitfield octets) = length octets ≤ 4096
 Within (reserved kind octet) = Unit {0}
 Within (pairs ps) = StartsBelow 0 ps
 
--- what a strict reading takes, and a lenient one
-abbrev pub Taken : Bool → Fields → Type 0
-Taken true fields = fields ≡ none
-Taken false fields = Within fields
+-- the fields that a reading in this mode takes from a file that was written strictly or not: a lenient one those within the ceiling, and a strict one
+-- none
+abbrev pub Taken : Mode → Bool → Fields → Type 0
+Taken lenient written fields = Within fields
+Taken strict written fields = fields ≡ none
 
 -- no limit of the reading refuses the size
 pub record Admitted (d : Decoding) (width height : ℕ) : Type 0 where
@@ -51,21 +52,21 @@ lentScan width height gray k = take (width * height) (drop (k * (width * height)
 abbrev pub scanWhite : Quantize → ℕ → ℕ → List ℕ → ℕ → ℕ → Bool
 scanWhite rule width height scan x y = ltb x width && ltb y height && dot (meaning rule) width (frame width height scan 0) x y
 
--- Whole reading shows this size, these fields and so many frames, and the body ends with the file. Plane k is `plane k` in the asked format, and its dot at column x of
--- row y is white where `white k x y` says so.
-pub record ReadsBack (ceiling : ℕ) (d : Decoding) (bytes : List ℕ) (width height : ℕ) (fields : Fields) (count : ℕ) (plane : ℕ → List ℕ)
+-- Whole reading of up to `most` frames shows this size, these fields and the first frames of so many, with the last of which the file ends. Plane k is
+-- `plane k` in the asked format, and its dot at column x of row y is white where `white k x y` says so.
+pub record ReadsBack (most : ℕ) (d : Decoding) (bytes : List ℕ) (width height : ℕ) (fields : Fields) (count : ℕ) (plane : ℕ → List ℕ)
     (white : ℕ → ℕ → ℕ → Bool) : Type 0 where
   pub image : Image
   pub output : List ℕ
-  pub answer : (room : ℕ) → length output ≤ room → decoded ceiling d bytes room ≡ gives image
-  pub shows : shown ceiling d bytes ≡ gives output
+  pub answer : (room : ℕ) → length output ≤ room → decoded most d bytes room ≡ gives image
+  pub shows : shown most d bytes ≡ gives output
   pub widthIs : image .width ≡ width
   pub heightIs : image .height ≡ height
-  pub framesAre : image .frames ≡ count
+  pub framesAre : image .frames ≡ min count most
   pub writtenIs : image .written ≡ length output
   pub fixIs : image .fix ≡ fixByte fields
-  pub fieldsAre : fieldsOf (d .strict) bytes ≡ gives fields
-  pub bodyIs : image .body + length output ≡ length bytes
-  pub size : length output ≡ count * planeBytes width height
-  pub planeIs : (k : ℕ) → k < count → planeIn width height output k ≡ convertFormat MonoBlack (d .format) width height (rowBytes width) (plane k)
-  pub dots : (k x y : ℕ) → k < count → isWhite (d .format) width height (rowBytes width) (planeIn width height output k) x y ≡ white k x y
+  pub fieldsAre : fieldsOf (d .mode) bytes ≡ gives fields
+  pub bodyIs : image .body + count * planeBytes width height ≡ length bytes
+  pub size : length output ≡ min count most * planeBytes width height
+  pub planeIs : (k : ℕ) → k < min count most → planeIn width height output k ≡ convertFormat MonoBlack (d .format) width height (rowBytes width) (plane k)
+  pub dots : (k x y : ℕ) → k < min count most → isWhite (d .format) width height (rowBytes width) (planeIn width height output k) x y ≡ white k x y

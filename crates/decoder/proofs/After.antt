@@ -18,7 +18,7 @@ use Rattle.image.specs.Geometry.{rowBytes}
 use Rattle.image.specs.Rows.{convertFormat}
 use Rattle.image.specs.declared.PixelFormat.{PixelFormat}
 use Rattle.image.specs.declared.PixelFormat.the-variants.{MonoBlack}
-use Rattle.options.specs.Limits.{Decoding, checkLimits}
+use Rattle.options.specs.Limits.{Mode, Decoding, checkLimits}
 use Rattle.decoder.specs.Body.{planeOf, framesIn, planeAt, planes}
 use Rattle.decoder.specs.Image.{imageSettings, headerOf, testBody, readImage}
 use Rattle.decoder.specs.Frames.{Image, fitted, decoded}
@@ -32,10 +32,10 @@ module _ (s ρ : List ℕ) where
   pub longer : length s ≤ length (s ++ ρ)
   longer = rw length-append (omega arith)
 
-  header-kept : (strict : Bool) → settled (headerOf strict s) ≡ true → headerOf strict (s ++ ρ) ≡ headerOf strict s
-  header-kept strict e =
+  pub header-kept : (mode : Mode) → settled (headerOf mode s) ≡ true → headerOf mode (s ++ ρ) ≡ headerOf mode s
+  header-kept mode e =
       ap (map outline)
-      (header-prefix (imageSettings strict) s ρ (sym (outline-settled (readHeader (imageSettings strict) s)) ∙ e))
+      (header-prefix (imageSettings mode) s ρ (sym (outline-settled (readHeader (imageSettings mode) s)) ∙ e))
 
   body-kept : (d : Decoding) (h : Outline) → settled (testBody d (length s) h) ≡ true → testBody d (length (s ++ ρ)) h ≡ testBody d (length s) h
   unfolding testBody
@@ -55,8 +55,8 @@ module _ (s ρ : List ℕ) where
   pub image-kept : (d : Decoding) → settled (readImage d s) ≡ true → readImage d (s ++ ρ) ≡ readImage d s
   unfolding readImage
   image-kept d =
-      bind-prefix (headerOf (d .strict) s) (headerOf (d .strict) (s ++ ρ)) (testBody d (length s)) (testBody d (length (s ++ ρ)))
-      (header-kept (d .strict)) (body-kept d)
+      bind-prefix (headerOf (d .mode) s) (headerOf (d .mode) (s ++ ρ)) (testBody d (length s)) (testBody d (length (s ++ ρ)))
+      (header-kept (d .mode)) (body-kept d)
 
   -- A refusal other than 1, 6, 9, 13, 20, 25 is kept when bytes follow.
   pub refusal-kept : (ceiling : ℕ) (d : Decoding) (room code offset : ℕ) → isEnd code ≡ false → (code ≡ 25 → ⊥)

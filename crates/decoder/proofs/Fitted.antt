@@ -11,10 +11,10 @@ use Rattle.error.specs.Emits.{output}
 use Rattle.laws.proofs.Tests.{if-true, if-false}
 use Rattle.header.specs.Read.{Outline}
 use Rattle.image.specs.declared.PixelFormat.{PixelFormat}
-use Rattle.options.specs.Limits.{Decoding, checkLimits}
+use Rattle.options.specs.Limits.{Decoding, settled, checkLimits}
 use Rattle.decoder.specs.Body.{planeOf, framesIn, planes}
 use Rattle.decoder.specs.Image.{imageSettings, headerOf, testBody, readImage}
-use Rattle.decoder.specs.Frames.{Image, fitted, decoded, shown, Decodes, Framed}
+use Rattle.decoder.specs.Frames.{Image, fitted, decoded, shown, Decodes, Imaged, Framed}
 use Rattle.decoder.proofs.Counted.{frames-fit}
 use Rattle.decoder.proofs.Planed.{planes-length}
 use Rattle.decoder.proofs.Shaped.{bind-gives, unless, outline-shape}
@@ -61,10 +61,10 @@ module _ (most : ℕ) (f : PixelFormat) (bytes : List ℕ) (h : Outline) (n : �
       }
 
 module _ (ceiling : ℕ) (d : Decoding) (bytes old : List ℕ) where
-  pub decodes : (h : Outline) (r : Answer Image) (new : List ℕ) → readImage d bytes ≡ gives h → Framed ceiling (d .format) bytes h r old new
-      → Decodes ceiling d bytes r old new
+  pub imaged : (h : Outline) (r : Answer Image) (new : List ℕ) → readImage d bytes ≡ gives h → Framed ceiling (d .format) bytes h r old new
+      → Imaged ceiling d bytes r old new
   unfolding decoded shown
-  decodes h r new e p =
+  imaged h r new e p =
       record {
         answer = p .answer ∙ sym (ap (λ (a : Answer Outline). bind a (λ h. fitted (length old) h (framesIn ceiling (length bytes) h))) e);
         output-is =
@@ -72,7 +72,7 @@ module _ (ceiling : ℕ) (d : Decoding) (bytes old : List ℕ) where
             ∙ sym (ap (λ (a : Answer Outline). output (map (λ h. planes (d .format) bytes h (framesIn ceiling (length bytes) h)) a) old) e);
       }
 
-  pub refused : (code offset : ℕ) → readImage d bytes ≡ refuses code offset → Decodes ceiling d bytes (refuses code offset) old old
+  pub refused : (code offset : ℕ) → readImage d bytes ≡ refuses code offset → Imaged ceiling d bytes (refuses code offset) old old
   unfolding decoded shown
   refused code offset e =
       record {
@@ -80,14 +80,26 @@ module _ (ceiling : ℕ) (d : Decoding) (bytes old : List ℕ) where
         output-is = sym (ap (λ (a : Answer Outline). output (map (λ h. planes (d .format) bytes h (framesIn ceiling (length bytes) h)) a) old) e);
       }
 
+  -- settings that pass their test
+  pub decodes : (n : ℕ) (r : Answer Image) (new : List ℕ) → settled d ≡ gives d → n ≡ ceiling → Imaged n d bytes r old new → Decodes ceiling d bytes r old new
+  decodes n r new s c p =
+      record {
+        answer =
+            p .answer ∙ ap (λ (n : ℕ). decoded n d bytes (length old)) c
+            ∙ sym (ap (λ (a : Answer Decoding). bind a (λ s. decoded ceiling s bytes (length old))) s);
+        output-is =
+            p .output-is ∙ ap (λ (n : ℕ). output (shown n d bytes) old) c
+            ∙ sym (ap (λ (a : Answer Decoding). output (bind a (λ s. shown ceiling s bytes)) old) s);
+      }
+
 -- the first plane of an image that was read is there
 pub plane-there : (d : Decoding) (bytes : List ℕ) (h : Outline) → readImage d bytes ≡ gives h → h .body + planeOf h ≤ length bytes
 unfolding readImage testBody
 plane-there d bytes h =
-    bind-gives (headerOf (d .strict) bytes) _ h (λ g p.
+    bind-gives (headerOf (d .mode) bytes) _ h (λ g p.
     bind-gives (checkLimits d (g .width) (g .height) (planeOf g) (g .body)) _ h (λ _ q.
     unless (ltb (length bytes - g .body) (planeOf g)) 20 (g .body) _ h (λ t e.
-    let b = outline-shape (imageSettings (d .strict)) bytes g p .2 in
+    let b = outline-shape (imageSettings (d .mode)) bytes g p .2 in
     let k = ltb-false (length bytes - g .body) (planeOf g) t in
     let w : g ≡ h = cc in
     subst (λ (g : Outline). g .body + planeOf g ≤ length bytes) w (omega arith))))

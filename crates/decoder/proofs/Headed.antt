@@ -48,7 +48,7 @@ module _ (size : ℕ) (p : ParsedHeader) (l : PlaneLayout) (body : ℕ) (laid : 
       if-false _ _ _
       (le-ltb _ _ (subst (λ (n : ℕ). n ≤ size - p .«data_offset») plane-is (subst (λ (n : ℕ). l .«total_bytes» ≤ n) left h)))
 
-pub on-header : (d : Decoding) (s : List ℕ) (o : Settings) (r x : HeaderRead) → o ≡ imageSettings (d .strict)
+pub on-header : (d : Decoding) (s : List ℕ) (o : Settings) (r x : HeaderRead) → o ≡ imageSettings (d .mode)
     → meaning r ≡ map outline (readHeader o s) → r ≡ x → readImage d s ≡ bind (meaning x) (testBody d (length s))
 unfolding readImage
 on-header d s o r x p q e =

@@ -10,7 +10,7 @@ use Rattle.error.specs.Emits.{output}
 use Rattle.ext.specs.Kinds.{Span}
 use Rattle.header.specs.Read.{Outline, extSpan}
 use Rattle.image.specs.declared.PixelFormat.{PixelFormat}
-use Rattle.options.specs.Limits.{Decoding}
+use Rattle.options.specs.Limits.{Decoding, settled}
 use Rattle.decoder.specs.Body.{planeOf, framesIn, planes}
 use Rattle.decoder.specs.Image.{readImage}
 use Rattle.decoder.specs.declared.DecodedImage.{DecodedImage}
@@ -54,12 +54,24 @@ fitted room h frames = if (leb (frames * planeOf h) room) (gives (imageOf h fram
 unfoldable pub decoded : ℕ → Decoding → List ℕ → ℕ → Answer Image
 decoded ceiling d bytes room = bind (readImage d bytes) (λ h. fitted room h (framesIn ceiling (length bytes) h))
 
+-- the settings are tested before all reading
+abbrev pub decodedBy : ℕ → Decoding → List ℕ → ℕ → Answer Image
+decodedBy ceiling d bytes room = bind (settled d) (λ s. decoded ceiling s bytes room)
+
+abbrev pub shownBy : ℕ → Decoding → List ℕ → Answer (List ℕ)
+shownBy ceiling d bytes = bind (settled d) (λ s. shown ceiling s bytes)
+
 -- what whole reading promises of its answer and of the lent output; nothing is altered by a refusal
 pub record Decodes (ceiling : ℕ) (d : Decoding) (bytes : List ℕ) (r : Answer Image) (old new : List ℕ) : Type 0 where
+  pub answer : r ≡ decodedBy ceiling d bytes (length old)
+  pub output-is : new ≡ output (shownBy ceiling d bytes) old
+
+-- the same behind the test of the settings
+pub record Imaged (ceiling : ℕ) (d : Decoding) (bytes : List ℕ) (r : Answer Image) (old new : List ℕ) : Type 0 where
   pub answer : r ≡ decoded ceiling d bytes (length old)
   pub output-is : new ≡ output (shown ceiling d bytes) old
 
--- the same behind the tests of an image
+-- and behind the tests of an image
 pub record Framed (ceiling : ℕ) (format : PixelFormat) (bytes : List ℕ) (h : Outline) (r : Answer Image) (old new : List ℕ) : Type 0 where
   pub answer : r ≡ fitted (length old) h (framesIn ceiling (length bytes) h)
   pub output-is : new ≡ output (gives (planes format bytes h (framesIn ceiling (length bytes) h))) old

@@ -16,7 +16,7 @@ ghost use lib.ListN.{length};
 ghost use Rattle.header.specs.Read.{parsed};
 ghost use Rattle.options.specs.Limits.{decoding};
 ghost use Rattle.decoder.specs.Body.{extraFrames, planeOf};
-ghost use Rattle.decoder.specs.Frames.{Decodes, Framed, meaning};
+ghost use Rattle.decoder.specs.Frames.{Imaged, Framed, meaning};
 
 // A difference, or 0 where it would be below 0.
 pub(crate) fn saturating_sub(a: usize, b: usize) -> usize
@@ -82,7 +82,7 @@ fn write_frames(
 
 pub(crate) fn decode(bytes: &[u8], options: DecodeOptions, most: usize, out: &mut [u8]) -> Decoded
     requires { ⌜ most < 16 ⌝ }
-    ensures { λ r. ⌜ Decodes (1 + most) (decoding options) (now (bytes .entry)) (meaning r) (now (out .entry)) (now (out .exit)) ⌝ }
+    ensures { λ r. ⌜ Imaged (1 + most) (decoding options) (now (bytes .entry)) (meaning r) (now (out .entry)) (now (out .exit)) ⌝ }
 {
     match read_image(bytes, options) {
         HeaderRead::Header(h) => {

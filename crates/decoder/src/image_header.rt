@@ -7,20 +7,21 @@ use header::HeaderMode;
 use header::HeaderRead;
 use header::ParsedHeader;
 use image::PlaneLayout;
+use options::DecodeMode;
 use options::DecodeOptions;
 ghost use mathlib.Core.Path.{_≡_};
 ghost use Rattle.header.specs.Read.{meaning, parsed};
 ghost use Rattle.header.specs.Settings.{settings};
-ghost use Rattle.options.specs.Limits.{decoding};
+ghost use Rattle.options.specs.Limits.{modeOf, decoding};
 ghost use Rattle.decoder.specs.Image.{imageSettings, testBody, readImage};
 
-fn image_mode(strict: bool) -> HeaderMode
-    ensures { λ r. ⌜ settings r ≡ imageSettings strict ⌝ }
+// How the header of an image is read in a mode.
+pub fn image_mode(mode: DecodeMode) -> HeaderMode
+    ensures { λ r. ⌜ settings r ≡ imageSettings (modeOf mode) ⌝ }
 {
-    if strict {
-        HeaderMode::inner(true)
-    } else {
-        HeaderMode::ext_inner(false)
+    match mode {
+        DecodeMode::Lenient => HeaderMode::ext_inner(false),
+        DecodeMode::Strict => HeaderMode::inner(true),
     }
 }
 
@@ -49,7 +50,8 @@ fn test_body(size: usize, h: ParsedHeader, options: DecodeOptions) -> HeaderRead
 pub(crate) fn read_image(bytes: &[u8], options: DecodeOptions) -> HeaderRead
     ensures { λ r. ⌜ meaning r ≡ readImage (decoding options) (now (bytes .entry)) ⌝ }
 {
-    match header::parse_header_mode(bytes, image_mode(options.strict)) {
+    let mode = options.mode;
+    match header::parse_header_mode(bytes, image_mode(mode)) {
         HeaderRead::Header(h) => test_body(bytes.len(), h, options),
         HeaderRead::Refused(e) => HeaderRead::Refused(e),
     }

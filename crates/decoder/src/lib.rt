@@ -2,7 +2,7 @@
 use error::WbmpError;
 use header::HeaderFields;
 use options::DecodeOptions;
-ghost use Rattle.options.specs.Limits.{decoding};
+ghost use Rattle.options.specs.Limits.{ceilingOf, decoding};
 ghost use Rattle.decoder.specs.Frames.{Decodes, meaning};
 
 mod frames;
@@ -10,6 +10,7 @@ mod image_header;
 mod planes;
 
 pub use frames::animated_frame_count;
+pub use image_header::image_mode;
 
 // At most this many images follow the main image.
 pub const MAX_ANIMATED_IMAGES: usize = 15;
@@ -40,7 +41,7 @@ pub fn decode_image(bytes: &[u8], options: DecodeOptions, out: &mut [u8]) -> Dec
 
 // The main image and the images that follow it, up to 16 frames.
 pub fn decode_frames(bytes: &[u8], options: DecodeOptions, out: &mut [u8]) -> Decoded
-    ensures { λ r. ⌜ Decodes 16 (decoding options) (now (bytes .entry)) (meaning r) (now (out .entry)) (now (out .exit)) ⌝ }
+    ensures { λ r. ⌜ Decodes (ceilingOf (decoding options)) (decoding options) (now (bytes .entry)) (meaning r) (now (out .entry)) (now (out .exit)) ⌝ }
 {
     frames::decode(bytes, options, MAX_ANIMATED_IMAGES, out)
 }

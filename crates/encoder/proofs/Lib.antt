@@ -9,3 +9,4 @@ pub mod Scanned
 pub mod Scanning
 pub mod Made
 pub mod Makings
+pub mod Begun

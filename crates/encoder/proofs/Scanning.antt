@@ -1,6 +1,7 @@
 -- Scans end to end: the loop of `put_scans`.
 use Prim.Native.Nat.{ℕ, suc, _+_, _-_, _*_, _≤_, _<_}
 use mathlib.Core.Path.{_≡_, refl, sym, ap, subst, _∙_}
+use mathlib.Core.Bool.{false}
 use mathlib.Core.List.{List, _++_}
 use native.Mathlib.Nat.{mul-comm, mul-le-mul-left, mul-le-mul-right}
 use native.Mathlib.Numerals.{add-one}
@@ -16,7 +17,7 @@ use Rattle.error.specs.Emits.{Emits}
 use Rattle.laws.proofs.Runs.{sets-append, sets-front, emits-part}
 use Rattle.image.specs.Geometry.{rowBytes, planeBytes}
 use Rattle.options.specs.declared.Quantize.{Quantize}
-use Rattle.options.specs.declared.Quantize.the-variants.{Dither}
+use Rattle.quantize.specs.Asked.{meaning, carries}
 use Rattle.quantize.specs.Engine.{setting}
 use Rattle.quantize.specs.Finished.{finished}
 use Rattle.quantize.specs.Whole.{quantized, Quantizes}
@@ -52,7 +53,7 @@ pub record Scanning (rule : Quantize) (w h count : ℕ) (gray : List ℕ) (work�
   pub now-is : out ≡ sets out₀ 0 (scanBytes rule w h gray k)
   pub work-long : length work ≡ length work₀
   pub beyond : drop (2 * w) work ≡ drop (2 * w) work₀
-  pub spared : (rule ≡ Dither → ⊥) → work ≡ work₀
+  pub spared : carries (meaning rule) ≡ false → work ≡ work₀
 
 pub begun : (rule : Quantize) (w h count : ℕ) (gray : List ℕ) (work : List ℤ) (out : List ℕ) (plane : ℕ)
     → Passed 16 rule w h count (length gray) (length work) → plane ≡ planeBytes w h → count * planeBytes w h ≤ length out

@@ -3,3 +3,4 @@ pub mod Write
 pub mod Make
 pub mod Parts
 pub mod Scans
+pub mod Begin

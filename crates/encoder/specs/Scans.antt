@@ -1,16 +1,17 @@
 -- What whole making leaves where nothing is refused.
 use Prim.Native.Nat.{ℕ, _*_}
 use mathlib.Core.Path.{_≡_}
+use mathlib.Core.Bool.{false}
 use mathlib.Core.List.{List, _++_}
 use lib.IntN.{ℤ}
 use lib.ListN.{drop}
 use Rattle.image.specs.Geometry.{planeBytes}
 use Rattle.options.specs.declared.Quantize.{Quantize}
-use Rattle.options.specs.declared.Quantize.the-variants.{Dither}
+use Rattle.quantize.specs.Asked.{meaning, carries}
 use Rattle.encoder.specs.Make.{scanBytes}
 
 -- so many scans' planes at the front of an output; the work buffer as `Makes` says
 pub record PutsScans (rule : Quantize) (width height count : ℕ) (gray out : List ℕ) (work : List ℤ) (out′ : List ℕ) (work′ : List ℤ) : Type 0 where
   pub bytes : out′ ≡ scanBytes rule width height gray count ++ drop (count * planeBytes width height) out
   pub beyond : drop (2 * width) work′ ≡ drop (2 * width) work
-  pub spared : (rule ≡ Dither → ⊥) → work′ ≡ work
+  pub spared : carries (meaning rule) ≡ false → work′ ≡ work

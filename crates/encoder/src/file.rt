@@ -2,15 +2,15 @@
 use error::Checked;
 use error::FRAME_COUNT;
 use error::WbmpError;
-use error::Written;
 use error::ZERO_DIMENSION;
+use ext::FieldsCheck;
+use ext::PairsBegun;
 use options::EncodeOptions;
 ghost use mathlib.Core.Path.{_≡_};
 ghost use Prim.Native.Nat.{_-_};
-ghost use Rattle.error.specs.Answer.{checked, refuses, written};
-ghost use Rattle.header.specs.Write.{extHeader};
+ghost use Rattle.error.specs.Answer.{checked, refuses};
 ghost use Rattle.encoder.specs.File.{checkCount};
-ghost use Rattle.encoder.specs.Parts.{Heads};
+ghost use Rattle.encoder.specs.Begin.{BeginsBefore};
 
 // The main image and at most 15 that follow it.
 const MAX_FRAMES: usize = 16;
@@ -48,27 +48,30 @@ fn room_before(body: usize, out: usize) -> usize
     if out < body { 0 } else { out - body }
 }
 
-// The header at the front of the lent output, if it and a body of so many bytes fit.
-pub(crate) fn write_header_before(
+// The header, up to its pairs, at the front of the lent output, if it and a body of so many bytes fit.
+pub(crate) fn begin_header_before(
     body: usize,
     width: u32,
     height: u32,
     options: EncodeOptions,
     text: &[u8],
-    lengths: &[usize],
+    found: FieldsCheck,
     out: &mut [u8],
-) -> Written
-    ensures { λ r. ⌜ Heads (extHeader (options .strict) width height (options .ext) (now (text .entry)) (now (lengths .entry))) body (written r) (now (out .entry)) (now (out .exit)) ⌝ }
+) -> PairsBegun
+    ensures { λ r. ⌜ BeginsBefore body width height options (now (text .entry)) found (now (out .entry)) (now (out .exit)) r ⌝ }
 {
     let room = room_before(body, out.len());
     let ext = options.ext;
-    header::write_header_ext_lengths(
-        width,
-        height,
-        ext,
-        text,
-        lengths,
-        options.strict,
-        &mut out[..room],
-    )
+    let begun = header::begin_header(width, height, ext, text, found, &mut out[..room]);
+    let answer = begun.answer;
+    if begun.to < room {
+        return PairsBegun {
+            to: begun.to,
+            answer,
+        };
+    }
+    PairsBegun {
+        to: out.len(),
+        answer,
+    }
 }

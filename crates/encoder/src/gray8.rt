@@ -1,12 +1,15 @@
 // Whole making: scans of gray samples, end to end, become the frames of a file.
+use crate::file::begin_header_before;
 use crate::file::check_count;
 use crate::file::refused;
-use crate::file::write_header_before;
 use error::BUFFER_TOO_SHORT;
 use error::Checked;
 use error::GRAY_TOO_SHORT;
 use error::UNKNOWN_SETTING;
 use error::Written;
+use ext::FieldsCheck;
+use ext::PairsBegun;
+use ext::Parameter;
 use image::PlaneLayout;
 use options::EncodeOptions;
 use options::Quantize;
@@ -17,6 +20,8 @@ ghost use Rattle.error.specs.Answer.{checked, gives, written};
 ghost use Rattle.image.specs.Geometry.{planeBytes};
 ghost use Rattle.encoder.specs.Make.{checkScans, Makes};
 ghost use Rattle.encoder.specs.Scans.{PutsScans};
+ghost use Rattle.encoder.specs.Begin.{BeginsMade};
+ghost use Rattle.ext.specs.Write.{flattened};
 
 // Whether so many samples and numbers of work serve for so many scans.
 fn check_scans(
@@ -71,35 +76,107 @@ fn put_scans(
     }
 }
 
-// The file of scans that passed the test.
-fn make_file(
+// The file of scans that passed the test, up to the pairs of its header.
+fn begin_made(
     width: u32,
     height: u32,
     count: usize,
     gray: &[u8],
     options: EncodeOptions,
     text: &[u8],
-    lengths: &[usize],
+    found: FieldsCheck,
     work: &mut [i16],
     out: &mut [u8],
-) -> Written
+) -> PairsBegun
     requires { ⌜ checkScans 16 (options .quantize) width height count (length (now gray)) (length (now work)) ≡ gives tt ⌝ }
-    ensures { λ r. ⌜ Makes 16 options width height count (now (gray .entry)) (now (text .entry)) (now (lengths .entry)) (now (out .entry)) (now (work .entry)) (written r) (now (out .exit)) (now (work .exit)) ⌝ }
+    ensures { λ r. ⌜ BeginsMade width height count (now (gray .entry)) options (now (text .entry)) found (now (work .entry)) (now (work .exit)) (now (out .entry)) (now (out .exit)) r ⌝ }
 {
     let rule = options.quantize;
     let layout = PlaneLayout::new(width, height);
     let body = count * layout.total_bytes;
-    match write_header_before(body, width, height, options, text, lengths, out) {
+    let begun = begin_header_before(body, width, height, options, text, found, out);
+    let to = begun.to;
+    let answer = begun.answer;
+    match answer {
         Written::Bytes(start) => {
             put_scans(width, height, count, gray, rule, work, &mut out[start..]);
             let end = start + body;
-            Written::Bytes(end)
+            PairsBegun {
+                to,
+                answer: Written::Bytes(end),
+            }
         }
-        Written::Refused(e) => Written::Refused(e),
+        Written::Refused(e) => PairsBegun {
+            to,
+            answer: Written::Refused(e),
+        },
     }
 }
 
-// A file of `count` scans, each width × height samples; surplus gray is ignored. Nothing is written on a refusal.
+// A file of scans, up to the pairs of its header, which were checked before.
+fn begin_gray8(
+    width: u32,
+    height: u32,
+    count: usize,
+    gray: &[u8],
+    options: EncodeOptions,
+    text: &[u8],
+    found: FieldsCheck,
+    work: &mut [i16],
+    out: &mut [u8],
+) -> PairsBegun
+    ensures { λ r. ⌜ BeginsMade width height count (now (gray .entry)) options (now (text .entry)) found (now (work .entry)) (now (work .exit)) (now (out .entry)) (now (out .exit)) r ⌝ }
+{
+    let rule = options.quantize;
+    match check_scans(width, height, count, rule, gray.len(), work.len()) {
+        Checked::Accepted => begin_made(
+            width,
+            height,
+            count,
+            gray,
+            options,
+            text,
+            found,
+            work,
+            out,
+        ),
+        Checked::Refused(e) => PairsBegun {
+            to: out.len(),
+            answer: Written::Refused(e),
+        },
+    }
+}
+
+// A file of `count` scans, each width × height samples; surplus gray is ignored. Nothing is written on a refusal. The pairs are lent as records.
+pub fn encode_gray8(
+    width: u32,
+    height: u32,
+    count: usize,
+    gray: &[u8],
+    options: EncodeOptions,
+    text: &[u8],
+    parameters: &[Parameter],
+    work: &mut [i16],
+    out: &mut [u8],
+) -> Written
+    ensures { λ r. ⌜ Makes 16 options width height count (now (gray .entry)) (now (text .entry)) (flattened (now (parameters .entry))) (now (out .entry)) (now (work .entry)) (written r) (now (out .exit)) (now (work .exit)) ⌝ }
+{
+    let found = ext::check_parameters(text, parameters, options.strict);
+    let begun = begin_gray8(
+        width,
+        height,
+        count,
+        gray,
+        options,
+        text,
+        found,
+        work,
+        &mut *out,
+    );
+    ext::put_parameters(text, parameters, begun, out)
+}
+
+// The same, with the lengths of the pairs lent as numbers.
 pub fn encode_gray8_lengths(
     width: u32,
     height: u32,
@@ -113,19 +190,17 @@ pub fn encode_gray8_lengths(
 ) -> Written
     ensures { λ r. ⌜ Makes 16 options width height count (now (gray .entry)) (now (text .entry)) (now (lengths .entry)) (now (out .entry)) (now (work .entry)) (written r) (now (out .exit)) (now (work .exit)) ⌝ }
 {
-    let rule = options.quantize;
-    match check_scans(width, height, count, rule, gray.len(), work.len()) {
-        Checked::Accepted => make_file(
-            width,
-            height,
-            count,
-            gray,
-            options,
-            text,
-            lengths,
-            work,
-            out,
-        ),
-        Checked::Refused(e) => Written::Refused(e),
-    }
+    let found = ext::check_lengths(text, lengths, options.strict);
+    let begun = begin_gray8(
+        width,
+        height,
+        count,
+        gray,
+        options,
+        text,
+        found,
+        work,
+        &mut *out,
+    );
+    ext::put_lengths(text, lengths, begun, out)
 }

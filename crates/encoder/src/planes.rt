@@ -1,10 +1,13 @@
 // Whole writing.
+use crate::file::begin_header_before;
 use crate::file::check_count;
 use crate::file::refused;
-use crate::file::write_header_before;
 use error::Checked;
 use error::PLANE_TOO_SHORT;
 use error::Written;
+use ext::FieldsCheck;
+use ext::PairsBegun;
+use ext::Parameter;
 use image::PixelFormat;
 use image::PlaneLayout;
 use options::EncodeOptions;
@@ -15,7 +18,8 @@ ghost use lib.ListN.{length, drop};
 ghost use Rattle.error.specs.Answer.{gives, checked, written};
 ghost use Rattle.error.specs.Emits.{Emits};
 ghost use Rattle.image.specs.Geometry.{neededBytes, planeBytes};
-ghost use Rattle.encoder.specs.File.{fileOf};
+ghost use Rattle.ext.specs.Write.{flattened};
+ghost use Rattle.encoder.specs.Begin.{BeginsFile, BeginsImages};
 ghost use Rattle.encoder.specs.Write.{checkPlanes, wirePlanes, fileOfPlanes};
 
 // The bytes from the start of a plane's first row to the end of its last.
@@ -82,8 +86,8 @@ fn write_planes(
     }
 }
 
-// A file of planes that were tested.
-fn write_file(
+// A file of planes that were tested, up to the pairs of its header.
+fn begin_file(
     width: u32,
     height: u32,
     count: usize,
@@ -92,16 +96,19 @@ fn write_file(
     format: PixelFormat,
     options: EncodeOptions,
     text: &[u8],
-    lengths: &[usize],
+    found: FieldsCheck,
     out: &mut [u8],
-) -> Written
+) -> PairsBegun
     requires { ⌜ checkPlanes 16 width height count stride (length (now planes)) ≡ gives tt ⌝ }
-    ensures { λ r. ⌜ Emits (fileOf options width height (now (text .entry)) (now (lengths .entry)) (wirePlanes format width height stride (now (planes .entry)) count)) (written r) (now (out .entry)) (now (out .exit)) ⌝ }
+    ensures { λ r. ⌜ BeginsFile width height count (now (planes .entry)) stride format options (now (text .entry)) found (now (out .entry)) (now (out .exit)) r ⌝ }
 {
     let layout = PlaneLayout::new(width, height);
     let plane = layout.total_bytes;
     let body = count * plane;
-    match write_header_before(body, width, height, options, text, lengths, out) {
+    let begun = begin_header_before(body, width, height, options, text, found, out);
+    let to = begun.to;
+    let answer = begun.answer;
+    match answer {
         Written::Bytes(start) => {
             write_planes(
                 width,
@@ -112,14 +119,87 @@ fn write_file(
                 format,
                 &mut out[start..],
             );
-            Written::Bytes(start + body)
+            let end = start + body;
+            PairsBegun {
+                to,
+                answer: Written::Bytes(end),
+            }
         }
-        Written::Refused(e) => Written::Refused(e),
+        Written::Refused(e) => PairsBegun {
+            to,
+            answer: Written::Refused(e),
+        },
+    }
+}
+
+// A file of planes, up to the pairs of its header, which were checked before.
+fn begin_images(
+    width: u32,
+    height: u32,
+    count: usize,
+    planes: &[u8],
+    stride: usize,
+    format: PixelFormat,
+    options: EncodeOptions,
+    text: &[u8],
+    found: FieldsCheck,
+    out: &mut [u8],
+) -> PairsBegun
+    ensures { λ r. ⌜ BeginsImages width height count (now (planes .entry)) stride format options (now (text .entry)) found (now (out .entry)) (now (out .exit)) r ⌝ }
+{
+    match check_planes(width, height, count, stride, planes.len()) {
+        Checked::Accepted => begin_file(
+            width,
+            height,
+            count,
+            planes,
+            stride,
+            format,
+            options,
+            text,
+            found,
+            out,
+        ),
+        Checked::Refused(e) => PairsBegun {
+            to: out.len(),
+            answer: Written::Refused(e),
+        },
     }
 }
 
 // A file of `count` planes that are lent end to end, each stride × (height - 1) + row bytes: the header, then the planes without gaps,
-// 1 for white and padding 0. Bytes behind the last plane are ignored.
+// 1 for white and padding 0. Bytes behind the last plane are ignored. The pairs are lent as records.
+pub fn encode_images(
+    width: u32,
+    height: u32,
+    count: usize,
+    planes: &[u8],
+    stride: usize,
+    format: PixelFormat,
+    options: EncodeOptions,
+    text: &[u8],
+    parameters: &[Parameter],
+    out: &mut [u8],
+) -> Written
+    ensures { λ r. ⌜ Emits (fileOfPlanes 16 options format width height count stride (now (planes .entry)) (now (text .entry)) (flattened (now (parameters .entry)))) (written r) (now (out .entry)) (now (out .exit)) ⌝ }
+{
+    let found = ext::check_parameters(text, parameters, options.strict);
+    let begun = begin_images(
+        width,
+        height,
+        count,
+        planes,
+        stride,
+        format,
+        options,
+        text,
+        found,
+        &mut *out,
+    );
+    ext::put_parameters(text, parameters, begun, out)
+}
+
+// The same, with the lengths of the pairs lent as numbers.
 pub fn encode_images_lengths(
     width: u32,
     height: u32,
@@ -134,19 +214,18 @@ pub fn encode_images_lengths(
 ) -> Written
     ensures { λ r. ⌜ Emits (fileOfPlanes 16 options format width height count stride (now (planes .entry)) (now (text .entry)) (now (lengths .entry))) (written r) (now (out .entry)) (now (out .exit)) ⌝ }
 {
-    match check_planes(width, height, count, stride, planes.len()) {
-        Checked::Accepted => write_file(
-            width,
-            height,
-            count,
-            planes,
-            stride,
-            format,
-            options,
-            text,
-            lengths,
-            out,
-        ),
-        Checked::Refused(e) => Written::Refused(e),
-    }
+    let found = ext::check_lengths(text, lengths, options.strict);
+    let begun = begin_images(
+        width,
+        height,
+        count,
+        planes,
+        stride,
+        format,
+        options,
+        text,
+        found,
+        &mut *out,
+    );
+    ext::put_lengths(text, lengths, begun, out)
 }

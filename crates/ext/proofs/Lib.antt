@@ -23,3 +23,11 @@ pub mod BackOctets
 pub mod BackPairs
 pub mod ReadBack
 pub mod WrittenBytes
+pub mod Again
+pub mod Lend
+pub mod Turns
+pub mod Flat
+pub mod Begun
+pub mod Calls
+pub mod Writes
+pub mod Stores

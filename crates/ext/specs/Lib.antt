@@ -6,4 +6,5 @@ pub mod Bytewise
 pub mod Find
 pub mod Write
 pub mod Steps
+pub mod Left
 pub mod Ceiling

@@ -1,6 +1,6 @@
 -- Pairs to be written, one at a time: a step that checks one and a step that puts one, and what a run of each over all lengths comes to. Both
 -- steps are total, so that a run needs no condition; `proofs/Checks` and `proofs/Puts` say what the runs come to.
-use Prim.Native.Nat.{ℕ, _+_, _≤_, _<_}
+use Prim.Native.Nat.{ℕ, _+_, _/_, _≤_, _<_}
 use mathlib.Core.Path.{_≡_}
 use mathlib.Core.Bool.{Bool, false, _&&_}
 use mathlib.Core.List.{List, [], _∷_, _++_}
@@ -21,6 +21,9 @@ abbrev pub fieldsLength : FieldsCheck → Answer ℕ
 fieldsLength (Length n) = gives n
 fieldsLength (FieldsCheck.Refused e) = refusal e
 
+abbrev pub refusedWith : ℕ → FieldsCheck
+refusedWith code = FieldsCheck.Refused (record { code = code; offset = 0 })
+
 -- the pair whose identifier of i bytes starts at an offset of the text, before its value of v bytes
 abbrev pub lentPair : List ℕ → ℕ → ℕ → ℕ → Pair
 lentPair text at i v = record { identifier = take i (drop at text); value = take v (drop (at + i) text) }
@@ -37,10 +40,22 @@ checkStep strict text s i v =
     (record { at = s .at + i + v; code = if (eqb (s .code) 0) (codeOf (checkPair strict (lentPair text (s .at) i v))) (s .code) })
     (record { at = s .at; code = 31 })
 
+abbrev pub checkStart : PairsCheck
+checkStart = record { at = 0; code = 0 }
+
 unfoldable pub checkPairs : Bool → List ℕ → List ℕ → PairsCheck → PairsCheck
 checkPairs strict text [] s = s
 checkPairs strict text (i ∷ []) s = checkStep strict text s i 0
 checkPairs strict text (i ∷ v ∷ lengths) s = checkPairs strict text lengths (checkStep strict text s i v)
+
+-- What the end of a run says of a text of so many bytes and so many lengths: "31, 23", then the first pair's refusal; accepted pairs have a
+-- header byte more each.
+abbrev pub pairsLength : ℕ → ℕ → PairsCheck → FieldsCheck
+pairsLength size number s =
+    if (eqb (s .at) size)
+    (if (eqb number 0) (refusedWith 23)
+    (if (eqb (s .code) 0) (Length (size + number / 2)) (refusedWith (s .code))))
+    (refusedWith 31)
 
 -- whether a pair can be put: its lengths have room in a header byte, and its bytes in the text and in the output
 unfoldable pub canPut : List ℕ → List ℕ → PairsPut → ℕ → ℕ → Bool
@@ -49,6 +64,9 @@ canPut text out s i v = leb i 7 && leb v 15 && leb (s .at + i + v) (length text)
 -- where the next pair stands in the text and goes in the output; where this one cannot be put, nothing changes
 unfoldable pub putStep : List ℕ → List ℕ → PairsPut → ℕ → ℕ → PairsPut
 putStep text out s i v = if (canPut text out s i v) (record { at = s .at + i + v; to = s .to + 1 + i + v }) s
+
+abbrev pub putStart : ℕ → PairsPut
+putStart to = record { at = 0; to = to }
 
 unfoldable pub putOutput : List ℕ → List ℕ → PairsPut → ℕ → ℕ → Bool → List ℕ
 putOutput text out s i v more = if (canPut text out s i v) (sets out (s .to) (pairBytes more (lentPair text (s .at) i v))) out
@@ -72,16 +90,3 @@ Small s = (k : ℕ) → k < length s → getD s k 0 < 128
 unfoldable pub continued : List ℕ → List ℕ
 continued [] = []
 continued (o ∷ os) = (if (ltb 0 (length os)) 128 0 + o) ∷ continued os
-
--- fields that are accepted, and an output that has room for them
-pub record Roomy (kind : ℕ) (text lengths out : List ℕ) : Type 0 where
-  pub strict : Bool
-  pub bytes : List ℕ
-  pub accepted : lentBytes strict kind text lengths ≡ gives bytes
-  pub fits : length bytes ≤ length out
-
--- the output after accepted fields were put at its front
-abbrev pub Puts : ℕ → List ℕ → List ℕ → List ℕ → List ℕ → Type 0
-Puts kind text lengths old new =
-    (strict : Bool) (bytes : List ℕ) → lentBytes strict kind text lengths ≡ gives bytes → length bytes ≤ length old
-    → new ≡ bytes ++ drop (length bytes) old

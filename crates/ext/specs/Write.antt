@@ -19,6 +19,11 @@ octetsBytes [] = refuses 23 0
 octetsBytes (o ∷ []) = if (ltb o 128) (gives (o ∷ [])) (refuses 24 0)
 octetsBytes (o ∷ o′ ∷ os) = if (ltb o 128) (map (λ bytes. (128 + o) ∷ bytes) (octetsBytes (o′ ∷ os))) (refuses 24 0)
 
+-- kinds 01 and 10: the first of the lent octets
+unfoldable pub octetBytes : List ℕ → Answer (List ℕ)
+octetBytes [] = refuses 23 0
+octetBytes (octet ∷ _) = gives (octet ∷ [])
+
 -- a pair to be written: "lengths outside 1-7 and 1-15 are 11 and 12"
 unfoldable pub checkPair : Bool → Pair → Answer (Unit {0})
 checkPair strict p =
@@ -53,6 +58,11 @@ cutPairs [] text = []
 cutPairs (i ∷ []) text = record { identifier = take i text; value = [] } ∷ []
 cutPairs (i ∷ v ∷ lengths) text =
     record { identifier = take i text; value = take v (drop i text) } ∷ cutPairs lengths (drop (i + v) text)
+
+-- Pairs lent as records: two lengths each.
+abbrev pub flattened : List Parameter → List ℕ
+flattened [] = []
+flattened (p ∷ ps) = p .«identifier_len» ∷ p .«value_len» ∷ flattened ps
 
 unfoldable pub sum : List ℕ → ℕ
 sum [] = 0

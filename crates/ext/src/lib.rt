@@ -6,6 +6,7 @@ ghost use Rattle.ext.specs.Kinds.{kindNumber, SplitFix};
 mod class;
 pub mod find;
 mod pairs;
+mod parameters;
 mod read;
 mod validate;
 mod write;
@@ -13,11 +14,17 @@ mod write;
 pub use class::is_rfc2234_alpha_digit;
 pub use class::is_rfc2234_char;
 use error::WbmpError;
-pub use pairs::check_pair;
-pub use pairs::put_pair;
+use error::Written;
+pub use parameters::check_parameters;
+pub use parameters::put_parameters;
+pub use parameters::write_ext_fields;
+pub use parameters::write_ext_fields_strict;
 pub use read::parse_ext_fields;
 pub use read::parse_ext_fields_strict;
-pub use write::check_ext_fields_lengths;
+pub use write::begin_fields;
+pub use write::check_fields;
+pub use write::check_lengths;
+pub use write::put_lengths;
 pub use write::write_ext_fields_lengths;
 pub use write::write_ext_fields_lengths_strict;
 
@@ -118,4 +125,10 @@ pub struct PairsCheck {
 pub struct PairsPut {
     pub at: usize,
     pub to: usize,
+}
+
+// Fields begun: all but the pairs is written. The first pair goes to `to`, which is the output's end where none is left to put; `answer` is the writer's.
+pub struct PairsBegun {
+    pub to: usize,
+    pub answer: Written,
 }

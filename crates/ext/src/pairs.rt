@@ -1,16 +1,24 @@
 // Pairs to be written, one at a time. Both steps ask nothing: what cannot be checked is refused, and what cannot be put is left.
+use crate::FieldsCheck;
 use crate::PairsCheck;
 use crate::PairsPut;
 use crate::validate::check_parameter;
 use error::Checked;
-ghost use Prim.Native.Nat.{_+_, _*_, _≤_};
+use error::WbmpError;
+ghost use Prim.Native.Nat.{_+_, _*_, _≤_, _<_, _^_};
 ghost use mathlib.Core.Path.{_≡_};
 ghost use lib.ListN.{length, take, drop, getD};
 ghost use lib.Seq.{sets};
 ghost use Rattle.error.specs.Choice.{if};
-ghost use Rattle.ext.specs.Steps.{checkStep, checkPairs, putStep, putOutput, putPairs};
+ghost use Rattle.ext.specs.Steps.{checkStart, checkStep, checkPairs, pairsLength, putStart, putStep, putOutput, putPairs};
 
-pub fn check_pair(
+pub(crate) fn check_start() -> PairsCheck
+    ensures { λ r. ⌜ r ≡ checkStart ⌝ }
+{
+    PairsCheck { at: 0, code: 0 }
+}
+
+pub(crate) fn check_pair(
     text: &[u8],
     s: PairsCheck,
     identifier_len: usize,
@@ -55,10 +63,10 @@ fn length_at(lengths: &[usize], k: usize) -> usize
     if k < lengths.len() { lengths[k] } else { 0 }
 }
 
-pub fn check_pairs(text: &[u8], lengths: &[usize], strict: bool) -> PairsCheck
-    ensures { λ r. ⌜ r ≡ checkPairs strict (now (text .entry)) (now (lengths .entry)) (record { at = 0; code = 0 }) ⌝ }
+pub(crate) fn check_pairs(text: &[u8], lengths: &[usize], strict: bool) -> PairsCheck
+    ensures { λ r. ⌜ r ≡ checkPairs strict (now (text .entry)) (now (lengths .entry)) checkStart ⌝ }
 {
-    let mut s = PairsCheck { at: 0, code: 0 };
+    let mut s = check_start();
     let mut k = 0;
     while k < lengths.len() {
         s = check_pair(
@@ -71,6 +79,31 @@ pub fn check_pairs(text: &[u8], lengths: &[usize], strict: bool) -> PairsCheck
         k += 2;
     }
     s
+}
+
+// What the end of a run of checks says of a text of `size` bytes and so many lengths: how many bytes the pairs are, or why they are refused.
+pub(crate) fn pairs_length(size: usize, number: usize, s: PairsCheck) -> FieldsCheck
+    requires { ⌜ size + number < 2 ^ 64 ⌝ }
+    ensures { λ r. ⌜ r ≡ pairsLength size number s ⌝ }
+{
+    let at = s.at;
+    let first = s.code;
+    if at != size {
+        return pairs_refused(error::PAIR_LENGTHS);
+    }
+    if number == 0 {
+        return pairs_refused(error::FIELDS_EMPTY);
+    }
+    if first != 0 {
+        return pairs_refused(first);
+    }
+    FieldsCheck::Length(size + number / 2)
+}
+
+fn pairs_refused(code: u8) -> FieldsCheck
+    ensures { λ r. ⌜ r ≡ FieldsCheck.Refused (record { code = code; offset = 0 }) ⌝ }
+{
+    FieldsCheck::Refused(WbmpError { code, offset: 0 })
 }
 
 fn pair_header(identifier_len: usize, value_len: usize, more: bool) -> u8
@@ -93,7 +126,13 @@ fn copy(text: &[u8], at: usize, len: usize, out: &mut [u8], to: usize)
     }
 }
 
-pub fn put_pair(
+pub(crate) fn put_start(to: usize) -> PairsPut
+    ensures { λ r. ⌜ r ≡ putStart to ⌝ }
+{
+    PairsPut { at: 0, to }
+}
+
+pub(crate) fn put_pair(
     text: &[u8],
     s: PairsPut,
     identifier_len: usize,
@@ -133,10 +172,11 @@ pub fn put_pair(
     }
 }
 
-pub fn put_pairs(text: &[u8], lengths: &[usize], out: &mut [u8])
-    ensures { λ r. ⌜ now (out .exit) ≡ putPairs (now (text .entry)) (now (lengths .entry)) (now (out .entry)) (record { at = 0; to = 0 }) ⌝ }
+// From an offset of the output on.
+pub(crate) fn put_pairs(text: &[u8], lengths: &[usize], to: usize, out: &mut [u8])
+    ensures { λ r. ⌜ now (out .exit) ≡ putPairs (now (text .entry)) (now (lengths .entry)) (now (out .entry)) (putStart to) ⌝ }
 {
-    let mut s = PairsPut { at: 0, to: 0 };
+    let mut s = put_start(to);
     let mut k = 0;
     while k < lengths.len() {
         let identifier_len = length_at(lengths, k);

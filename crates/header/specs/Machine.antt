@@ -34,6 +34,18 @@ pub data State : Type 0 where
 abbrev pub start : State
 start = inType 0 0 0
 
+-- whether the next byte is one of the fields
+abbrev pub inFields : State → Bool
+inFields (inType at v n) = false
+inFields (atFix at) = false
+inFields (inOctets fix start at) = true
+inFields (atOctet fix at) = true
+inFields (atPair fix start at pairs) = true
+inFields (inIdentifier fix start at pairs begun left size again fault) = true
+inFields (inValue fix start at pairs begun left again fault) = true
+inFields (inWidth fix f at v n) = false
+inFields (inHeight fix f w at v n) = false
+
 -- fields that stand from `start` to `end`
 abbrev pub found : ℕ → ℕ → ℕ → ℕ → Span
 found fix start end pairs = span (kindBits fix) start (end - start) pairs

@@ -1,11 +1,8 @@
 -- Writing a header (document 01, header.rs and "Refused").
-use Prim.Native.Nat.{ℕ, _+_, _*_, _≤_}
-use mathlib.Core.Path.{_≡_}
+use Prim.Native.Nat.{ℕ, _+_, _*_}
 use mathlib.Core.Bool.{Bool, _||_}
 use mathlib.Core.List.{List, [], _∷_, _++_}
 use lib.Dec.{eqb}
-use lib.ListN.{length}
-use lib.Seq.{sets}
 use Rattle.error.specs.Choice.{if}
 use Rattle.error.specs.Answer.{Answer, gives, refuses, bind, map}
 use Rattle.mbi.specs.Bytes.{mbiBytes}
@@ -49,7 +46,3 @@ lentHeader strict width height kind text lengths = bind (lentFields kind text le
 abbrev pub extHeader : Bool → ℕ → ℕ → ExtPresence → List ℕ → List ℕ → Answer (List ℕ)
 extHeader strict width height presence text lengths =
     if (eqb width 0 || eqb height 0) (refuses 8 0) (bind (presented presence text lengths) (fieldsHeader strict width height))
-
--- a list with what `a` gives stored from index 2 on, where that has room
-abbrev pub PutsAt2 : Answer (List ℕ) → List ℕ → List ℕ → Type 0
-PutsAt2 a old new = (bytes : List ℕ) → a ≡ gives bytes → 2 + length bytes ≤ length old → new ≡ sets old 2 bytes

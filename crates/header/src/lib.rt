@@ -16,7 +16,9 @@ pub use read::parse_header_inner;
 pub use read::parse_header_mode;
 pub use reader::HeaderReader;
 pub use reader::HeaderStep;
+pub use write::begin_header;
 pub use write::write_header;
+pub use write::write_header_ext;
 pub use write::write_header_ext_lengths;
 
 // What a header reader demands and honours. Each reader of the Rust is one choice of these.

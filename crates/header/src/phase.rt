@@ -20,7 +20,7 @@ ghost use mathlib.Core.Path.{_≡_};
 ghost use mathlib.Core.List.{[]};
 ghost use Rattle.error.specs.Answer.{refusal};
 ghost use Rattle.header.specs.Settings.{Settings, settings};
-ghost use Rattle.header.specs.Machine.{resume, stepOf};
+ghost use Rattle.header.specs.Machine.{inFields, resume, stepOf};
 ghost use Rattle.header.specs.Represents.{state};
 ghost use Rattle.header.specs.Phase.{moved, IntegerBound, FieldsBound, Bounded, Tells};
 
@@ -140,6 +140,23 @@ impl Phase {
             } => fields_within(start, at, pairs),
             Phase::InWidth { at, count, .. } => integer_within(at, count),
             Phase::InHeight { at, count, .. } => integer_within(at, count),
+        }
+    }
+
+    // Whether the next byte is one of the extension fields.
+    pub(crate) fn in_fields(self) -> bool
+        ensures { λ r. ⌜ r ≡ inFields (state self) ⌝ }
+    {
+        match self {
+            Phase::InType { .. } => false,
+            Phase::AtFix { .. } => false,
+            Phase::InOctets { .. } => true,
+            Phase::AtOctet { .. } => true,
+            Phase::AtPair { .. } => true,
+            Phase::InIdentifier { .. } => true,
+            Phase::InValue { .. } => true,
+            Phase::InWidth { .. } => false,
+            Phase::InHeight { .. } => false,
         }
     }
 

@@ -4,8 +4,9 @@ use crate::ParsedHeader;
 use crate::phase::Phase;
 use crate::phase::PhaseStep;
 use error::WbmpError;
-ghost use Rattle.header.specs.Settings.{settings};
-ghost use Rattle.header.specs.Machine.{start};
+ghost use mathlib.Core.Path.{_≡_};
+ghost use Rattle.header.specs.Settings.{Settings, settings};
+ghost use Rattle.header.specs.Machine.{State, start, inFields};
 ghost use Rattle.header.specs.Represents.{Represents, Stepped, Ended};
 
 pub struct HeaderReader {
@@ -47,6 +48,14 @@ impl HeaderReader {
         } else {
             HeaderStep::More(self)
         }
+    }
+
+    // Whether the next byte is one of the extension fields.
+    pub fn in_fields(self) -> bool
+        ensures { λ r. ⌜ ((o : Settings) (st : State) → Represents self o st → r ≡ inFields st) ⌝ }
+    {
+        let phase = self.phase;
+        phase.in_fields()
     }
 
     // The input ends before the header does.

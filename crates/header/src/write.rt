@@ -6,6 +6,8 @@ use error::Written;
 use error::ZERO_DIMENSION;
 use ext::ExtFieldType;
 use ext::FieldsCheck;
+use ext::PairsBegun;
+use ext::Parameter;
 ghost use mathlib.Core.Path.{_≡_};
 ghost use mathlib.Core.List.{_++_};
 ghost use Prim.Native.Nat.{_+_, _*_, _≤_};
@@ -14,9 +16,10 @@ ghost use lib.Seq.{sets};
 ghost use Rattle.error.specs.Answer.{written};
 ghost use Rattle.error.specs.Emits.{Emits};
 ghost use Rattle.mbi.specs.Bytes.{mbiBytes};
-ghost use Rattle.header.specs.Write.{plainHeader, sizeBytes, lentHeader, extHeader, PutsAt2};
+ghost use Rattle.header.specs.Write.{plainHeader, sizeBytes, extHeader};
+ghost use Rattle.header.specs.Begin.{BeginsLent, BeginsHeader};
 ghost use Rattle.ext.specs.Kinds.{kindNumber};
-ghost use Rattle.ext.specs.Write.{lentBytes};
+ghost use Rattle.ext.specs.Write.{flattened};
 
 // The bytes of both sizes.
 fn sizes_len(width: u32, height: u32) -> usize
@@ -87,50 +90,80 @@ fn fix_byte(ext_type: ExtFieldType) -> u8
     }
 }
 
-// The fields, from index 2 on.
-fn put_fields(ext_type: ExtFieldType, text: &[u8], lengths: &[usize], strict: bool, out: &mut [u8])
-    requires { ⌜ 2 ≤ length (now out) ⌝ }
-    ensures { λ r. ⌜ PutsAt2 (lentBytes strict (kindNumber «ext_type») (now (text .entry)) (now (lengths .entry))) (now (out .entry)) (now (out .exit)) ⌝ }
+// A refusal, where no pairs are left to put in an output of so many bytes.
+fn none_begun(to: usize, answer: Written) -> PairsBegun
+    ensures { λ r. ⌜ r ≡ record { to = to; answer = answer } ⌝ }
 {
-    if strict {
-        ext::write_ext_fields_lengths_strict(ext_type, text, lengths, &mut out[2..]);
-    } else {
-        ext::write_ext_fields_lengths(ext_type, text, lengths, &mut out[2..]);
-    }
+    PairsBegun { to, answer }
 }
 
-// A header with fields of a kind: all is checked before anything is written.
-fn write_fields_header(
+// A header with fields of a kind, up to their pairs: all is checked before anything is written.
+fn begin_fields_header(
     width: u32,
     height: u32,
     ext_type: ExtFieldType,
     text: &[u8],
-    lengths: &[usize],
-    strict: bool,
+    found: FieldsCheck,
     out: &mut [u8],
-) -> Written
-    ensures { λ r. ⌜ Emits (lentHeader strict width height (kindNumber «ext_type») (now (text .entry)) (now (lengths .entry))) (written r) (now (out .entry)) (now (out .exit)) ⌝ }
+) -> PairsBegun
+    ensures { λ r. ⌜ BeginsLent width height (kindNumber «ext_type») (now (text .entry)) found (now (out .entry)) (now (out .exit)) r ⌝ }
 {
-    match ext::check_ext_fields_lengths(ext_type, text, lengths, strict) {
+    match ext::check_fields(ext_type, text, found) {
         FieldsCheck::Length(len) => {
             let around = 2 + sizes_len(width, height);
             if out.len() < around {
-                return too_short();
+                return none_begun(out.len(), too_short());
             }
             if out.len() - around < len {
-                return too_short();
+                return none_begun(out.len(), too_short());
             }
             out[0] = 0;
             out[1] = fix_byte(ext_type);
-            put_fields(ext_type, text, lengths, strict, out);
             put_sizes(width, height, out, 2 + len);
-            Written::Bytes(around + len)
+            let begun = ext::begin_fields(ext_type, text, found, &mut out[2..]);
+            PairsBegun {
+                to: 2 + begun.to,
+                answer: Written::Bytes(around + len),
+            }
         }
-        FieldsCheck::Refused(e) => Written::Refused(e),
+        FieldsCheck::Refused(e) => none_begun(out.len(), Written::Refused(e)),
     }
 }
 
-// A header of sizes that are not 0, with the lent fields or none.
+// A header of sizes that are not 0, with the lent fields or none, up to their pairs, which were checked before.
+pub fn begin_header(
+    width: u32,
+    height: u32,
+    ext: ExtPresence,
+    text: &[u8],
+    found: FieldsCheck,
+    out: &mut [u8],
+) -> PairsBegun
+    ensures { λ r. ⌜ BeginsHeader width height ext (now (text .entry)) found (now (out .entry)) (now (out .exit)) r ⌝ }
+{
+    if width == 0 {
+        return none_begun(out.len(), zero_dimension());
+    }
+    if height == 0 {
+        return none_begun(out.len(), zero_dimension());
+    }
+    match ext {
+        ExtPresence::Absent => {
+            let answer = write_header(width, height, out);
+            none_begun(out.len(), answer)
+        }
+        ExtPresence::Present(ext_type) => begin_fields_header(
+            width,
+            height,
+            ext_type,
+            text,
+            found,
+            out,
+        ),
+    }
+}
+
+// A header whose fields are lent with the lengths of their pairs as numbers.
 pub fn write_header_ext_lengths(
     width: u32,
     height: u32,
@@ -142,22 +175,24 @@ pub fn write_header_ext_lengths(
 ) -> Written
     ensures { λ r. ⌜ Emits (extHeader strict width height ext (now (text .entry)) (now (lengths .entry))) (written r) (now (out .entry)) (now (out .exit)) ⌝ }
 {
-    if width == 0 {
-        return zero_dimension();
-    }
-    if height == 0 {
-        return zero_dimension();
-    }
-    match ext {
-        ExtPresence::Absent => write_header(width, height, out),
-        ExtPresence::Present(ext_type) => write_fields_header(
-            width,
-            height,
-            ext_type,
-            text,
-            lengths,
-            strict,
-            out,
-        ),
-    }
+    let found = ext::check_lengths(text, lengths, strict);
+    let begun = begin_header(width, height, ext, text, found, &mut *out);
+    ext::put_lengths(text, lengths, begun, out)
+}
+
+// A header whose fields are lent with their pairs as records.
+pub fn write_header_ext(
+    width: u32,
+    height: u32,
+    ext: ExtPresence,
+    text: &[u8],
+    parameters: &[Parameter],
+    strict: bool,
+    out: &mut [u8],
+) -> Written
+    ensures { λ r. ⌜ Emits (extHeader strict width height ext (now (text .entry)) (flattened (now (parameters .entry)))) (written r) (now (out .entry)) (now (out .exit)) ⌝ }
+{
+    let found = ext::check_parameters(text, parameters, strict);
+    let begun = begin_header(width, height, ext, text, found, &mut *out);
+    ext::put_parameters(text, parameters, begun, out)
 }

@@ -1,15 +1,14 @@
 -- Limits that a value meets, and that one more passes.
 use mathlib.Core.Path.{_≡_, refl}
-use mathlib.Core.Bool.{false}
 use Rattle.error.specs.Answer.{gives, refuses}
 use Rattle.image.specs.declared.PixelFormat.the-variants.{MonoBlack}
-use Rattle.options.specs.Limits.{absent, atMost, Decoding, checkLimits}
+use Rattle.options.specs.Limits.{absent, atMost, lenient, Decoding, checkLimits}
 use Rattle.options.specs.Settings.{defaults, withMaxPixels}
 use Rattle.options.proofs.Settled.{settings}
 
 -- 9 by 2 dots in 4 bytes
 abbrev small : Decoding
-small = settings (atMost 9) (atMost 2) absent (atMost 4) false MonoBlack
+small = settings (atMost 9) (atMost 2) absent (atMost 4) lenient MonoBlack
 
 met : checkLimits small 9 2 4 7 ≡ gives tt
 unfolding checkLimits

@@ -1,3 +1,4 @@
 pub mod Limited
 pub mod Settled
+pub mod Ceilings
 pub mod Examples

@@ -10,7 +10,7 @@ use image::PixelFormat;
 ghost use mathlib.Core.Path.{_≡_};
 ghost use mathlib.Core.Bool.{false};
 ghost use Rattle.error.specs.Answer.{checked, refuses};
-ghost use Rattle.options.specs.Limits.{admits, checkLimits, absent, atMost, bound, decoding};
+ghost use Rattle.options.specs.Limits.{admits, checkLimits, absent, atMost, bound, strictly, modeOf, decoding};
 ghost use Rattle.options.specs.Settings;
 
 pub mod limits;
@@ -44,6 +44,24 @@ impl Limit {
     }
 }
 
+// How the header of an image is read.
+pub enum DecodeMode {
+    Lenient,
+    Strict,
+}
+
+impl DecodeMode {
+    fn from_strict(strict: bool) -> DecodeMode
+        ensures { λ r. ⌜ modeOf r ≡ strictly strict ⌝ }
+    {
+        if strict {
+            DecodeMode::Strict
+        } else {
+            DecodeMode::Lenient
+        }
+    }
+}
+
 // The limits of reading, and how it goes.
 pub struct DecodeOptions {
     pub max_width: Limit,
@@ -51,7 +69,7 @@ pub struct DecodeOptions {
     pub max_pixels: Limit,
     // Bytes of one plane.
     pub max_bytes: Limit,
-    pub strict: bool,
+    pub mode: DecodeMode,
     // The format of the planes that are given.
     pub format: PixelFormat,
 }
@@ -66,7 +84,7 @@ impl DecodeOptions {
             max_height: Limit::absent(),
             max_pixels: Limit::absent(),
             max_bytes: Limit::at_most(1073741824),
-            strict: false,
+            mode: DecodeMode::Lenient,
             format: PixelFormat::MonoBlack,
         }
     }
@@ -99,10 +117,30 @@ impl DecodeOptions {
         self
     }
 
+    fn with_mode(mut self, mode: DecodeMode) -> DecodeOptions
+        ensures { λ r. ⌜ decoding r ≡ Settings.withMode (modeOf mode) (decoding self) ⌝ }
+    {
+        let max_width = self.max_width;
+        let max_height = self.max_height;
+        let max_pixels = self.max_pixels;
+        let max_bytes = self.max_bytes;
+        let format = self.format;
+        self = DecodeOptions {
+            max_width,
+            max_height,
+            max_pixels,
+            max_bytes,
+            mode,
+            format,
+        };
+        self
+    }
+
     pub fn with_strict(mut self, strict: bool) -> DecodeOptions
         ensures { λ r. ⌜ decoding r ≡ Settings.withStrict strict (decoding self) ⌝ }
     {
-        self.strict = strict;
+        let mode = DecodeMode::from_strict(strict);
+        self = self.with_mode(mode);
         self
     }
 
@@ -113,13 +151,13 @@ impl DecodeOptions {
         let max_height = self.max_height;
         let max_pixels = self.max_pixels;
         let max_bytes = self.max_bytes;
-        let strict = self.strict;
+        let mode = self.mode;
         self = DecodeOptions {
             max_width,
             max_height,
             max_pixels,
             max_bytes,
-            strict,
+            mode,
             format,
         };
         self

@@ -2,19 +2,22 @@
 -- Assumes nothing.
 use Prim.Native.Nat.{ℕ, zero, suc, _+_, _*_, _/_, _%_, _^_, _≤_, _<_}
 use mathlib.Core.Path.{_≡_, refl, sym, ap, _∙_, subst}
-use mathlib.Core.Logic.{⊎-elim, inr}
+use mathlib.Core.Bool.{Bool, true, false, _||_}
+use mathlib.Core.Logic.{_⊎_, inl, inr, ⊎-elim}
 use mathlib.Core.List.{List, [], _∷_}
 use native.Mathlib.Nat.{div-eq-of-lt, div-add-mod', mod-lt, mul-le-mul, mul-le-mul-left, mul-suc, mul-comm, mul-assoc, pow-suc}
 use native.Mathlib.Numerals.{add-one}
 use native.Mathlib.Omega.{arith}
 use lib.ListN.{length, take, set}
 use lib.Seq.{getD-take, take-suc-set}
-use lib.Dec.{leb}
-use borrow.Author.Tests.{le-leb, lt-leb}
+use lib.Dec.{leb, eqb}
+use borrow.Author.Tests.{eqb-true, le-leb, lt-leb}
 use Rattle.quantize.specs.Bits.{upto}
 use Rattle.quantize.specs.Ordered.{quarter, number, numbers, bound, cell}
-use Rattle.quantize.specs.Steps.{Known, Cell}
+use Rattle.quantize.specs.Asked.{knownSide}
+use Rattle.quantize.specs.Steps.{Cell}
 use Rattle.quantize.proofs.Differences.{lt-or-le}
+use Rattle.quantize.proofs.Signed.{never}
 
 -- ---- the quarters
 
@@ -114,8 +117,19 @@ table-right = refl
 
 -- ---- the rule
 
-pub known-small : (s : ℕ) → Known s → (0 < s) × (s ≤ 8)
-known-small s h = ⊎-elim (λ e. rw e (omega arith)) (λ h. ⊎-elim (λ e. rw e (omega arith)) (λ e. rw e (omega arith)) h) h
+or-three : (a b c : Bool) → (a || b || c) ≡ true → (a ≡ true) ⊎ ((b ≡ true) ⊎ (c ≡ true))
+or-three true b c e = inl refl
+or-three false true c e = inr (inl refl)
+or-three false false true e = inr (inr refl)
+or-three false false false e = never e
+
+pub known-side : (s : ℕ) → knownSide s ≡ true → (s ≡ 2) ⊎ ((s ≡ 4) ⊎ (s ≡ 8))
+known-side s e =
+    ⊎-elim (λ h. inl (eqb-true s 2 h)) (λ h. inr (⊎-elim (λ k. inl (eqb-true s 4 k)) (λ k. inr (eqb-true s 8 k)) h))
+    (or-three (eqb s 2) (eqb s 4) (eqb s 8) e)
+
+pub known-small : (s : ℕ) → knownSide s ≡ true → (0 < s) × (s ≤ 8)
+known-small s h = ⊎-elim (λ e. rw e (omega arith)) (λ h. ⊎-elim (λ e. rw e (omega arith)) (λ e. rw e (omega arith)) h) (known-side s h)
 
 pub index-lt : (s x y : ℕ) → 0 < s → s * (y % s) + x % s < s * s
 index-lt s x y p =
@@ -125,17 +139,17 @@ index-lt s x y p =
     omega arith
 
 -- THE PRODUCT FORM: a sample is white exactly if gray × side × side is at least 256 n + 128
-pub product-white : (s n g : ℕ) → Known s → 256 * n + 128 ≤ g * (s * s) → bound s n ≤ g
+pub product-white : (s n g : ℕ) → knownSide s ≡ true → 256 * n + 128 ≤ g * (s * s) → bound s n ≤ g
 unfolding bound
 product-white s n g h =
-    ⊎-elim (λ e. rw e (λ l. omega arith)) (λ h. ⊎-elim (λ e. rw e (λ l. omega arith)) (λ e. rw e (λ l. omega arith)) h) h
+    ⊎-elim (λ e. rw e (λ l. omega arith)) (λ h. ⊎-elim (λ e. rw e (λ l. omega arith)) (λ e. rw e (λ l. omega arith)) h) (known-side s h)
 
-pub product-black : (s n g : ℕ) → Known s → g * (s * s) < 256 * n + 128 → g < bound s n
+pub product-black : (s n g : ℕ) → knownSide s ≡ true → g * (s * s) < 256 * n + 128 → g < bound s n
 unfolding bound
 product-black s n g h =
-    ⊎-elim (λ e. rw e (λ l. omega arith)) (λ h. ⊎-elim (λ e. rw e (λ l. omega arith)) (λ e. rw e (λ l. omega arith)) h) h
+    ⊎-elim (λ e. rw e (λ l. omega arith)) (λ h. ⊎-elim (λ e. rw e (λ l. omega arith)) (λ e. rw e (λ l. omega arith)) h) (known-side s h)
 
-pub product-form : (s n g : ℕ) → Known s → leb (bound s n) g ≡ leb (256 * n + 128) (g * (s * s))
+pub product-form : (s n g : ℕ) → knownSide s ≡ true → leb (bound s n) g ≡ leb (256 * n + 128) (g * (s * s))
 product-form s n g h =
     ⊎-elim
     (λ l. lt-leb (bound s n) g (product-black s n g h l) ∙ sym (lt-leb (256 * n + 128) (g * (s * s)) l))
@@ -144,7 +158,7 @@ product-form s n g h =
 
 -- an example: at the number 0 of side 8, gray 2 is white (P11)
 two-white : leb (bound 8 0) 2 ≡ leb (256 * 0 + 128) (2 * (8 * 8))
-two-white = product-form 8 0 2 (inr (inr refl))
+two-white = product-form 8 0 2 refl
 
 -- only the table's front is looked at
 pub cell-front : (s : ℕ) (t : List ℕ) (x y : ℕ) → 0 < s → cell s (take (s * s) t) x y ≡ cell s t x y
@@ -158,7 +172,7 @@ take-more t i v f h e k = rw (add-one i, take-suc-set t i v h, e, k)
 pub area-le : (s : ℕ) → s ≤ 8 → s * s ≤ 64
 area-le s h = mul-le-mul {n₁ = s} {m₁ = s} {n₂ = 8} {m₂ = 8} h h
 
-pub index-small : (s x y : ℕ) → Known s → s * (y % s) + x % s < 64
+pub index-small : (s x y : ℕ) → knownSide s ≡ true → s * (y % s) + x % s < 64
 index-small s x y h =
     let k = known-small s h in
     omega (arith, index-lt s x y (k .0), area-le s (k .1))

@@ -9,9 +9,9 @@ use native.Mathlib.Omega.{arith}
 use borrow.Author.Tests.{le-leb, lt-leb}
 use Rattle.image.specs.Geometry.{rowBytes}
 use Rattle.laws.proofs.Tests.{if-true, if-false}
-use Rattle.quantize.specs.Finished.{Setting, count, most, takes}
+use Rattle.quantize.specs.Finished.{Setting, Bytewise, count, most, takes}
 use Rattle.quantize.specs.Place.{At}
-use Rattle.quantize.proofs.Places.{next-row, count-at, count-byte, count-row}
+use Rattle.quantize.proofs.Places.{next-row, begun-within, begun-up, count-at, count-rows, count-last, column-is, frame-row-is}
 
 count-up : (s : Setting) (n : ℕ) → 0 < s .width → count s n ≤ count s (n + 1)
 count-up s n p =
@@ -29,15 +29,17 @@ count-up s n p =
         (λ (k : c + 1 ≡ s .width).
         let e : q * s .width + c + 1 ≡ q * s .width + s .width = omega arith in
         let z : (q + 1) * rowBytes (s .width) ≡ q * rowBytes (s .width) + rowBytes (s .width) = rw (add-mul, one-mul) in
-        let b = count-at s (q + 1) 0 p in
+        let b = count-rows s (q + 1) p in
+        let u = begun-within (s .rule) (s .width) (q % s .height) c h in
         rw (e, next-row (s .width) q) (omega arith))
         (λ (k : c + 1 < s .width).
         let e : q * s .width + c + 1 ≡ q * s .width + (c + 1) = omega arith in
         let b = count-at s q (c + 1) k in
+        let u = begun-up (s .rule) (q % s .height) c in
         rw e (omega arith))
         (eq-or-lt-of-le (omega arith))
 
-count-mono : (s : Setting) (n k : ℕ) → 0 < s .width → count s n ≤ count s (n + k)
+pub count-mono : (s : Setting) (n k : ℕ) → 0 < s .width → count s n ≤ count s (n + k)
 count-mono s n zero p = rw add-zero (omega arith)
 count-mono s n (suc k) p =
     let e : n + suc k ≡ n + k + 1 = omega arith in
@@ -106,14 +108,10 @@ takes-all s n samples room taken frames row column a h f why =
     (λ k. ⊎-elim (λ l. inl (omega arith)) (λ b. inr b) k)
     why)
 
--- the next sample would finish a byte
-pub next-byte : (s : Setting) (n frames row column : ℕ) → At s n frames row column → 0 < frames → (column + 1 ≡ s .width) ⊎ (column % 8 ≡ 7) → count s (n + 1) ≡ count s n + 1
-next-byte s n frames row column a l h =
-    let i = a .inRow in
-    ⊎-elim
-    (λ e. count-row s n frames row column a 1 l e (omega arith) (omega arith))
-    (λ e. ⊎-elim
-    (λ (k : column + 1 ≡ s .width). count-row s n frames row column a 1 l k (omega arith) (omega arith))
-    (λ (k : column + 1 < s .width). count-byte s n frames row column a 1 l k (omega arith) (omega arith))
-    (eq-or-lt-of-le (omega arith)))
-    h
+-- where the row is finished byte after byte, the next sample would finish one
+pub next-byte : (s : Setting) (n frames row column : ℕ) → At s n frames row column → Bytewise (s .rule) row → (column + 1 ≡ s .width) ⊎ (column % 8 ≡ 7) → count s (n + 1) ≡ count s n + 1
+next-byte s n frames row column a b h =
+    let c = column-is s n frames row column a in
+    let wide : 0 < s .width = let i = a .inRow in omega arith in
+    count-last s n wide (subst (λ (y : ℕ). Bytewise (s .rule) y) (sym (frame-row-is s n frames row column a)) b)
+    (⊎-elim (λ (e : column + 1 ≡ s .width). inl (omega arith)) (λ (e : column % 8 ≡ 7). inr (rw c (omega arith))) h)

@@ -2,10 +2,13 @@
 -- Assumes nothing.
 use Prim.Native.Nat.{ℕ, zero, suc, _+_, _*_, _≤_}
 use mathlib.Core.Path.{_≡_, refl, sym, ap, _∙_, subst}
+use mathlib.Core.Bool.{Bool, true}
 use mathlib.Core.List.{List}
+use borrow.Author.Tests.{leb-true}
 use lib.IntN.{ℤ}
 use lib.Dec.{leb}
 use lib.ListN.{length, getD, take}
+use Rattle.error.specs.Choice.{if}
 use Rattle.options.specs.declared.Quantize.{Quantize}
 use Rattle.options.specs.declared.Quantize.the-variants.{Threshold, Dither, Ordered}
 use Rattle.quantize.specs.declared.dither.Dithered.{Dithered}
@@ -13,7 +16,8 @@ use Rattle.quantize.specs.Bits.{bit, appended}
 use Rattle.quantize.specs.Ordered.{bound}
 use Rattle.quantize.specs.Rule.{threshold, ordered}
 use Rattle.quantize.specs.Machine.{Carry, machineDot, next}
-use Rattle.quantize.specs.Steps.{rowCarry, rowBit, thresholdBit, orderedBit, Known, Served, carryOf, Diffuses, Dotted}
+use Rattle.quantize.specs.Steps.{rowCarry, rowBit, thresholdBit, orderedBit, ruleOf, carryOf, Diffuses, Dotted}
+use Rattle.quantize.specs.Asked.{meaning, knownSide, knownRule, carries, roomy, Served}
 use Rattle.quantize.proofs.Appending.{appended-ext}
 use Rattle.quantize.proofs.Cells.{known-small, cell-front}
 
@@ -32,7 +36,7 @@ module _ (w y x : ℕ) (gray : List ℕ) (c : Carry) where
   unfolding rowBit machineDot
   threshold-bit t i = refl
 
-  ordered-bit : (side : ℕ) (table : List ℕ) → Known side → (i : ℕ) → rowBit (ordered side (take (side * side) table)) w y x gray c i ≡ orderedBit side table y x gray i
+  ordered-bit : (side : ℕ) (table : List ℕ) → knownSide side ≡ true → (i : ℕ) → rowBit (ordered side (take (side * side) table)) w y x gray c i ≡ orderedBit side table y x gray i
   unfolding rowBit machineDot
   ordered-bit side table h i =
       ap (λ (n : ℕ). bit (leb (bound side n) (getD gray i 0))) (cell-front side table (x + i) y (known-small side h .0))
@@ -54,7 +58,7 @@ module _ (rule : Quantize) (table : List ℕ) (w y x : ℕ) (gray : List ℕ) (b
   dots-dither r work′ e d =
       subst (λ (x : Quantize). Gives x (r .digits) (r .corner) work′) (sym e) (record { digits = d .digits; carry = d .carry; small = d .small })
 
-  pub dots-ordered : (side digits : ℕ) → rule ≡ Ordered side → Known side → corner ≤ 256 → digits ≡ appended begun (orderedBit side table y x gray) (length gray) → Gives rule digits corner work
+  pub dots-ordered : (side digits : ℕ) → rule ≡ Ordered side → knownSide side ≡ true → corner ≤ 256 → digits ≡ appended begun (orderedBit side table y x gray) (length gray) → Gives rule digits corner work
   dots-ordered side digits e k h g =
       let t = take (side * side) table in
       subst (λ (r : Quantize). Gives r digits corner work) (sym e)
@@ -66,7 +70,16 @@ module _ (rule : Quantize) (table : List ℕ) (w y x : ℕ) (gray : List ℕ) (b
 
 -- what the rule needs, once it is known
 pub served-dither : (rule : Quantize) (w work : ℕ) → rule ≡ Dither → Served rule w work → 2 * w ≤ work
-served-dither rule w work e s = subst (λ (r : Quantize). Served r w work) e s
+served-dither rule w work e s = leb-true (2 * w) work (subst (λ (r : Quantize). roomy (meaning r) w work ≡ true) e (s .room))
 
-pub served-ordered : (rule : Quantize) (w work side : ℕ) → rule ≡ Ordered side → Served rule w work → Known side
-served-ordered rule w work side e s = subst (λ (r : Quantize). Served r w work) e s
+pub served-ordered : (rule : Quantize) (w work side : ℕ) → rule ≡ Ordered side → Served rule w work → knownSide side ≡ true
+served-ordered rule w work side e s = subst (λ (r : Quantize). knownRule r ≡ true) e (s .known)
+
+-- with whatever table
+pub carries-same : (rule : Quantize) (table : List ℕ) → carries (ruleOf rule table) ≡ carries (meaning rule)
+carries-same (Threshold t) table = refl
+carries-same Dither table = refl
+carries-same (Ordered side) table = refl
+
+pub roomy-same : (rule : Quantize) (table : List ℕ) (w work : ℕ) → roomy (ruleOf rule table) w work ≡ roomy (meaning rule) w work
+roomy-same rule table w work = ap (λ (b : Bool). if b (leb (2 * w) work) true) (carries-same rule table)

@@ -1,13 +1,12 @@
--- A list whose first elements have become a function's values.
+-- Lists of a function's values.
 -- Assumes nothing.
 use Prim.Native.Nat.{ℕ, zero, suc, _+_, _<_}
 use mathlib.Core.Path.{_≡_, refl, sym, ap, _∙_}
-use mathlib.Core.List.{List, [], _∷_, _++_, append-assoc, append-nil}
+use mathlib.Core.List.{[], _∷_, _++_, append-assoc, append-nil}
 use native.Mathlib.Nat.{add-zero, add-suc}
 use native.Mathlib.Numerals.{add-one}
 use native.Mathlib.Omega.{arith}
-use lib.ListN.{length, getD, set, drop, length-append}
-use lib.Seq.{drop-cons, set-at, append-snoc, drop-at}
+use lib.ListN.{length, length-append}
 use Rattle.quantize.specs.Bits.{upto}
 
 module _ {A : Type 0} (f : ℕ → A) where
@@ -15,15 +14,6 @@ module _ {A : Type 0} (f : ℕ → A) where
   unfolding upto
   length-upto zero = refl
   length-upto (suc n) = length-append (upto n f) (f n ∷ []) ∙ ap (λ (m : ℕ). m + 1) (length-upto n) ∙ add-one n
-
-  pub grown-set : (l l₀ : List A) (x : ℕ) → l ≡ upto x f ++ drop x l₀ → (d a : A) → x < length l₀ → a ≡ f x → set l x a ≡ upto (x + 1) f ++ drop (x + 1) l₀
-  unfolding upto
-  grown-set l l₀ x e d a h k =
-      rw (add-one x)
-      (ap (λ (s : List A). set s x a) (e ∙ ap (λ (s : List A). upto x f ++ s) (drop-cons l₀ x d h))
-      ∙ set-at (upto x f) (getD l₀ x d) (drop (suc x) l₀) a x (length-upto x)
-      ∙ sym (append-snoc (upto x f) a (drop (suc x) l₀))
-      ∙ ap (λ (b : A). (upto x f ++ (b ∷ [])) ++ drop (suc x) l₀) k)
 
   pub upto-ext : (g : ℕ → A) (n : ℕ) → ((i : ℕ) → i < n → f i ≡ g i) → upto n f ≡ upto n g
   unfolding upto
@@ -37,7 +27,3 @@ module _ {A : Type 0} (f : ℕ → A) where
   unfolding upto
   upto-add a zero = rw add-zero (sym (append-nil (upto a f)))
   upto-add a (suc n) = rw (add-suc, upto-add a n) (append-assoc (upto a f) (upto n (λ i. f (a + i))) (f (a + n) ∷ []))
-
-  -- what stands after the first a
-  pub drop-upto : (a n : ℕ) → drop a (upto (a + n) f) ≡ upto n (λ i. f (a + i))
-  drop-upto a n = ap (drop a) (upto-add a n) ∙ drop-at (upto a f) (upto n (λ i. f (a + i))) a (length-upto a)

@@ -3,9 +3,8 @@
 -- Assumes nothing.
 use Prim.Native.Nat.{ℕ, suc, _+_, _*_, _/_, _%_, _≤_, _<_}
 use mathlib.Core.Path.{_≡_, refl, sym, ap, _∙_, fun-ext}
-use mathlib.Core.Logic.{⊎-elim}
 use mathlib.Core.List.{List, [], _∷_, _++_}
-use native.Mathlib.Nat.{add-zero, mul-add-div-right, mul-add-mod-self-right, div-lt-iff-lt-mul, mul-le-mul-right}
+use native.Mathlib.Nat.{add-zero, mul-add-div-right, mul-add-mod-self-right}
 use native.Mathlib.Omega.{arith}
 use lib.Dec.{ltb}
 use lib.ListN.{length, getD, take, drop, length-append}
@@ -15,15 +14,12 @@ use Rattle.image.specs.Geometry.{rowBytes, planeBytes}
 use Rattle.options.specs.declared.Quantize.{Quantize}
 use Rattle.options.specs.declared.Quantize.the-variants.{Dither}
 use Rattle.quantize.specs.Bits.{upto}
-use Rattle.quantize.specs.Rule.{dot}
 use Rattle.quantize.specs.Finished.{Setting, count, frame, dotOf, bitAt, byteAt, finished}
 use Rattle.quantize.specs.Engine.{setting}
 use Rattle.quantize.proofs.Appending.{appended-ext}
-use Rattle.quantize.proofs.Packing.{bit-in, bit-past}
-use Rattle.quantize.proofs.Differences.{lt-or-le}
-use Rattle.quantize.proofs.Places.{count-at}
+use Rattle.quantize.proofs.Places.{count-rows}
 use Rattle.quantize.proofs.Grown.{length-upto, upto-ext, upto-add}
-use Rattle.quantize.proofs.Keeping.{dotOf-stays}
+use Rattle.quantize.proofs.Depending.{byte-counted}
 
 -- ---- the bytes of rows
 
@@ -38,25 +34,6 @@ module _ (w : ℕ) (wide : 0 < w) where
     where
       cell : (q c : ℕ) → (r + q) * w + c ≡ r * w + (q * w + c)
       cell q c = omega arith
-
-  -- those of the first n rows depend on these rows' dots
-  byte-of-rows : (d e : ℕ → ℕ) (n j : ℕ) → ((i : ℕ) → i < n * w → d i ≡ e i) → j < n * rowBytes w → byteAt w d j ≡ byteAt w e j
-  unfolding byteAt
-  byte-of-rows d e n j same l =
-      let p : 0 < rowBytes w = omega arith in
-      let q = j / rowBytes w in
-      let h : q < n = div-lt-iff-lt-mul {k = rowBytes w} {x = j} {y = n} p .1 l in
-      appended-ext 0 _ _ 8 (λ i m. at q (8 * (j % rowBytes w) + i) h)
-    where
-      at : (q c : ℕ) → q < n → bitAt w d q c ≡ bitAt w e q c
-      at q c h =
-          ⊎-elim
-          (λ (k : c < w).
-          let m : suc q * w ≤ n * w = mul-le-mul-right w h in
-          let u : suc q * w ≡ q * w + w = omega arith in
-          bit-in w d q c k ∙ same (q * w + c) (omega arith) ∙ sym (bit-in w e q c k))
-          (λ (k : w ≤ c). bit-past w d q c k ∙ sym (bit-past w e q c k))
-          (lt-or-le c w)
 
 -- ---- samples behind whole frames
 
@@ -86,7 +63,7 @@ module _ (s : Setting) (xs ys : List ℕ) (k : ℕ) (wide : 0 < s .width) (high 
       rw (mul-add-div-right wide (k * h) n, mul-add-mod-self-right (k * h) w n, mul-add-mod-self-right k h (n / w)) (omega arith)
 
   count-whole : count s (length xs) ≡ k * h * rowBytes w
-  count-whole = ap (count s) (whole ∙ sym (add-zero (k * h * w))) ∙ count-at s (k * h) 0 wide ∙ add-zero (k * h * rowBytes w)
+  count-whole = ap (count s) (whole ∙ sym (add-zero (k * h * w))) ∙ count-rows s (k * h) wide
 
   pub finished-behind : finished s (xs ++ ys) ≡ finished s xs ++ finished s ys
   unfolding finished
@@ -98,7 +75,7 @@ module _ (s : Setting) (xs ys : List ℕ) (k : ℕ) (wide : 0 < s .width) (high 
       ap (count s) (length-append xs ys ∙ ap (λ (i : ℕ). i + length ys) whole) ∙ count-behind (length ys) in
       let front : upto n (byteAt w d) ≡ upto n (byteAt w (dotOf s xs)) =
       upto-ext (byteAt w d) (byteAt w (dotOf s xs)) n
-      (λ j l. byte-of-rows w wide d (dotOf s xs) (k * h) j (λ i o. dotOf-stays s xs ys i wide (rw whole o)) l) in
+      (λ j l. byte-counted s wide xs ys j (rw count-whole l)) in
       let rest : upto m (λ j. byteAt w d (n + j)) ≡ upto m (byteAt w (dotOf s ys)) =
       upto-ext (λ j. byteAt w d (n + j)) (byteAt w (dotOf s ys)) m
       (λ j l. byte-behind w wide d (k * h) j ∙ ap (λ (e : ℕ → ℕ). byteAt w e j) (fun-ext dot-behind)) in
@@ -109,7 +86,7 @@ module _ (s : Setting) (xs ys : List ℕ) (k : ℕ) (wide : 0 < s .width) (high 
 -- ---- scans end to end
 
 -- what is finished does not depend on how many frames there may be
-finished-frames : (rule : Quantize) (w h m n : ℕ) (xs : List ℕ) → finished (setting rule w h m) xs ≡ finished (setting rule w h n) xs
+pub finished-frames : (rule : Quantize) (w h m n : ℕ) (xs : List ℕ) → finished (setting rule w h m) xs ≡ finished (setting rule w h n) xs
 unfolding finished count dotOf
 finished-frames rule w h m n xs = refl
 

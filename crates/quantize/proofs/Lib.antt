@@ -18,11 +18,14 @@ pub mod Grown
 pub mod Counting
 pub mod Tracing
 pub mod Chaining
+pub mod Turning
 pub mod Running
 pub mod Taking
 pub mod Causes
+pub mod Depending
 pub mod Following
 pub mod Keeping
+pub mod Emitting
 pub mod Ending
 pub mod Opening
 pub mod Stored
@@ -31,6 +34,8 @@ pub mod Bulk
 pub mod Wholes
 pub mod Residuals
 pub mod Joining
+pub mod Framing
+pub mod Growing
 pub mod Words
 pub mod Comparing
 pub mod Gathering

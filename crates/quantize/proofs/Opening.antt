@@ -1,9 +1,10 @@
 -- A new quantizer: nothing is taken, and any numbers may stand in the work buffer.
 -- Assumes nothing.
-use Prim.Native.Nat.{ℕ, _+_, _-_, _*_, _/_, _≤_, _<_}
+use Prim.Native.Nat.{ℕ, _+_, _-_, _*_, _/_, _<_}
 use mathlib.Core.Path.{_≡_, refl, sym, ap, _∙_, subst}
-use mathlib.Core.List.{List, [], _∷_}
-use native.Mathlib.Nat.{zero-mul, zero-mod, zero-div, zero-add}
+use mathlib.Core.Bool.{true}
+use mathlib.Core.List.{List, [], _∷_, _++_}
+use native.Mathlib.Nat.{zero-mul, zero-mod, zero-div}
 use native.Mathlib.Omega.{arith}
 use lib.IntN.{pos, negsuc}
 use lib.ListN.{length, getD}
@@ -11,15 +12,17 @@ use lib.Seq.{take-length}
 use lib.Pow.{pow-pos}
 use Rattle.options.specs.declared.Quantize.{Quantize}
 use Rattle.options.specs.declared.Quantize.the-variants.{Threshold, Dither, Ordered}
-use Rattle.quantize.specs.Rule.{Rule, threshold, dither, ordered}
-use Rattle.quantize.specs.Finished.{Setting, frame, dotOf}
-use Rattle.quantize.specs.Machine.{Carry, machineBit}
+use Rattle.quantize.specs.Rule.{Rule, threshold, dither, ordered, rightwards}
+use Rattle.quantize.specs.Finished.{Setting, frame, dotOf, finished}
+use Rattle.quantize.specs.Machine.{Carry, emitted}
+use Rattle.quantize.specs.Asked.{meaning, roomy}
 use Rattle.quantize.specs.Steps.{Table, carryOf}
-use Rattle.quantize.specs.Engine.{meaning, setting, Keeps, Holds, Tabled, Opens}
+use Rattle.quantize.specs.Engine.{setting, Begins, Keeps, Holds, Tabled, Opens}
 use Rattle.laws.proofs.Octets.{octets-by}
 use Rattle.quantize.proofs.Range.{Held}
 use Rattle.quantize.proofs.Packing.{begun-none}
-use Rattle.quantize.proofs.Keeping.{machine-is}
+use Rattle.quantize.proofs.Growing.{finished-none}
+use Rattle.quantize.proofs.Emitting.{kept}
 use Rattle.quantize.proofs.Following.{diffusion-frame}
 
 -- ---- the table
@@ -38,10 +41,13 @@ tabled-ordered rule side table e h = subst (λ (r : Quantize). Tabled r table) (
 first : (w h frames : ℕ) → 0 ≡ ((frames - frames) * h + 0) * w + 0
 first w h frames = let e : frames - frames ≡ 0 = omega arith in rw (e, zero-mul, zero-mul)
 
-keeps-none : (rule : Rule) (w h : ℕ) (c : Carry) → Keeps rule w h [] c
-keeps-none (threshold t) w h c = tt
-keeps-none dither w h c = rw (zero-mod, zero-div, zero-mod) (diffusion-frame w (frame w h [] (0 / h)) c)
-keeps-none (ordered side table) w h c = tt
+begins-none : (s : Setting) (carry : Carry) → Begins s [] (record { begun = 0; carry = carry })
+begins-none s c = begun-none (s .width) (dotOf s []) 0 (rw zero-mod)
+
+keeps-none : (rule : Rule) (s : Setting) (carry : Carry) → Keeps rule s [] (record { begun = 0; carry = carry })
+keeps-none (threshold t) s c = begins-none s c
+keeps-none dither s c = (begins-none s c, rw (zero-mod, zero-div, zero-mod) (diffusion-frame rightwards (s .width) (frame (s .width) (s .height) [] (0 / s .height)) c))
+keeps-none (ordered side table) s c = begins-none s c
 
 pub opens : (rule : Quantize) (table : List ℕ) (w h frames : ℕ) → Tabled rule table
     → Opens rule w h frames (record { rule = rule; table = table; width = w; height = h; place = record { frames = frames; row = 0; column = 0; begun = 0; corner = 128 } })
@@ -61,26 +67,25 @@ opens rule table w h frames t =
               cornerSmall = omega arith;
               begunSmall = pow-pos 0;
             };
-            begun = begun-none w (dotOf (setting rule w h frames) []) 0 (rw zero-mod);
-            keeps = keeps-none (meaning rule) w h (carryOf 128 work);
+            keeps = keeps-none (meaning rule) (setting rule w h frames) (carryOf 128 work);
           };
     }
 
 -- ---- whole scans
 
--- THE MACHINE'S DOTS ARE THE DEFINITION'S, for every rule, list of samples and size, whatever numbers it finds
-pub machine-dots : (s : Setting) (samples : List ℕ) (c : Carry) → 0 < s .width → 0 < s .height → ((i : ℕ) → getD samples i 0 < 256)
-    → (s .rule ≡ dither → s .width ≤ length (c .kept)) → Held (c .corner) → (i : ℕ) → i < length samples → machineBit s 0 c samples i ≡ dotOf s samples i
-machine-dots s samples c wide high bytes room small i l =
-    machine-is s [] samples c wide high bytes room small (keeps-none (s .rule) (s .width) (s .height) c) (length samples) i (omega arith) l
-    ∙ rw (take-length samples, zero-add)
+-- THE MACHINE EMITS THE DEFINITION'S BYTES, for every rule, list of samples and size, whatever numbers it finds
+pub machine-bytes : (s : Setting) (samples : List ℕ) (c : Carry) → 0 < s .width → 0 < s .height → ((i : ℕ) → getD samples i 0 < 256)
+    → roomy (s .rule) (s .width) (length (c .kept)) ≡ true → Held (c .corner) → emitted s 0 (record { begun = 0; carry = c }) samples (length samples) ≡ finished s samples
+machine-bytes s samples c wide high bytes room small =
+    let K = kept s [] samples (record { begun = 0; carry = c }) wide high bytes room small (keeps-none (s .rule) s c) (length samples) (omega arith) in
+    sym (ap (finished s) (sym (take-length samples)) ∙ K .bytesAre ∙ ap (λ (l : List ℕ). l ++ emitted s 0 (record { begun = 0; carry = c }) samples (length samples)) (finished-none s wide))
 
 -- an example: two rows of dithering over a buffer of other numbers
-two-rows : (i : ℕ) → i < 4 → machineBit (setting Dither 2 2 1) 0 (carryOf 128 (pos 300 ∷ negsuc 400 ∷ [])) (127 ∷ 128 ∷ 3 ∷ 200 ∷ []) i ≡ dotOf (setting Dither 2 2 1) (127 ∷ 128 ∷ 3 ∷ 200 ∷ []) i
-two-rows i l =
-    machine-dots (setting Dither 2 2 1) (127 ∷ 128 ∷ 3 ∷ 200 ∷ []) (carryOf 128 (pos 300 ∷ negsuc 400 ∷ [])) (omega arith) (omega arith) (octets-by (127 ∷ 128 ∷ 3 ∷ 200 ∷ []) refl)
-    (λ _. omega arith) (record { n = 128; holds = record { is = refl; small = omega arith } }) i l
+two-rows : emitted (setting Dither 2 2 1) 0 (record { begun = 0; carry = carryOf 128 (pos 300 ∷ negsuc 400 ∷ pos 0 ∷ pos 0 ∷ []) }) (127 ∷ 128 ∷ 3 ∷ 200 ∷ []) 4 ≡ finished (setting Dither 2 2 1) (127 ∷ 128 ∷ 3 ∷ 200 ∷ [])
+two-rows =
+    machine-bytes (setting Dither 2 2 1) (127 ∷ 128 ∷ 3 ∷ 200 ∷ []) (carryOf 128 (pos 300 ∷ negsuc 400 ∷ pos 0 ∷ pos 0 ∷ [])) (omega arith) (omega arith) (octets-by (127 ∷ 128 ∷ 3 ∷ 200 ∷ []) refl)
+    refl (record { n = 128; holds = record { is = refl; small = omega arith } })
 
 -- an example: a new quantizer for dithering, over the same buffer
 opened : Holds (record { rule = Dither; table = []; width = 2; height = 2; place = record { frames = 1; row = 0; column = 0; begun = 0; corner = 128 } }) (pos 300 ∷ negsuc 400 ∷ []) (setting Dither 2 2 1) []
-opened = opens Dither [] 2 2 1 (λ _. refl) .holds tt (omega arith) (omega arith) (pos 300 ∷ negsuc 400 ∷ [])
+opened = opens Dither [] 2 2 1 (λ _. refl) .holds refl (omega arith) (omega arith) (pos 300 ∷ negsuc 400 ∷ [])

@@ -2,11 +2,12 @@
 -- Assumes nothing.
 use Prim.Native.Nat.{ℕ, _+_, _-_, _*_, _/_, _%_, _≤_, _<_}
 use mathlib.Core.Path.{_≡_, refl, sym, ap, _∙_}
-use native.Mathlib.Nat.{mul-add-div-right, mul-add-mod-self-right, mod-eq-of-lt, div-eq-of-lt, add-zero, add-mul, one-mul, add-assoc}
+use mathlib.Core.Logic.{_⊎_, ⊎-elim}
+use native.Mathlib.Nat.{mul-add-div-right, mul-add-mod-self-right, mod-eq-of-lt, mod-lt, div-eq-of-lt, div-add-mod', eq-or-lt-of-le, add-zero, add-mul, one-mul, add-assoc}
 use native.Mathlib.Omega.{arith}
 use Rattle.image.specs.Geometry.{rowBytes}
 use Rattle.quantize.specs.Rule.{Rule, threshold, dither, ordered}
-use Rattle.quantize.specs.Finished.{Setting, begunBytes, count}
+use Rattle.quantize.specs.Finished.{Setting, begunBytes, Bytewise, count}
 use Rattle.quantize.specs.Place.{At}
 
 -- ---- a number by row and column
@@ -23,15 +24,98 @@ next-row w q = rw (add-mul, one-mul, add-zero)
 
 -- ---- the count
 
-begun-eighth : (rule : Rule) (y c : ℕ) → begunBytes rule y c ≡ c / 8
+-- these rules finish each row byte after byte
+pub bytewise : (rule : Rule) (y : ℕ) → Bytewise rule y
 unfolding begunBytes
-begun-eighth (threshold t) y c = refl
-begun-eighth dither y c = refl
-begun-eighth (ordered side table) y c = refl
+bytewise (threshold t) y c = refl
+bytewise dither y c = refl
+bytewise (ordered side table) y c = refl
 
-pub count-at : (s : Setting) (q c : ℕ) → c < s .width → count s (q * s .width + c) ≡ q * rowBytes (s .width) + c / 8
+-- under every rule: none at a row's start, never more than the row has, and more samples finish no less
+pub begun-zero : (rule : Rule) (y : ℕ) → begunBytes rule y 0 ≡ 0
+unfolding begunBytes
+begun-zero (threshold t) y = refl
+begun-zero dither y = refl
+begun-zero (ordered side table) y = refl
+
+pub begun-within : (rule : Rule) (w y c : ℕ) → c < w → begunBytes rule y c ≤ rowBytes w
+unfolding begunBytes
+begun-within (threshold t) w y c h = omega arith
+begun-within dither w y c h = omega arith
+begun-within (ordered side table) w y c h = omega arith
+
+pub begun-up : (rule : Rule) (y c : ℕ) → begunBytes rule y c ≤ begunBytes rule y (c + 1)
+unfolding begunBytes
+begun-up (threshold t) y c = omega arith
+begun-up dither y c = omega arith
+begun-up (ordered side table) y c = omega arith
+
+pub count-at : (s : Setting) (q c : ℕ) → c < s .width → count s (q * s .width + c) ≡ q * rowBytes (s .width) + begunBytes (s .rule) (q % s .height) c
 unfolding count
-count-at s q c h = rw (div-at (s .width) q c h, mod-at (s .width) q c h, begun-eighth)
+count-at s q c h = rw (div-at (s .width) q c h, mod-at (s .width) q c h)
+
+-- after full rows
+pub count-rows : (s : Setting) (q : ℕ) → 0 < s .width → count s (q * s .width + 0) ≡ q * rowBytes (s .width)
+count-rows s q h = count-at s q 0 h ∙ ap (λ (b : ℕ). q * rowBytes (s .width) + b) (begun-zero (s .rule) (q % s .height)) ∙ add-zero (q * rowBytes (s .width))
+
+-- ---- the next sample
+
+module _ (s : Setting) (n : ℕ) (wide : 0 < s .width) where
+  -- in the same row
+  module _ (h : n % s .width + 1 < s .width) where
+    on-place : n + 1 ≡ n / s .width * s .width + (n % s .width + 1)
+    on-place = let e = div-add-mod' n (s .width) in omega arith
+
+    pub on-row : (n + 1) / s .width ≡ n / s .width
+    on-row = rw on-place (div-at (s .width) (n / s .width) (n % s .width + 1) h)
+
+    pub on-column : (n + 1) % s .width ≡ n % s .width + 1
+    on-column = rw on-place (mod-at (s .width) (n / s .width) (n % s .width + 1) h)
+
+  -- at the start of the next one
+  module _ (h : n % s .width + 1 ≡ s .width) where
+    down-place : n + 1 ≡ (n / s .width + 1) * s .width + 0
+    down-place = let e = div-add-mod' n (s .width) in let t : n + 1 ≡ n / s .width * s .width + s .width = omega arith in t ∙ next-row (s .width) (n / s .width)
+
+    pub end-column : (n + 1) % s .width ≡ 0
+    end-column = rw down-place (mod-at (s .width) (n / s .width + 1) 0 wide)
+
+  -- where the row is finished byte after byte, the last sample of each byte finishes one
+  module _ (b : Bytewise (s .rule) (n / s .width % s .height)) where
+    pub count-now : count s n ≡ n / s .width * rowBytes (s .width) + n % s .width / 8
+    unfolding count
+    count-now = rw (b (n % s .width))
+
+    pub count-on : n % s .width + 1 < s .width → count s (n + 1) ≡ n / s .width * rowBytes (s .width) + (n % s .width + 1) / 8
+    unfolding count
+    count-on h = rw (on-row h, on-column h, b (n % s .width + 1))
+
+    pub count-end : n % s .width + 1 ≡ s .width → count s (n + 1) ≡ count s n + 1
+    count-end h =
+        let z : count s (n + 1) ≡ (n / s .width + 1) * rowBytes (s .width) = ap (count s) (down-place h) ∙ count-rows s (n / s .width + 1) wide in
+        let u : (n / s .width + 1) * rowBytes (s .width) ≡ n / s .width * rowBytes (s .width) + rowBytes (s .width) = rw (add-mul, one-mul) in
+        let e : rowBytes (s .width) ≡ n % s .width / 8 + 1 = omega arith in
+        let t = count-now in
+        omega arith
+
+    pub count-last : (s .width ≤ n % s .width + 1) ⊎ (7 ≤ n % s .width % 8) → count s (n + 1) ≡ count s n + 1
+    count-last k =
+        let i : n % s .width < s .width = mod-lt n wide in
+        ⊎-elim
+        (λ (h : n % s .width + 1 ≡ s .width). count-end h)
+        (λ (h : n % s .width + 1 < s .width).
+        let a = count-on h in
+        let t = count-now in
+        let e : (n % s .width + 1) / 8 ≡ n % s .width / 8 + 1 = ⊎-elim (λ (f : s .width ≤ n % s .width + 1). let z : ⊥ = omega arith in absurd z) (λ (f : 7 ≤ n % s .width % 8). omega arith) k in
+        omega arith)
+        (eq-or-lt-of-le (omega arith))
+
+    pub count-open : n % s .width + 1 < s .width → n % s .width % 8 < 7 → count s (n + 1) ≡ count s n
+    count-open h k =
+        let a = count-on h in
+        let t = count-now in
+        let e : (n % s .width + 1) / 8 ≡ n % s .width / 8 = omega arith in
+        omega arith
 
 -- a column's byte is one of its row
 pub col-row : (w c : ℕ) → c < w → c / 8 < rowBytes w
@@ -58,9 +142,6 @@ module _ (s : Setting) (n frames row column : ℕ) (a : At s n frames row column
   pub frame-is : n / w / s .height ≡ s .frames - frames
   frame-is = rw row-is (div-at (s .height) (s .frames - frames) row (a .inFrame))
 
-  pub count-is : count s n ≡ q * rowBytes w + column / 8
-  count-is = rw (a .place) (count-at s q column (a .inRow))
-
   -- m samples more, in the same row
   module _ (m : ℕ) (left : 0 < frames) (h : column + m < w) where
     in-place : n + m ≡ q * w + (column + m)
@@ -69,19 +150,6 @@ module _ (s : Setting) (n frames row column : ℕ) (a : At s n frames row column
     pub at-inside : At s (n + m) frames row (column + m)
     at-inside = record { inRow = h; inFrame = a .inFrame; most = a .most; place = in-place; full = λ z. let f : ⊥ = omega arith in absurd f }
 
-    count-inside : count s (n + m) ≡ q * rowBytes w + (column + m) / 8
-    count-inside = rw in-place (count-at s q (column + m) h)
-
-    pub count-same : column % 8 + m < 8 → count s (n + m) ≡ count s n + 0
-    count-same k =
-        let e : (column + m) / 8 ≡ column / 8 = omega arith in
-        count-inside ∙ rw (e, count-is, add-zero)
-
-    pub count-byte : 8 ≤ column % 8 + m → column % 8 + m ≤ 8 → count s (n + m) ≡ count s n + 1
-    count-byte k l =
-        let e : (column + m) / 8 ≡ column / 8 + 1 = omega arith in
-        count-inside ∙ rw (e, count-is, add-assoc)
-
   -- m samples more, to the row's end
   module _ (m : ℕ) (left : 0 < frames) (h : column + m ≡ w) where
     end-place : n + m ≡ (q + 1) * w + 0
@@ -89,12 +157,6 @@ module _ (s : Setting) (n frames row column : ℕ) (a : At s n frames row column
 
     wide : 0 < w
     wide = let i = a .inRow in omega arith
-
-    pub count-row : 0 < m → column % 8 + m ≤ 8 → count s (n + m) ≡ count s n + 1
-    count-row k l =
-        let e : rowBytes w ≡ column / 8 + 1 = omega arith in
-        let z : (q + 1) * rowBytes w + 0 / 8 ≡ q * rowBytes w + column / 8 + 1 = rw (add-mul, one-mul) (omega arith) in
-        rw end-place (count-at s (q + 1) 0 wide) ∙ z ∙ rw count-is
 
     pub at-row : row + 1 < s .height → At s (n + m) frames (row + 1) 0
     at-row k =

@@ -10,7 +10,7 @@ use lib.IntN.{ℤ, pos, subℕ}
 use lib.ListN.{length, getD, set, length-set}
 use lib.Seq.{getD-set-same}
 use Rattle.quantize.specs.Bits.{bit, appended}
-use Rattle.quantize.specs.Diffusion.{value, white, residual}
+use Rattle.quantize.specs.Diffusion.{toRight, value, white, residual}
 use Rattle.quantize.specs.Rule.{Rule, dither}
 use Rattle.quantize.specs.Machine.{Carry, clamp, leftOf, cornerOf, overOf, valueOf, diffused, machineDot, next}
 use Rattle.quantize.specs.Steps.{Biased, Stepped, rowCarry, rowBit, carryOf, Dots}
@@ -69,7 +69,7 @@ module _ (w y x : ℕ) (gray : List ℕ) (begun corner : ℕ) (work₀ : List �
   module _ (work : List ℤ) (left digits aboveLeft above i : ℕ) (I : Inv work left digits aboveLeft above i)
       (ahead dot rest : ℕ) (hr : Biased (overOf w y work (x + i + 1)) ahead)
       (st : Stepped (value (getD gray i 0) (subℕ left 128) (subℕ aboveLeft 128) (subℕ above 128) (subℕ ahead 128)) dot rest) where
-    value-is : valueOf w y (x + i) (getD gray i 0) (at i) ≡ value (getD gray i 0) (subℕ left 128) (subℕ aboveLeft 128) (subℕ above 128) (subℕ ahead 128)
+    value-is : valueOf toRight w y (x + i) (getD gray i 0) (at i) ≡ value (getD gray i 0) (subℕ left 128) (subℕ aboveLeft 128) (subℕ above 128) (subℕ ahead 128)
     unfolding valueOf
     value-is = rw (I .keptIs, I .leftIs .is, I .cornerIs .is, I .aboveIs .is, hr .is)
 
@@ -80,7 +80,7 @@ module _ (w y x : ℕ) (gray : List ℕ) (begun corner : ℕ) (work₀ : List �
     pub inv-more : (z : ℤ) → z ≡ subℕ rest 128 → i < length gray → x + i < length work → Inv (set work (x + i) z) rest (digits * 2 + dot) above ahead (i + 1)
     unfolding rowCarry next diffused
     inv-more z ez h k =
-        let zr : residual (valueOf w y (x + i) (getD gray i 0) (at i)) ≡ z = ap residual value-is ∙ st .restIs .is ∙ sym ez in
+        let zr : residual (valueOf toRight w y (x + i) (getD gray i 0) (at i)) ≡ z = ap residual value-is ∙ st .restIs .is ∙ sym ez in
         let e : x + (i + 1) ≡ x + i + 1 = omega arith in
         let b : Biased z rest = record { is = ez; small = st .restIs .small } in
         record {

@@ -1,60 +1,87 @@
 -- A turn of `run`'s loop: the samples of one byte are taken.
 -- Assumes nothing.
-use Prim.Native.Nat.{ℕ, _+_, _-_, _^_, _<_}
-use mathlib.Core.Path.{_≡_, subst}
+use Prim.Native.Nat.{ℕ, _+_, _-_, _^_, _≤_, _<_}
+use mathlib.Core.Path.{_≡_, _∙_, subst}
 use mathlib.Core.Bool.{true, false}
 use mathlib.Core.List.{List}
 use mathlib.Core.Logic.{_⊎_, ⊎-elim}
 use native.Mathlib.Omega.{arith}
 use lib.IntN.{ℤ}
-use lib.ListN.{length, set}
+use lib.ListN.{length, getD, drop, set}
+use lib.Seq.{getD-drop}
 use Rattle.quantize.specs.declared.engine.Quantizer.{Quantizer}
 use Rattle.quantize.specs.declared.turn.Next.{Next}
 use Rattle.quantize.specs.declared.turn.Part.{Part}
 use Rattle.quantize.specs.declared.turn.Place.{Place}
 use Rattle.quantize.specs.declared.turn.Taken.{Taken}
-use Rattle.quantize.specs.Steps.{Shares, Advances, Taking, Takes}
-use Rattle.quantize.proofs.Pieces.{piece}
-use Rattle.quantize.proofs.Running.{Loop, piece-long, dotting, room-left, loop-on, loop-byte}
+use Rattle.quantize.specs.Finished.{Bytewise}
+use Rattle.quantize.specs.Steps.{ruleOf, Shares, Advances, Taking, Takes}
+use Rattle.quantize.proofs.Differences.{lt-or-le}
+use Rattle.quantize.proofs.Pieces.{piece, piece-at, piece-length}
+use Rattle.quantize.proofs.Turning.{turn-on, turn-byte}
+use Rattle.quantize.proofs.Running.{Loop, begun-small, loop-on, loop-byte}
 
-module _ (q : Quantizer) (samples out₀ : List ℕ) (work₀ : List ℤ) (out : List ℕ) (work : List ℤ) (frames row column begun corner taken written : ℕ)
-    (L : Loop q samples out₀ work₀ out work frames row column begun corner taken written) (left : 0 < frames) (m : ℕ) (sh : Shares (q .width) column (length samples - taken) (length out - written) m) (some : m ≡ 0 → ⊥) where
-  abbrev place : Place
-  place = record { frames = frames; row = row; column = column; begun = begun; corner = corner }
+-- a piece has the samples from its start on
+pub piece-same : (samples : List ℕ) (taken m i : ℕ) → i < m → getD (drop taken samples) i 0 ≡ getD (piece samples taken m) i 0
+piece-same samples taken m i h = getD-drop taken samples i 0 ∙ piece-at samples taken m i h
 
+module _ (q : Quantizer) (samples out₀ : List ℕ) (work₀ : List ℤ) (out : List ℕ) (work : List ℤ) (p : Place) (taken written : ℕ)
+    (L : Loop q samples out₀ work₀ out work p taken written) (left : 0 < p .frames) (m : ℕ) (sh : Shares (q .width) (p .column) (length samples - taken) (length out - written) m) (some : m ≡ 0 → ⊥) where
   abbrev share : List ℕ
   share = piece samples taken m
 
-  long : length share ≡ m
-  long = piece-long q samples out₀ work₀ out work frames row column begun corner taken written L left m sh some
+  pub end-fits : taken + m ≤ length samples
+  end-fits = let a = sh .there in let b = L .takenFits in omega arith
 
-  pub taking : q .width < 2 ^ 64 → q .height < 2 ^ 64 → Taking (q .rule) (q .width) (q .height) place (length share) (length work)
+  long : length share ≡ m
+  long = piece-length samples taken m end-fits
+
+  pub taking : q .width < 2 ^ 64 → q .height < 2 ^ 64 → Taking (q .rule) (q .width) (q .height) p (length share) (length work)
   taking h k =
+      let e = long in
+      let so = L .turn .sound in
       record {
-        dotting = dotting q samples out₀ work₀ out work frames row column begun corner taken written L left m sh some h;
+        dotting = record {
+          some = omega (arith, some);
+          within = omega (arith, sh .inRow);
+          packs = (omega (arith, sh .inByte), begun-small q samples out₀ work₀ out work p taken written L);
+          small = so .cornerSmall;
+          fits = h;
+          served = so .served;
+        };
         left = left;
-        inByte = omega (arith, long, sh .inByte);
-        inFrame = L .sound .inFrame;
+        inByte = omega (arith, sh .inByte);
+        inFrame = so .inFrame;
         high = k;
-        begunSmall = L .sound .begunSmall;
+        begunSmall = so .begunSmall;
       }
 
-  module _ (t : Taken) (work′ : List ℤ) (T : Takes (q .rule) (q .table) (q .width) (q .height) place share work t work′) where
+  module _ (t : Taken) (work′ : List ℤ) (T : Takes (q .rule) (q .table) (q .width) (q .height) p share work t work′) where
     abbrev part : Part
     part = record { digits = T .digits; corner = t .place .corner }
 
     abbrev next : Next
     next = record { frames = t .place .frames; row = t .place .row; column = t .place .column; begun = t .place .begun; byte = t .byte; whole = t .whole }
 
-    advances : Advances (q .width) (q .height) frames row column m (T .digits) next
-    advances = subst (λ (n : ℕ). Advances (q .width) (q .height) frames row column n (T .digits) next) long (T .advances)
+    advances : Advances (q .width) (q .height) (p .frames) (p .row) (p .column) m (T .digits) next
+    advances = subst (λ (n : ℕ). Advances (q .width) (q .height) (p .frames) (p .row) (p .column) n (T .digits) next) long (T .advances)
 
+    -- a byte is finished only where there is room for it
     pub took-room : t .whole ≡ true → written < length out
-    took-room = room-left q samples out₀ work₀ out work frames row column begun corner taken written L left m sh some part work′ (T .dotted) next advances
+    took-room h =
+        ⊎-elim (λ l. l)
+        (λ (l : length out ≤ written).
+        let z = sh .fits (omega arith) in
+        ⊎-elim (λ e. let f : ⊥ = omega (arith, z .0) in absurd f) (λ e. let f : ⊥ = omega (arith, z .1) in absurd f) (advances .ended h .ends))
+        (lt-or-le written (length out))
 
-    pub loop-took : (out′ : List ℕ) (written′ : ℕ) → ((t .whole ≡ true) × (out′ ≡ set out written (t .byte)) × (written′ ≡ written + 1)) ⊎ ((t .whole ≡ false) × (out′ ≡ out) × (written′ ≡ written))
-        → Loop q samples out₀ work₀ out′ work′ (t .place .frames) (t .place .row) (t .place .column) (t .place .begun) (t .place .corner) (taken + m) written′
-    loop-took out′ written′ =
-        ⊎-elim
-        (λ v. rw (v .1, v .2) (loop-byte q samples out₀ work₀ out work frames row column begun corner taken written L left m sh some part work′ (T .dotted) next advances (v .0)))
-        (λ v. rw (v .1, v .2) (loop-on q samples out₀ work₀ out work frames row column begun corner taken written L left m sh some part work′ (T .dotted) next advances (v .0)))
+    -- the row is finished byte after byte
+    module _ (b : Bytewise (ruleOf (q .rule) (q .table)) (p .row)) where
+      pub loop-took : (out′ : List ℕ) (written′ : ℕ) → ((t .whole ≡ true) × (out′ ≡ set out written (t .byte)) × (written′ ≡ written + 1)) ⊎ ((t .whole ≡ false) × (out′ ≡ out) × (written′ ≡ written))
+          → Loop q samples out₀ work₀ out′ work′ (t .place) (taken + m) written′
+      loop-took out′ written′ =
+          ⊎-elim
+          (λ v. rw (v .1, v .2) (loop-byte q samples out₀ work₀ out work p taken written L m (t .byte) (t .place) work′
+          (turn-byte q p (drop taken samples) share work (L .turn .sound) left m (omega (arith, some)) (sh .inRow) (sh .inByte) long (piece-same samples taken m) b part work′ (T .dotted) next advances (v .0)) end-fits (took-room (v .0))))
+          (λ v. rw (v .1, v .2) (loop-on q samples out₀ work₀ out work p taken written L m (t .place) work′
+          (turn-on q p (drop taken samples) share work (L .turn .sound) left m (omega (arith, some)) (sh .inRow) (sh .inByte) long (piece-same samples taken m) b part work′ (T .dotted) next advances (v .0)) end-fits))

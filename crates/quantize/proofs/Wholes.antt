@@ -1,9 +1,9 @@
 -- Whole planes: the refusals in their order, and that one frame takes all of its samples.
 -- Assumes nothing.
-use Prim.Native.Nat.{ℕ, _+_, _-_, _*_, _/_, _≤_, _<_, min}
+use Prim.Native.Nat.{ℕ, _+_, _-_, _*_, _≤_, _<_, min}
 use mathlib.Core.Path.{_≡_, refl, sym, ap, _∙_, subst}
 use mathlib.Core.Bool.{Bool, true, false, _||_}
-use mathlib.Core.Logic.{inl, ⊎-elim}
+use mathlib.Core.Logic.{inl}
 use mathlib.Core.List.{List, [], _++_}
 use native.Mathlib.Nat.{zero-mul, add-zero, zero-add, one-mul, mul-comm, mul-le-mul}
 use native.Mathlib.Omega.{arith}
@@ -17,42 +17,21 @@ use Rattle.error.specs.Emits.{Emits}
 use Rattle.laws.proofs.Tests.{if-true, zero-one}
 use Rattle.laws.proofs.Writers.{emits-none, emits-all}
 use Rattle.options.specs.declared.Quantize.{Quantize}
-use Rattle.options.specs.declared.Quantize.the-variants.{Threshold, Dither, Ordered}
 use Rattle.image.specs.Geometry.{rowBytes}
 use Rattle.quantize.specs.declared.engine.Quantizer.{Quantizer}
 use Rattle.quantize.specs.declared.engine.Ran.{Ran}
-use Rattle.quantize.specs.Rule.{dither}
 use Rattle.quantize.specs.Finished.{Setting, count, byteAt, dotOf, finished, takes}
-use Rattle.quantize.specs.Steps.{ruleOf}
-use Rattle.quantize.specs.Engine.{meaning, Knows, roomy, setting, Opens, Holds, Runs}
-use Rattle.quantize.specs.Whole.{knownRule, refusedBy, quantized, Quantizes}
-use Rattle.quantize.proofs.Differences.{lt-or-le}
-use Rattle.quantize.proofs.Abilities.{known-yes}
-use Rattle.quantize.proofs.Places.{count-at}
+use Rattle.quantize.specs.Asked.{meaning, knownRule, roomy}
+use Rattle.quantize.specs.Engine.{setting, Opens, Holds, Runs}
+use Rattle.quantize.specs.Whole.{refusedBy, quantized, Quantizes}
+use Rattle.quantize.proofs.Places.{count-rows}
 use Rattle.quantize.proofs.Counting.{most-is}
 use Rattle.quantize.proofs.Grown.{length-upto}
 
 -- ---- the tests
 
-pub half-leb : (w n : ℕ) → leb w (n / 2) ≡ leb (2 * w) n
-half-leb w n =
-    ⊎-elim
-    (λ (l : n < 2 * w). lt-leb w (n / 2) (omega arith) ∙ sym (lt-leb (2 * w) n l))
-    (λ (l : 2 * w ≤ n). le-leb w (n / 2) (omega arith) ∙ sym (le-leb (2 * w) n l))
-    (lt-or-le n (2 * w))
-
 pub product-fits : (w h : ℕ) → w < 4294967296 → h < 4294967296 → w * h < 18446744073709551616
 product-fits w h p q = omega (arith, mul-le-mul {n₁ = w} {m₁ = h} {n₂ = 4294967295} {m₂ = 4294967295} (omega arith) (omega arith))
-
-knows : (rule : Quantize) → knownRule rule ≡ true → Knows rule
-knows (Threshold t) e = tt
-knows Dither e = tt
-knows (Ordered side) e = known-yes side e
-
-is-dither : (rule : Quantize) → meaning rule ≡ dither → rule ≡ Dither
-is-dither (Threshold t) e = zero-one (cc)
-is-dither Dither e = refl
-is-dither (Ordered side) e = zero-one (cc)
 
 -- ---- the refusals
 
@@ -108,12 +87,12 @@ module _ (rule : Quantize) (w h : ℕ) (wide : 0 < w) (high : 0 < h) where
   s = setting rule w h 1
 
   count-none : count s 0 ≡ 0
-  count-none = let e : 0 ≡ 0 * w + 0 = rw zero-mul in ap (count s) e ∙ count-at s 0 0 wide ∙ rw zero-mul
+  count-none = let e : 0 ≡ 0 * w + 0 = rw zero-mul in ap (count s) e ∙ count-rows s 0 wide ∙ zero-mul (rowBytes w)
 
   pub count-all : count s (w * h) ≡ h * rowBytes w
   count-all =
       let e : w * h ≡ h * w + 0 = rw add-zero (mul-comm w h) in
-      ap (count s) e ∙ count-at s h 0 wide ∙ rw add-zero
+      ap (count s) e ∙ count-rows s h wide
 
   pub takes-plane : (gray room : ℕ) → w * h ≤ gray → h * rowBytes w ≤ room → takes s 0 gray room ≡ w * h
   unfolding takes
@@ -174,7 +153,7 @@ module _ (rule : Quantize) (w h : ℕ) (gray out : List ℕ) (work : List ℤ) (
       sp = setting rule w h 1
 
       H : Holds q work sp []
-      H = o .holds (knows rule (p .known)) (p .wide) (p .high) work
+      H = o .holds (p .known) (p .wide) (p .high) work
 
       long : length (finished sp (take (w * h) gray)) ≡ h * rowBytes w
       long = plane-long rule w h (p .wide) (p .high) gray (p .enough)
@@ -201,6 +180,6 @@ module _ (rule : Quantize) (w h : ℕ) (gray out : List ℕ) (work : List ℤ) (
             emits = subst (λ (a : Answer (List ℕ)). Emits a (gives (r .written)) out out′) (sym (given-is z))
                 (emits-all _ out out′ (r .written) (omega (arith, long, fits)) (written-is ∙ sym long) bytes-are);
             beyond = subst (λ (n : ℕ). drop (2 * n) work′ ≡ drop (2 * n) work) (sym (H .stands .width)) (R .beyond);
-            spared = λ n. R .spared (λ d. n (is-dither rule (H .stands .rule ∙ ap (λ (x : Quantize). ruleOf x (q .table)) d)));
+            spared = λ n. R .spared (rw (o .ruleIs) n);
             refused = λ code place f. zero-one (cc);
           }

@@ -1,7 +1,9 @@
 -- The bytes that samples finish (document 01: Making session). Samples come row by row; frames of width × height samples follow each other, and each one's dots depend on its own samples only.
 use Prim.Native.Nat.{ℕ, zero, suc, _+_, _-_, _*_, _/_, _%_, min}
+use mathlib.Core.Path.{_≡_}
+use mathlib.Core.Bool.{Bool, _&&_}
 use mathlib.Core.List.{List}
-use lib.Dec.{ltb, leb}
+use lib.Dec.{ltb, leb, eqb}
 use lib.ListN.{length, getD, drop}
 use Rattle.error.specs.Choice.{if}
 use Rattle.image.specs.Geometry.{rowBytes}
@@ -21,6 +23,10 @@ unfoldable pub begunBytes : Rule → ℕ → ℕ → ℕ
 begunBytes (threshold t) y c = c / 8
 begunBytes dither y c = c / 8
 begunBytes (ordered side table) y c = c / 8
+
+-- row y is finished byte after byte
+abbrev pub Bytewise : Rule → ℕ → Type 0
+Bytewise rule y = (c : ℕ) → begunBytes rule y c ≡ c / 8
 
 -- how many bytes n samples have finished: all of each full row, and what the rule says of the begun one
 unfoldable pub count : Setting → ℕ → ℕ
@@ -60,3 +66,7 @@ takes s n samples room = most s n room (min samples (s .frames * s .height * s .
 -- what the samples ys have finished that the samples xs, their first ones, had not
 abbrev pub newly : Setting → List ℕ → List ℕ → List ℕ
 newly s xs ys = drop (length (finished s xs)) (finished s ys)
+
+-- n samples are whole frames, and at least one
+abbrev pub wholeFrames : Setting → ℕ → Bool
+wholeFrames s n = ltb 0 n && eqb (n % (s .width * s .height)) 0

@@ -3,6 +3,7 @@ pub mod Bits
 pub mod Diffusion
 pub mod Ordered
 pub mod Rule
+pub mod Asked
 pub mod Finished
 pub mod Machine
 pub mod Place

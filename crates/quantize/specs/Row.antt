@@ -9,8 +9,9 @@ use Rattle.quantize.specs.declared.row.Eight.{Eight}
 use Rattle.quantize.specs.declared.turn.Place.{Place}
 use Rattle.quantize.specs.declared.turn.Filled.{Filled}
 use Rattle.quantize.specs.Rule.{Rule, dither}
+use Rattle.quantize.specs.Asked.{Served}
 use Rattle.quantize.specs.Machine.{leftOf, cornerOf, overOf}
-use Rattle.quantize.specs.Steps.{Biased, Dots, ruleOf, Served, Wholes}
+use Rattle.quantize.specs.Steps.{Biased, Dots, ruleOf, Wholes}
 
 -- these numbers hold the residuals next to column x of row y: on its left, above left and above
 pub record Near (w y x corner : ℕ) (work : List ℤ) (left aboveLeft above : ℕ) : Type 0 where

@@ -1,5 +1,5 @@
 -- What the crate's own functions ask and promise. A residual r is held as the number r + 128.
-use Prim.Native.Nat.{ℕ, zero, suc, _+_, _*_, _%_, _^_, _≤_, _<_}
+use Prim.Native.Nat.{ℕ, zero, suc, _+_, _-_, _*_, _%_, _^_, _≤_, _<_}
 use mathlib.Core.Path.{_≡_}
 use mathlib.Core.Bool.{Bool, true, false}
 use mathlib.Core.Logic.{_⊎_}
@@ -18,9 +18,10 @@ use Rattle.quantize.specs.Bits.{bit, appended, digits}
 use Rattle.quantize.specs.Diffusion.{part, white, residual}
 use Rattle.quantize.specs.Ordered.{number, numbers, exponent, bound, cell}
 use Rattle.quantize.specs.Rule.{Rule, threshold, dither, ordered}
-use Rattle.quantize.specs.Finished.{Setting, count, byteAt}
-use Rattle.quantize.specs.Machine.{Carry, overOf, machineDot, next}
-use Rattle.quantize.specs.Place.{At, begunBy, Begun}
+use Rattle.quantize.specs.Asked.{knownSide, Served}
+use Rattle.quantize.specs.Finished.{Setting}
+use Rattle.quantize.specs.Machine.{Carry, State, overOf, machineDot, next}
+use Rattle.quantize.specs.Place.{At}
 
 -- r holds z, which is within -128 .. 128
 pub record Biased (z : ℤ) (r : ℕ) : Type 0 where
@@ -72,10 +73,6 @@ stored t gray at out to (suc k) = set (stored t gray at out to k) (to + k) (digi
 abbrev pub orderedBit : ℕ → List ℕ → ℕ → ℕ → List ℕ → ℕ → ℕ
 orderedBit side table y x gray i = bit (leb (bound side (cell side table (x + i) y)) (getD gray i 0))
 
--- the sides of document 01
-abbrev pub Known : ℕ → Type 0
-Known side = (side ≡ 2) ⊎ ((side ≡ 4) ⊎ (side ≡ 8))
-
 -- r is the number for this side
 pub record Cell (side x y r : ℕ) : Type 0 where
   pub small : r < side * side
@@ -86,11 +83,14 @@ abbrev pub Filled : ℕ → List ℕ → Type 0
 Filled side table = (k : ℕ) → side ≡ 2 ^ k → take (side * side) table ≡ numbers k
 
 abbrev pub Table : ℕ → List ℕ → Type 0
-Table side table = Known side → take (side * side) table ≡ numbers (exponent side)
+Table side table = knownSide side ≡ true → take (side * side) table ≡ numbers (exponent side)
 
 -- the machine's state, from the numbers that the code keeps
 abbrev pub carryOf : ℕ → List ℤ → Carry
 carryOf corner work = record { corner = subℕ corner 128; kept = work }
+
+abbrev pub stateOf : Place → List ℤ → State
+stateOf p work = record { begun = p .begun; carry = carryOf (p .corner) work }
 
 -- the digits of `begun` and of the samples' dots, from column x of row y on, and what is kept after them
 pub record Dots (rule : Rule) (w y x : ℕ) (gray : List ℕ) (begun corner : ℕ) (work : List ℤ) (dots corner′ : ℕ) (work′ : List ℤ) : Type 0 where
@@ -115,12 +115,6 @@ abbrev pub ruleOf : Quantize → List ℕ → Rule
 ruleOf (Threshold t) table = threshold t
 ruleOf Dither table = dither
 ruleOf (Ordered side) table = ordered side (take (side * side) table)
-
--- the rule's side is known, and its work buffer long enough
-abbrev pub Served : Quantize → ℕ → ℕ → Type 0
-Served (Threshold t) w work = Unit {0}
-Served Dither w work = 2 * w ≤ work
-Served (Ordered side) w work = Known side
 
 -- the rules whose bytes are written at once
 abbrev pub AtOnce : Quantize → Type 0
@@ -175,21 +169,26 @@ pub record Advancing (w h frames row column m digits : ℕ) : Type 0 where
   pub high : h < 2 ^ 64
   pub digitsSmall : digits < 2 ^ (column % 8 + m)
 
--- the place after them, where n were taken before: a byte more is finished where `whole` says so
-pub record Moves (s : Setting) (n m : ℕ) (r : Next) : Type 0 where
-  pub at : At s (n + m) (r .frames) (r .row) (r .column)
-  pub counted : count s (n + m) ≡ count s n + bit (r .whole)
+-- they end the row or the byte: it is written, its digits first, and none is begun
+pub record Ended (w column m digits : ℕ) (r : Next) : Type 0 where
+  pub ends : (w ≤ column + m) ⊎ (8 ≤ column % 8 + m)
+  pub byteIs : r .byte ≡ digits * 2 ^ (8 - (column % 8 + m))
+  pub begunIs : r .begun ≡ 0
 
+-- the byte goes on
+pub record Goes (w column m digits : ℕ) (r : Next) : Type 0 where
+  pub inRow : column + m < w
+  pub inByte : column % 8 + m < 8
+  pub begunIs : r .begun ≡ digits
+
+-- the place after them, where n were taken before, and the byte
 pub record Advances (w h frames row column m digits : ℕ) (r : Next) : Type 0 where
   pub inRow : r .column < w
   pub inFrame : r .row < h
   pub begunSmall : r .begun < 2 ^ (r .column % 8)
-  pub ends : r .whole ≡ true → (w ≤ column + m) ⊎ (8 ≤ column % 8 + m)
-  pub moves : (s : Setting) (n : ℕ) → s .width ≡ w → s .height ≡ h → At s n frames row column → Moves s n m r
-  pub byteIs : (s : Setting) (n : ℕ) (d : ℕ → ℕ) → s .width ≡ w → s .height ≡ h → At s n frames row column → digits ≡ begunBy (s .width) d n (n % s .width % 8 + m) → r .whole ≡ true
-      → r .byte ≡ byteAt (s .width) d (count s n)
-  pub begunIs : (s : Setting) (n : ℕ) (d : ℕ → ℕ) → s .width ≡ w → s .height ≡ h → At s n frames row column → digits ≡ begunBy (s .width) d n (n % s .width % 8 + m)
-      → Begun (s .width) d (n + m) (r .begun)
+  pub ended : r .whole ≡ true → Ended w column m digits r
+  pub goes : r .whole ≡ false → Goes w column m digits r
+  pub moves : (s : Setting) (n : ℕ) → s .width ≡ w → s .height ≡ h → At s n frames row column → At s (n + m) (r .frames) (r .row) (r .column)
 
 -- n samples, which end no later than the begun byte
 pub record Taking (rule : Quantize) (w h : ℕ) (p : Place) (n work : ℕ) : Type 0 where

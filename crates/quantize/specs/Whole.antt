@@ -1,7 +1,7 @@
 -- Whole planes: `quantize_gray8` and its like (document 01: 8, 29, 28, 22 and then 25, place 0).
 use Prim.Native.Nat.{ℕ, _*_}
 use mathlib.Core.Path.{_≡_}
-use mathlib.Core.Bool.{Bool, true, _||_}
+use mathlib.Core.Bool.{false, _||_}
 use mathlib.Core.List.{List}
 use lib.Dec.{leb, eqb}
 use lib.IntN.{ℤ}
@@ -10,17 +10,10 @@ use Rattle.error.specs.Choice.{if}
 use Rattle.error.specs.Answer.{Answer, gives, refuses}
 use Rattle.error.specs.Emits.{Emits}
 use Rattle.options.specs.declared.Quantize.{Quantize}
-use Rattle.options.specs.declared.Quantize.the-variants.{Threshold, Dither, Ordered}
 use Rattle.quantize.specs.Finished.{finished}
-use Rattle.quantize.specs.Engine.{meaning, roomy, setting}
-
-abbrev pub knownSide : ℕ → Bool
-knownSide side = eqb side 2 || eqb side 4 || eqb side 8
-
-abbrev pub knownRule : Quantize → Bool
-knownRule (Threshold t) = true
-knownRule Dither = true
-knownRule (Ordered side) = knownSide side
+use Rattle.quantize.specs.Asked.{meaning, knownRule, carries, roomy}
+use Rattle.quantize.specs.Engine.{setting}
+pub use Rattle.quantize.specs.Asked.{knownRule}
 
 -- the refusal of so many samples and numbers of work, 0 where there is none
 abbrev pub refusedBy : Quantize → ℕ → ℕ → ℕ → ℕ → ℕ
@@ -39,9 +32,9 @@ quantized rule w h gray work =
     (gives (finished (setting rule w h 1) (take (w * h) gray)))
     (refuses (refusedBy rule w h (length gray) work) 0)
 
--- the plane or the refusal; a work buffer is altered by dithering alone, where it is not refused, in its first 2 × width numbers
+-- the plane or the refusal; a work buffer is altered by a rule that keeps carries alone, where it is not refused, in its first 2 × width numbers
 pub record Quantizes (rule : Quantize) (w h : ℕ) (gray out : List ℕ) (work : List ℤ) (r : Answer ℕ) (out′ : List ℕ) (work′ : List ℤ) : Type 0 where
   pub emits : Emits (quantized rule w h gray (length work)) r out out′
   pub beyond : drop (2 * w) work′ ≡ drop (2 * w) work
-  pub spared : (rule ≡ Dither → ⊥) → work′ ≡ work
+  pub spared : carries (meaning rule) ≡ false → work′ ≡ work
   pub refused : (code place : ℕ) → r ≡ refuses code place → work′ ≡ work

@@ -1,13 +1,13 @@
 // The quantising engine, which whole planes and making sessions run.
+use crate::asked::enough;
+use crate::asked::known_rule;
 use crate::ordered::numbers;
 use crate::turn::Place;
 use crate::turn::fill_row;
 use crate::turn::share;
 use crate::turn::take;
 use options::Quantize;
-ghost use mathlib.Core.Path.{_≡_};
-ghost use Rattle.quantize.specs.Whole.{knownSide};
-ghost use Rattle.quantize.specs.Engine.{Opens, Runs, Tabled};
+ghost use Rattle.quantize.specs.Engine.{Opens, Runs, Tabled, TellsRoom, TellsSpot, TellsWhole};
 ghost use Rattle.quantize.specs.Steps.{Able};
 
 // Samples of at most so many frames on their way to bytes.
@@ -20,23 +20,18 @@ pub struct Quantizer {
     place: Place,
 }
 
+// Where the next sample goes: how many frames are not full, and its row and column.
+pub struct Spot {
+    pub frames: usize,
+    pub row: usize,
+    pub column: usize,
+}
+
 // How many samples were taken, and how many bytes were written at the output's front.
 pub struct Ran {
     pub quantizer: Quantizer,
     pub taken: usize,
     pub written: usize,
-}
-
-pub(crate) fn known(side: u8) -> bool
-    ensures { λ r. ⌜ r ≡ knownSide side ⌝ }
-{
-    if side == 2 {
-        return true;
-    }
-    if side == 4 {
-        return true;
-    }
-    side == 8
 }
 
 // Whether samples can be taken: a place in the frame, a known side, and 2 × width numbers of work where the rule needs them.
@@ -55,11 +50,10 @@ fn able(rule: Quantize, width: usize, height: usize, p: Place, work: usize) -> b
     if p.begun >> (p.column % 8) as u32 != 0 {
         return false;
     }
-    match rule {
-        Quantize::Threshold(_) => true,
-        Quantize::Dither => width <= work / 2,
-        Quantize::Ordered(side) => known(side),
+    if !known_rule(rule) {
+        return false;
     }
+    enough(rule, width, work)
 }
 
 // The ordered numbers of the rule's side, row by row, at the front.
@@ -141,5 +135,43 @@ impl Quantizer {
             taken: taken,
             written: written,
         }
+    }
+
+    pub fn spot(self) -> Spot
+        ensures { λ r. ⌜ TellsSpot self r ⌝ }
+    {
+        let p = self.place;
+        Spot {
+            frames: p.frames,
+            row: p.row,
+            column: p.column,
+        }
+    }
+
+    // Whether a work buffer of so many numbers is long enough.
+    pub fn serves(self, work: usize) -> bool
+        ensures { λ r. ⌜ TellsRoom self work r ⌝ }
+    {
+        let rule = self.rule;
+        let width = self.width;
+        match rule {
+            Quantize::Threshold(_) => true,
+            Quantize::Dither => width <= work / 2,
+            Quantize::Ordered(_) => true,
+        }
+    }
+
+    // Whether the samples so far are whole frames, and at least one, where the engine was made for so many frames.
+    pub fn whole_frames(self, frames: u32) -> bool
+        ensures { λ r. ⌜ TellsWhole self frames r ⌝ }
+    {
+        let p = self.spot();
+        if p.row != 0 {
+            return false;
+        }
+        if p.column != 0 {
+            return false;
+        }
+        p.frames < frames as usize
     }
 }

@@ -6,7 +6,9 @@ ghost use lib.Dec.{leb};
 ghost use Rattle.quantize.specs.Bits.{bit, appended};
 ghost use Rattle.quantize.specs.Ordered.{bound};
 ghost use Rattle.quantize.specs.Ordered;
-ghost use Rattle.quantize.specs.Steps.{Packs, Known, Cell, Filled, Table, orderedBit};
+ghost use mathlib.Core.Bool.{true};
+ghost use Rattle.quantize.specs.Asked.{knownSide};
+ghost use Rattle.quantize.specs.Steps.{Packs, Cell, Filled, Table, orderedBit};
 
 // The numbers for side 8, row by row.
 const TABLE: [u8; 64] = [
@@ -123,7 +125,7 @@ pub(crate) fn numbers(side: u8) -> [u8; 64]
 
 // The number of a table at a column and a row of the image.
 fn cell_at(table: &[u8; 64], side: u8, x: usize, y: usize) -> u8
-    requires { ⌜ Known side ⌝ }
+    requires { ⌜ knownSide side ≡ true ⌝ }
     ensures { λ r. ⌜ r ≡ Ordered.cell side (now (table .entry)) x y ⌝ }
 {
     let s = side as usize;
@@ -133,7 +135,7 @@ fn cell_at(table: &[u8; 64], side: u8, x: usize, y: usize) -> u8
 
 // The dot of a sample where n is the number: 1 where gray × side × side is at least 256 n + 128.
 fn ordered_dot(side: u8, n: u8, gray: u8) -> u32
-    requires { ⌜ Known side ⌝ }
+    requires { ⌜ knownSide side ≡ true ⌝ }
     ensures { λ r. ⌜ r ≡ bit (leb (bound side n) gray) ⌝ }
 {
     let s = side as u32;
@@ -151,7 +153,7 @@ pub(crate) fn ordered_dots(
     begun: u32,
 ) -> u32
     requires { ⌜ Packs begun (length (now gray)) ⌝ }
-    requires { ⌜ Known side ⌝ }
+    requires { ⌜ knownSide side ≡ true ⌝ }
     requires { ⌜ column + length (now gray) < 2 ^ 64 ⌝ }
     ensures { λ r. ⌜ r ≡ appended begun (orderedBit side (now (table .entry)) y column (now (gray .entry))) (length (now (gray .entry))) ⌝ }
 {

@@ -8,7 +8,8 @@ use options::Quantize;
 ghost use mathlib.Core.Path.{_≡_};
 ghost use Prim.Native.Nat.{_+_, _-_, _*_, _^_, _≤_, _<_};
 ghost use lib.ListN.{length};
-ghost use Rattle.quantize.specs.Steps.{Wholes, AtOnce, Served, Shares, Dotting, Dotted, Advancing, Advances, Taking, Takes};
+ghost use Rattle.quantize.specs.Asked.{Served};
+ghost use Rattle.quantize.specs.Steps.{Wholes, AtOnce, Shares, Dotting, Dotted, Advancing, Advances, Taking, Takes};
 ghost use Rattle.quantize.specs.Row.{Filling, Fills, RowFilling, RowFilled};
 
 // Where the next sample goes, and what is kept for it.

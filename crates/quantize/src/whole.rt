@@ -1,6 +1,7 @@
 // Whole planes over the engine, one frame each.
+use crate::asked::known_rule;
+use crate::asked::roomy;
 use crate::engine::Quantizer;
-use crate::engine::known;
 use error::BUFFER_TOO_SHORT;
 use error::GRAY_TOO_SHORT;
 use error::OUTPUT_TOO_SHORT;
@@ -14,31 +15,7 @@ ghost use lib.ListN.{length};
 ghost use Rattle.error.specs.Answer.{written};
 ghost use Rattle.options.specs.declared.Quantize.the-variants.{Threshold, Dither, Ordered};
 ghost use Rattle.error.specs.Emits.{Emits};
-ghost use Rattle.quantize.specs.Engine.{meaning};
-ghost use Rattle.quantize.specs.Engine;
-ghost use Rattle.quantize.specs.Whole.{knownRule, refusedBy, quantized, Quantizes};
-
-// Whether the rule's side is one of document 01's.
-pub fn known_rule(rule: Quantize) -> bool
-    ensures { λ r. ⌜ r ≡ knownRule rule ⌝ }
-{
-    match rule {
-        Quantize::Threshold(_) => true,
-        Quantize::Dither => true,
-        Quantize::Ordered(side) => known(side),
-    }
-}
-
-// Whether a work buffer of so many numbers is long enough.
-pub fn roomy(rule: Quantize, width: u32, work: usize) -> bool
-    ensures { λ r. ⌜ r ≡ Engine.roomy (meaning rule) width work ⌝ }
-{
-    match rule {
-        Quantize::Threshold(_) => true,
-        Quantize::Dither => width as usize <= work / 2,
-        Quantize::Ordered(_) => true,
-    }
-}
+ghost use Rattle.quantize.specs.Whole.{refusedBy, quantized, Quantizes};
 
 // The refusal of so many samples and numbers of work, or 0.
 fn refused(width: u32, height: u32, gray: usize, rule: Quantize, work: usize) -> u8

@@ -13,6 +13,9 @@ returns-2 c = let s = c .before in let a = s .before .args in strict-unknown (a 
 pixel-format-requires : tie.Need-pixel-format-requires
 pixel-format-requires c κs = search needs
 
+decode-mode-requires : tie.Need-decode-mode-requires
+decode-mode-requires c κs = search needs
+
 limit-u32-requires : tie.Need-limit-u32-requires
 limit-u32-requires c κs = search needs
 
@@ -27,10 +30,11 @@ limit-u64-requires-2 c κs = search needs
 
 returns-3 : tie.Need-returns-3
 returns-3 c =
-    let p = c .before .before .before .before in
+    let m = c .before .before .before .before in
+    let p = m .before in
     let s = p .before in
     let a = s .before .before .args in
-    known (a .format) (a .strict) (a .max-width) (a .max-height) (a .max-pixels) (a .max-bytes) _ _ _ _ _ (omega (arith, s .if2 .left)) (p .pixel-format .ensures)
+    known (a .format) (a .strict) (a .max-width) (a .max-height) (a .max-pixels) (a .max-bytes) _ _ _ _ _ _ (p .pixel-format .ensures) (m .decode-mode .ensures)
     (c .before .before .before .limit-u32 .ensures) (c .before .before .limit-u322 .ensures) (c .before .limit-u64 .ensures) (c .limit-u642 .ensures)
 
 pub asked-spec : {M : Type 1} → statement M
@@ -40,6 +44,7 @@ asked-spec =
     returns
     returns-2
     pixel-format-requires
+    decode-mode-requires
     limit-u32-requires
     limit-u32-requires-2
     limit-u64-requires

@@ -2,13 +2,13 @@ use mathlib.Core.Path.{_≡_, sym, ap, subst, _∙_}
 use native.Mathlib.Omega.{arith}
 use denote.Ref.{now}
 use lib.ListN.{length}
-use Rattle.options.specs.Limits.{decoding}
+use Rattle.options.specs.Limits.{ceilingOf, decoding}
 use Rattle.decoder.specs.Frames.{Decodes}
 use Rattle.decoder.specs.Frames as frames
 use Rattle.decoder.specs.declared.Decoded.{Decoded}
 use Rattle.capi.specs.Asked.{meaning, settingsOf}
 use Rattle.capi.specs.declared.asked.Settings.{Settings}
-use Rattle.capi.proofs.Places.{Numbered, decoded-numbered}
+use Rattle.capi.proofs.Places.{Numbered, read-numbered}
 use Rattle.capi.proofs.Told.{reads, refuses-read, refuses-settings}
 use borrow.Author.Needs.{needs}
 use Rattle.capi.proofs.calls.wbmp_read.Statement.{statement}
@@ -22,11 +22,11 @@ settings-read c x e = sym (ap meaning e) ∙ c .asked .ensures
 decodes : (c : tie.After-decode-frames) (x : Decoded) → c .decode-frames .result ≡ x
     → let k = c .before .before .before in
     let a = k .before .before .before .before .before .args in
-    Decodes 16 (decoding (k .options .given .0 .0)) (now (a .bytes)) (frames.meaning x) (now (a .out)) (c .decode-frames .last .1 .1 .0)
+    Decodes (ceilingOf (decoding (k .options .given .0 .0))) (decoding (k .options .given .0 .0)) (now (a .bytes)) (frames.meaning x) (now (a .out)) (c .decode-frames .last .1 .1 .0)
 decodes c x e =
     let k = c .before .before .before in
     let a = k .before .before .before .before .before .args in
-    subst (λ (y : Decoded). Decodes 16 (decoding (k .options .given .0 .0)) (now (a .bytes)) (frames.meaning y) (now (a .out)) (c .decode-frames .last .1 .1 .0)) e
+    subst (λ (y : Decoded). Decodes (ceilingOf (decoding (k .options .given .0 .0))) (decoding (k .options .given .0 .0)) (now (a .bytes)) (frames.meaning y) (now (a .out)) (c .decode-frames .last .1 .1 .0)) e
     (c .decode-frames .ensures)
 
 asked-requires : tie.Need-asked-requires
@@ -50,7 +50,7 @@ pack-requires c κs =
     let d = h .before .before .before .before in
     let o = d .before .before .before in
     let a = o .before .before .before .before .before .args in
-    let t = subst Numbered (sym (decodes d _ (h .e .given .1) .answer)) (decoded-numbered 16 (decoding (o .options .given .0 .0)) (now (a .bytes)) (length (now (a .out)))) in
+    let t = subst Numbered (sym (decodes d _ (h .e .given .1) .answer)) (read-numbered _ (decoding (o .options .given .0 .0)) (now (a .bytes)) (length (now (a .out)))) in
     omega (arith, t .near)
 
 enum-told : tie.Need-enum-told

@@ -6,7 +6,7 @@ use Rattle.header.specs.Read.{meaning}
 use Rattle.header.specs.declared.HeaderRead.{HeaderRead}
 use Rattle.options.specs.Limits.{decoding}
 use Rattle.decoder.specs.Image.{readImage}
-use Rattle.decoder.proofs.Fitted.{decodes, refused, plane-there}
+use Rattle.decoder.proofs.Fitted.{imaged, refused, plane-there}
 use Rattle.decoder.proofs.frames.decode.Statement.{statement}
 use Rattle.decoder.proofs.frames.decode.Tie as tie
 
@@ -40,7 +40,7 @@ returns c =
     let h = w .before .before .before in
     let k = h .before .before in
     let a = k .before .before .before .args in
-    decodes (1 + a .most) (decoding (a .options)) (now (a .bytes)) (now (a .out)) _ _ _ (image-read k _ (h .h .given .1)) (w .write-frames .ensures)
+    imaged (1 + a .most) (decoding (a .options)) (now (a .bytes)) (now (a .out)) _ _ _ (image-read k _ (h .h .given .1)) (w .write-frames .ensures)
 
 returns-2 : tie.Need-returns-2
 returns-2 c =

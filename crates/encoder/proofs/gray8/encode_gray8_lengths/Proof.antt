@@ -1,31 +1,16 @@
-use mathlib.Core.Path.{_≡_, sym, ap, _∙_}
+use Rattle.encoder.proofs.Begun.{made-put}
 use borrow.Author.Needs.{needs}
-use denote.Ref.{now}
-use lib.ListN.{length}
-use Rattle.error.specs.Answer.{checked}
-use Rattle.error.specs.declared.Checked.{Checked}
-use Rattle.encoder.specs.Make.{checkScans}
-use Rattle.encoder.proofs.Made.{unmade}
 use Rattle.encoder.proofs.gray8.encode_gray8_lengths.Statement.{statement}
 use Rattle.encoder.proofs.gray8.encode_gray8_lengths.Tie as tie
 
--- what the tests say, by what they answered
-tested : (c : tie.After-check-scans) (x : Checked) → c .check-scans .result ≡ x
-    → let a = c .before .before .before .before .before .args in
-    checkScans 16 (a .options .quantize) (a .width) (a .height) (a .count) (length (now (a .gray))) (length (now (a .work))) ≡ checked x
-tested c x e = sym (c .check-scans .ensures) ∙ ap checked e
+check-lengths-requires : tie.Need-check-lengths-requires
+check-lengths-requires c κs = search needs
 
-check-scans-requires : tie.Need-check-scans-requires
-check-scans-requires c κs = search needs
+begin-gray8-requires : tie.Need-begin-gray8-requires
+begin-gray8-requires c κs = search needs
 
-enum-told : tie.Need-enum-told
-enum-told c = search needs
-
-make-file-requires : tie.Need-make-file-requires
-make-file-requires c κs = let t = c .before .before in tested (t .before .before) _ (t .enum-told .given .1)
-
-enum-known-e : tie.Need-enum-known-e
-enum-known-e c = search needs
+put-lengths-requires : tie.Need-put-lengths-requires
+put-lengths-requires c κs = search needs
 
 same-length : tie.Need-same-length
 same-length c = search needs
@@ -34,23 +19,17 @@ same-length-2 : tie.Need-same-length-2
 same-length-2 c = search needs
 
 returns : tie.Need-returns
-returns c = search needs
-
-returns-2 : tie.Need-returns-2
-returns-2 c =
-    let t = c .before .before .before in
-    let a = t .before .before .before .before .before .args in
-    unmade (a .options) (a .width) (a .height) (a .count) (now (a .gray)) (now (a .text)) (now (a .lengths)) (now (a .work)) (now (a .out)) _ _ (tested t _ (c .before .e .given .1))
+returns c =
+    let b = c .before .before .before .before .before .before .before in
+    made-put _ _ _ _ _ _ _ _ _ _ _ _ _ _ (b .begin-gray8 .ensures _ (b .before .before .before .check-lengths .ensures)) (c .before .before .put-lengths .ensures)
 
 pub encode-gray8-lengths-spec : {M : Type 1} → statement M
 encode-gray8-lengths-spec =
     tie.close
     (tie.spec
-    check-scans-requires
-    enum-told
-    make-file-requires
-    enum-known-e
+    check-lengths-requires
+    begin-gray8-requires
+    put-lengths-requires
     same-length
     same-length-2
-    returns
-    returns-2)
+    returns)

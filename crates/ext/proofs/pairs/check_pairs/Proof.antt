@@ -1,21 +1,24 @@
 use Prim.Native.Nat.{_-_}
-use mathlib.Core.Path.{_≡_, _∙_, sym, refl}
+use mathlib.Core.Path.{_≡_, _∙_, sym, ap}
 use native.Mathlib.Omega.{arith}
 use borrow.Author.Needs.{needs}
 use lib.ListN.{length, drop}
-use Rattle.ext.specs.Steps.{checkPairs}
+use Rattle.ext.specs.Steps.{checkStart, checkPairs}
 use Rattle.ext.proofs.PairSteps.{check-goes, check-end}
 use Rattle.ext.proofs.pairs.check_pairs.Statement.{statement}
 use Rattle.ext.proofs.pairs.check_pairs.Tie as tie
 
 abbrev Inv-loop : tie.InvT-loop
-Inv-loop text lengths strict s₀ k₀ s k = checkPairs strict text lengths (record { at = 0; code = 0 }) ≡ checkPairs strict text (drop k lengths) s
+Inv-loop text lengths strict s₀ k₀ s k = checkPairs strict text lengths checkStart ≡ checkPairs strict text (drop k lengths) s
 
 abbrev μ-loop : tie.MeasureT-loop
 μ-loop text lengths strict s₀ k₀ s k = length lengths - k
 
+check-start-requires : tie.Need-check-start-requires Inv-loop μ-loop
+check-start-requires c κs = search needs
+
 loop-holds : tie.Need-loop-holds Inv-loop μ-loop
-loop-holds c = refl
+loop-holds c = ap (checkPairs _ _ _) (sym (c .check-start .ensures))
 
 length-at-requires : tie.Need-length-at-requires Inv-loop μ-loop
 length-at-requires c κs = search needs
@@ -49,6 +52,7 @@ check-pairs-spec =
     (tie.spec
     Inv-loop
     μ-loop
+    check-start-requires
     loop-holds
     length-at-requires
     add-length-at

@@ -3,20 +3,23 @@ use mathlib.Core.Path.{_≡_, _∙_, sym, ap, refl}
 use native.Mathlib.Omega.{arith}
 use borrow.Author.Needs.{needs}
 use lib.ListN.{length, drop}
-use Rattle.ext.specs.Steps.{putPairs}
+use Rattle.ext.specs.Steps.{putStart, putPairs}
 use Rattle.ext.proofs.PairSteps.{put-goes, put-end, put-long}
 use Rattle.ext.proofs.pairs.put_pairs.Statement.{statement}
 use Rattle.ext.proofs.pairs.put_pairs.Tie as tie
 
 abbrev Inv-loop : tie.InvT-loop
-Inv-loop text lengths out₀ s₀ k₀ out s k =
-    (length out ≡ length out₀) × (putPairs text lengths out₀ (record { at = 0; to = 0 }) ≡ putPairs text (drop k lengths) out s)
+Inv-loop text lengths to out₀ s₀ k₀ out s k =
+    (length out ≡ length out₀) × (putPairs text lengths out₀ (putStart to) ≡ putPairs text (drop k lengths) out s)
 
 abbrev μ-loop : tie.MeasureT-loop
-μ-loop text lengths out₀ s₀ k₀ out s k = length lengths - k
+μ-loop text lengths to out₀ s₀ k₀ out s k = length lengths - k
+
+put-start-requires : tie.Need-put-start-requires Inv-loop μ-loop
+put-start-requires c κs = search needs
 
 loop-holds : tie.Need-loop-holds Inv-loop μ-loop
-loop-holds c = (refl, refl)
+loop-holds c = (refl, ap (putPairs _ _ _) (sym (c .put-start .ensures)))
 
 length-at-requires : tie.Need-length-at-requires Inv-loop μ-loop
 length-at-requires c κs = search needs
@@ -58,6 +61,7 @@ put-pairs-spec =
     (tie.spec
     Inv-loop
     μ-loop
+    put-start-requires
     loop-holds
     length-at-requires
     add-length-at

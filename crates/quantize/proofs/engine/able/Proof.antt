@@ -1,10 +1,13 @@
 -- `quantize::engine::able` meets its contract.
 -- Assumes nothing.
 use Prim.Native.Nat.{_%_}
+use mathlib.Core.Path.{sym, _∙_}
 use native.Mathlib.Nat.{div-eq-of-lt}
 use native.Mathlib.Omega.{arith}
 use lib.Pow.{pow-pos}
-use Rattle.quantize.proofs.Abilities.{denied, div-zero, able-threshold, able-dither, able-ordered}
+use borrow.Author.Tests.{not-true, not-false}
+use Rattle.quantize.proofs.Signed.{never}
+use Rattle.quantize.proofs.Abilities.{denied, div-zero, able-if}
 use borrow.Author.Needs.{needs}
 use Rattle.quantize.proofs.engine.able.Statement.{statement}
 use Rattle.quantize.proofs.engine.able.Tie as tie
@@ -27,26 +30,21 @@ shr-if4 c = search needs
 returns-4 : tie.Need-returns-4
 returns-4 c = denied (λ s. c .if4 .taken (div-eq-of-lt (s .begunSmall)))
 
-enum-told : tie.Need-enum-told
-enum-told c = search needs
-
-enum-told-2 : tie.Need-enum-told-2
-enum-told-2 c = search needs
-
-enum-known-rule : tie.Need-enum-known-rule
-enum-known-rule c = search needs
-
-known-requires : tie.Need-known-requires
-known-requires c κs = search needs
+known-rule-requires : tie.Need-known-rule-requires
+known-rule-requires c κs = search needs
 
 returns-5 : tie.Need-returns-5
-returns-5 c = able-threshold (c .before .before .before .before .before .before .before .before .before .if1 .left) (c .before .before .before .before .before .before .before .if2 .left) (c .before .before .before .before .before .if3 .left) (div-zero _ _ (pow-pos (c .before .before .before .before .before .before .before .before .before .before .before .args .p .column % 8)) (c .before .before .if4 .left)) _ (c .enum-told .given .1)
+returns-5 c = denied (λ s. never (sym (not-true _ (c .if5 .taken)) ∙ c .before .known-rule .ensures ∙ s .served .known))
+
+enough-requires : tie.Need-enough-requires
+enough-requires c κs = search needs
 
 returns-6 : tie.Need-returns-6
-returns-6 c = able-dither (c .before .before .before .before .before .before .before .before .before .if1 .left) (c .before .before .before .before .before .before .before .if2 .left) (c .before .before .before .before .before .if3 .left) (div-zero _ _ (pow-pos (c .before .before .before .before .before .before .before .before .before .before .before .args .p .column % 8)) (c .before .before .if4 .left)) (c .enum-told2 .given .1)
-
-returns-7 : tie.Need-returns-7
-returns-7 c = able-ordered (c .before .before .before .before .before .before .before .before .before .before .before .if1 .left) (c .before .before .before .before .before .before .before .before .before .if2 .left) (c .before .before .before .before .before .before .before .if3 .left) (div-zero _ _ (pow-pos (c .before .before .before .before .before .before .before .before .before .before .before .before .before .args .p .column % 8)) (c .before .before .before .before .if4 .left)) _ _ (c .before .before .rule .given .1) (c .known .ensures)
+returns-6 c =
+    let e = c .before in
+    let b = e .before .before in
+    able-if (b .before .before .before .before .before .before .before .if1 .left) (b .before .before .before .before .before .if2 .left) (b .before .before .before .if3 .left) (div-zero _ _ (pow-pos (b .before .before .before .before .before .before .before .before .before .args .p .column % 8)) (b .if4 .left)) _
+    (sym (e .before .known-rule .ensures) ∙ not-false _ (e .if5 .left)) (c .enough .ensures)
 
 pub able-spec : {M : Type 1} → statement M
 able-spec =
@@ -58,10 +56,7 @@ able-spec =
     cast-if4
     shr-if4
     returns-4
-    enum-told
-    enum-told-2
-    enum-known-rule
-    known-requires
+    known-rule-requires
     returns-5
-    returns-6
-    returns-7)
+    enough-requires
+    returns-6)

@@ -2,7 +2,7 @@
 -- Assumes nothing.
 use mathlib.Core.Path.{refl}
 use mathlib.Core.Logic.{⊎-elim}
-use Rattle.quantize.proofs.Cells.{table-right}
+use Rattle.quantize.proofs.Cells.{known-side, table-right}
 use borrow.Author.Needs.{needs}
 use Rattle.quantize.proofs.ordered.numbers.Statement.{statement}
 use Rattle.quantize.proofs.ordered.numbers.Tie as tie
@@ -20,7 +20,7 @@ returns-2 : tie.Need-returns-2
 returns-2 c = λ h. rw (c .before .if2 .taken) (c .filled2 .ensures 2 refl)
 
 returns-3 : tie.Need-returns-3
-returns-3 c = λ h. ⊎-elim (λ e. absurd (c .before .if1 .left e)) (λ h. ⊎-elim (λ e. absurd (c .if2 .left e)) (λ e. rw e table-right) h) h
+returns-3 c = λ h. ⊎-elim (λ e. absurd (c .before .if1 .left e)) (λ h. ⊎-elim (λ e. absurd (c .if2 .left e)) (λ e. rw e table-right) h) (known-side _ h)
 
 pub numbers-spec : {M : Type 1} → statement M
 numbers-spec = tie.close (tie.spec filled-requires returns filled-requires-2 returns-2 returns-3)

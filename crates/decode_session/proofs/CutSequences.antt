@@ -1,0 +1,59 @@
+-- Bytes that follow add to what a reading puts out and alter nothing of it.
+use Prim.Native.Nat.{ℕ, zero, suc, _+_, _*_}
+use mathlib.Core.Path.{_≡_, refl, sym, ap, _∙_}
+use mathlib.Core.List.{List, [], _∷_, _++_}
+use lib.ListN.{length, take, drop}
+use Rattle.error.specs.Answer.{Answer, gives, refuses}
+use Rattle.ext.proofs.Prefix.{settled}
+use Rattle.mbi.specs.Read.{readRest}
+use Rattle.header.specs.Read.{Outline, readHeader}
+use Rattle.image.specs.declared.PixelFormat.{PixelFormat}
+use Rattle.options.specs.Limits.{Decoding}
+use Rattle.decoder.specs.Body.{planeOf}
+use Rattle.decoder.specs.Image.{headerOf}
+use Rattle.decoder.proofs.After.{header-kept}
+use Rattle.decode_session.specs.Sequence.{bodyFrom, sequenceOf, sequence}
+use Rattle.decode_session.proofs.BodyBytes.{body-append}
+
+-- a list and something behind it
+pub record Extends (front whole : List ℕ) : Type 0 where
+  pub rest : List ℕ
+  pub whole-is : whole ≡ front ++ rest
+
+drop-extends : (n : ℕ) (s ρ : List ℕ) → Extends (drop n s) (drop n (s ++ ρ))
+drop-extends zero s ρ = record { rest = ρ; whole-is = refl }
+drop-extends (suc n) [] ρ = record { rest = drop (suc n) ρ; whole-is = refl }
+drop-extends (suc n) (b ∷ s) ρ = drop-extends n s ρ
+
+take-extends : (n : ℕ) (s ρ : List ℕ) → Extends (take n s) (take n (s ++ ρ))
+take-extends zero s ρ = record { rest = []; whole-is = refl }
+take-extends (suc n) [] ρ = record { rest = take (suc n) ρ; whole-is = refl }
+take-extends (suc n) (b ∷ s) ρ =
+    let e = take-extends n s ρ in
+    record { rest = e .rest; whole-is = ap (λ (l : List ℕ). b ∷ l) (e .whole-is) }
+
+module _ (format : PixelFormat) (width : ℕ) where
+  body-extends : (at : ℕ) (s t : List ℕ) → Extends s t → Extends (bodyFrom format width at s) (bodyFrom format width at t)
+  body-extends at s t e =
+      record { rest = bodyFrom format width (at + length s) (e .rest); whole-is = ap (bodyFrom format width at) (e .whole-is) ∙ body-append format width s (e .rest) at }
+
+extends-on : {f s t : List ℕ} → Extends s t → s ≡ f → Extends f t
+extends-on e p = record { rest = e .rest; whole-is = e .whole-is ∙ ap (λ (l : List ℕ). l ++ e .rest) p }
+
+pub sequence-none : (ceiling : ℕ) (d : Decoding) → sequence ceiling d [] ≡ []
+unfolding sequence readHeader readRest
+sequence-none ceiling d = refl
+
+module _ (ceiling : ℕ) (d : Decoding) (s ρ : List ℕ) where
+  pub sequence-extends : Extends (sequence ceiling d s) (sequence ceiling d (s ++ ρ))
+  unfolding sequence
+  sequence-extends = go (headerOf (d .mode) s) refl
+    where
+      go : (a : Answer Outline) → headerOf (d .mode) s ≡ a
+          → Extends (sequenceOf ceiling (d .format) s a) (sequenceOf ceiling (d .format) (s ++ ρ) (headerOf (d .mode) (s ++ ρ)))
+      go (gives h) e = rw (header-kept s ρ (d .mode) (ap settled e) ∙ e)
+          (body-extends (d .format) (h .width) 0 (take (ceiling * planeOf h) (drop (h .body) s)) (take (ceiling * planeOf h) (drop (h .body) (s ++ ρ)))
+          (let a = drop-extends (h .body) s ρ in
+          let b = take-extends (ceiling * planeOf h) (drop (h .body) s) (a .rest) in
+          record { rest = b .rest; whole-is = ap (take (ceiling * planeOf h)) (a .whole-is) ∙ b .whole-is }))
+      go (refuses code place) e = record { rest = sequenceOf ceiling (d .format) (s ++ ρ) (headerOf (d .mode) (s ++ ρ)); whole-is = refl }

@@ -1,0 +1,75 @@
+-- The header of a file so far.
+use Prim.Native.Nat.{ℕ, _<_}
+use mathlib.Core.Path.{_≡_, refl, sym, ap, _∙_}
+use mathlib.Core.List.{List, [], _∷_, _++_}
+use native.Mathlib.Omega.{arith}
+use lib.ListN.{length}
+use Rattle.error.specs.Answer.{gives, refuses, map}
+use Rattle.laws.proofs.Tests.{zero-one}
+use Rattle.header.specs.Settings.{Settings}
+use Rattle.header.specs.Read.{Outline, outline, readHeader}
+use Rattle.header.specs.Machine.{State, inType, atFix, inOctets, atOctet, atPair, inIdentifier, inValue, inWidth, inHeight, Step, more, done, refused, start, steps, stepOf, resume, after}
+use Rattle.header.specs.Pieces.{onward}
+use Rattle.header.specs.Represents.{Sound}
+use Rattle.header.specs.declared.reader.HeaderReader.{HeaderReader}
+use Rattle.header.proofs.Machine.{steps-cons, steps-law, steps-all}
+use Rattle.header.proofs.Direct.{direct}
+use Rattle.header.proofs.Meets.{finds, found}
+use Rattle.header.proofs.Ends.{endCode, endOffset, end-is}
+use Rattle.header.proofs.Taken.{taken, Moves, moves-step, taken-steps}
+use Rattle.decode_session.specs.Head.{Reached}
+
+module _ (o : Settings) where
+  -- a header that is done has its body behind the bytes taken before
+  done-past : (σ : List ℕ) (st : State) (h : Outline) → steps o st σ ≡ done h → taken st < h .body
+  unfolding steps
+  done-past [] st h e = zero-one (cc)
+  done-past (b ∷ σ) st h e = go (stepOf o st b) (moves-step o st b) (λ s. done-past σ s h) (sym (steps-cons o st b σ) ∙ e)
+    where
+      go : (x : Step) → Moves (taken st) x → ((s : State) → steps o s σ ≡ done h → taken s < h .body) → onward o x σ ≡ done h → taken st < h .body
+      go (more s) m ih q = omega (arith, m, ih s q)
+      go (done g) m ih q = let e : g ≡ h = cc in omega (arith, m, ap (λ (g : Outline). g .body) e)
+      go (refused code offset) m ih q = zero-one (cc)
+
+  module _ (s : List ℕ) where
+    -- bytes behind a header change nothing of it
+    pub header-later : (h : Outline) → map outline (readHeader o s) ≡ gives h → (τ : List ℕ) → map outline (readHeader o (s ++ τ)) ≡ gives h
+    header-later h e τ = direct o (s ++ τ) ∙ found o start s h (finds o start s h (sym (direct o s) ∙ e)) τ
+
+    -- the bytes up to its body have it
+    pub header-cut : (τ : List ℕ) (h : Outline) → map outline (readHeader o (s ++ τ)) ≡ gives h → h .body ≡ length s → map outline (readHeader o s) ≡ gives h
+    header-cut τ h e n =
+        direct o s ∙ steps-all o s start ∙ go (steps o start s) refl (sym (steps-law o s τ start) ∙ sym (direct o (s ++ τ)) ∙ e)
+      where
+        go : (x : Step) → steps o start s ≡ x → after o x τ ≡ gives h → after o x [] ≡ gives h
+        go (more st) p q =
+            let a = taken-steps o s start st p in
+            let b = done-past τ st h (finds o st τ h q) in
+            let z : ⊥ = omega arith in absurd z
+        go (done g) p q = q
+        go (refused code offset) p q = q
+
+    -- a reading that goes on has no header yet
+    pub unread : (st : State) → steps o start s ≡ more st → map outline (readHeader o s) ≡ resume o st []
+    unread st e = direct o s ∙ steps-all o s start ∙ ap (λ (x : Step). after o x []) e
+
+    pub unread-end : (st : State) → steps o start s ≡ more st → map outline (readHeader o s) ≡ refuses (endCode st) (endOffset st)
+    unread-end st e = unread st e ∙ end-is o st
+
+  -- where it stands
+  taken-bound : (st : State) → Sound st → taken st < 8192
+  taken-bound (inType at v n) h = omega arith
+  taken-bound (atFix at) h = omega arith
+  taken-bound (inOctets fix from at) h = omega arith
+  taken-bound (atOctet fix at) h = omega arith
+  taken-bound (atPair fix from at pairs) h = omega arith
+  taken-bound (inIdentifier fix from at pairs begun left size again fault) h = omega arith
+  taken-bound (inValue fix from at pairs begun left again fault) h = omega arith
+  taken-bound (inWidth fix f at v n) h = omega arith
+  taken-bound (inHeight fix f w at v n) h = omega arith
+
+  pub reached-bound : (bytes : List ℕ) (r : HeaderReader) (at kept : ℕ) → Reached o bytes r at kept → at < 8192
+  reached-bound bytes r at kept h =
+      let a = taken-steps o bytes start (h .state) (h .reached) in
+      let b = taken-bound (h .state) (h .represents .sound) in
+      omega (arith, h .atIs)

@@ -1,0 +1,61 @@
+use Prim.Native.Nat.{_-_}
+use mathlib.Core.Path.{sym, _∙_}
+use native.Mathlib.Omega.{arith}
+use lib.ListN.{length}
+use Rattle.image.specs.Rows.{invert}
+use Rattle.image.proofs.Inverted.{invert-length, invert-at}
+use Rattle.image.proofs.Filled.{Filled, begun, kept-length, filled, done}
+use Rattle.decode_session.proofs.convert.invert_from.Statement.{statement}
+use Rattle.decode_session.proofs.convert.invert_from.Tie as tie
+
+abbrev Inv-loop : tie.InvT-loop
+Inv-loop from to₀ i₀ to i = Filled (invert from) to₀ to i
+
+abbrev μ-loop : tie.MeasureT-loop
+μ-loop from to₀ i₀ to i = length to₀ - i
+
+loop-holds : tie.Need-loop-holds Inv-loop μ-loop
+loop-holds c = begun (invert-length (c .args .from .now) ∙ c .pre)
+
+shared-slice-read-to : tie.Need-shared-slice-read-to Inv-loop μ-loop
+shared-slice-read-to c = omega (arith, kept-length (c .before .before .loop .inv))
+
+sub-to : tie.Need-sub-to Inv-loop μ-loop
+sub-to c = omega (arith, c .shared-slice-known .given (c .before .before .loop .i))
+
+slice-write-to : tie.Need-slice-write-to Inv-loop μ-loop
+slice-write-to c = omega arith
+
+add-i : tie.Need-add-i Inv-loop μ-loop
+add-i c = omega arith
+
+loop-less : tie.Need-loop-less Inv-loop μ-loop
+loop-less c = omega (arith, kept-length (c .before .before .loop .inv))
+
+loop-again : tie.Need-loop-again Inv-loop μ-loop
+loop-again c =
+    let i = c .before .before .loop .inv in
+    let e = kept-length i in
+    filled i _ (omega arith) (sym (invert-at (c .before .before .before .args .from .now) (c .before .before .loop .i) (omega arith)))
+
+same-length : tie.Need-same-length Inv-loop μ-loop
+same-length c = kept-length (c .before .loop .inv)
+
+returns : tie.Need-returns Inv-loop μ-loop
+returns c = done (c .before .loop .inv) (omega (arith, kept-length (c .before .loop .inv)))
+
+pub invert-from-spec : {M : Type 1} → statement M
+invert-from-spec =
+    tie.close
+    (tie.spec
+    Inv-loop
+    μ-loop
+    loop-holds
+    shared-slice-read-to
+    sub-to
+    slice-write-to
+    add-i
+    loop-less
+    loop-again
+    same-length
+    returns)

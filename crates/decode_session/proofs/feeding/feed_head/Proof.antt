@@ -1,0 +1,89 @@
+use denote.Ref.{now}
+use Rattle.decode_session.proofs.Heading.{more, whole, refused}
+use borrow.Author.Needs.{needs}
+use Rattle.decode_session.proofs.feeding.feed_head.Statement.{statement}
+use Rattle.decode_session.proofs.feeding.feed_head.Tie as tie
+
+feed-header-requires : tie.Need-feed-header-requires
+feed-header-requires c κs = search needs
+
+enum-known-end : tie.Need-enum-known-end
+enum-known-end c = search needs
+
+wrapping-add-usize-requires : tie.Need-wrapping-add-usize-requires
+wrapping-add-usize-requires c κs = search needs
+
+took-requires : tie.Need-took-requires
+took-requires c κs = search needs
+
+enum-known-end-2 : tie.Need-enum-known-end-2
+enum-known-end-2 c = search needs
+
+feed-first-requires : tie.Need-feed-first-requires
+feed-first-requires c κs = search needs
+
+enum-known-end-3 : tie.Need-enum-known-end-3
+enum-known-end-3 c = search needs
+
+met-requires : tie.Need-met-requires
+met-requires c κs = search needs
+
+same-length : tie.Need-same-length
+same-length c = search needs
+
+returns : tie.Need-returns
+returns c =
+    let t = c .before .before .before in
+    let v = t .before .before .before .before in
+    let s = v .before .before .before .before .before in
+    let a = s .args in
+    more (a .options) (a .reader) (a .at) (a .kept) (now (a .piece)) (now (a .out)) (now (a .ext)) _ (v .feed-header .result) (v .feed-header .ensures) (s .pre) _ _ _ (t .end .given .1)
+    (c .before .wrapping-add-usize .ensures) (c .took .ensures)
+
+same-length-2 : tie.Need-same-length-2
+same-length-2 c = search needs
+
+same-length-3 : tie.Need-same-length-3
+same-length-3 c = search needs
+
+returns-2 : tie.Need-returns-2
+returns-2 c =
+    let f = c .before .before in
+    let t = f .before .before .before in
+    let v = t .before .before .before .before in
+    let s = v .before .before .before .before .before in
+    let a = s .args in
+    whole (a .options) (a .reader) (a .at) (a .kept) (now (a .piece)) (now (a .out)) (now (a .ext)) _ (v .feed-header .result) (v .feed-header .ensures) (s .pre) _ _ _ (t .end2 .given .1)
+    (f .feed-first .ensures)
+
+same-length-4 : tie.Need-same-length-4
+same-length-4 c = search needs
+
+returns-3 : tie.Need-returns-3
+returns-3 c =
+    let t = c .before .before in
+    let v = t .before .before .before .before in
+    let s = v .before .before .before .before .before in
+    let a = s .args in
+    refused (a .options) (a .reader) (a .at) (a .kept) (now (a .piece)) (now (a .out)) (now (a .ext)) _ (v .feed-header .result) (v .feed-header .ensures) (s .pre) _ _ (t .end3 .given .1)
+    (c .met .ensures)
+
+pub feed-head-spec : {M : Type 1} → statement M
+feed-head-spec =
+    tie.close
+    (tie.spec
+    feed-header-requires
+    enum-known-end
+    wrapping-add-usize-requires
+    took-requires
+    enum-known-end-2
+    feed-first-requires
+    enum-known-end-3
+    met-requires
+    same-length
+    returns
+    same-length-2
+    same-length-3
+    returns-2
+    same-length-4
+    returns-3)

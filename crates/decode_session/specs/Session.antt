@@ -1,0 +1,97 @@
+-- What a session stands for, and what its calls promise.
+use Prim.Native.Nat.{ℕ, _+_, _*_, _≤_, _<_}
+use mathlib.Core.Path.{_≡_}
+use mathlib.Core.List.{List, []}
+use mathlib.Core.Logic.{_⊎_}
+use lib.ListN.{length}
+use Rattle.error.specs.Answer.{Answer, gives, refuses, checked}
+use Rattle.error.specs.Answer as Answers
+use Rattle.header.specs.Read.{Outline, parsed}
+use Rattle.options.specs.Limits.{Decoding, settled, ceilingOf, decoding, checkLimits}
+use Rattle.decoder.specs.Body.{planeOf}
+use Rattle.decoder.specs.Image.{imageSettings, headerOf}
+use Rattle.decode_session.specs.Head.{Reached}
+use Rattle.decode_session.specs.Model.{Met, nothing, refusal, Model, feed, close, Told, took, frames, shut, outcome}
+use Rattle.decode_session.specs.declared.Stage.{Stage}
+use Rattle.decode_session.specs.declared.DecodeSession.{DecodeSession}
+use Rattle.decode_session.specs.declared.DecodeOpened.{DecodeOpened}
+use Rattle.decode_session.specs.declared.DecodeFeed.{DecodeFeed}
+use Rattle.decode_session.specs.declared.DecodeFeed.the-variants.{Took}
+use Rattle.decode_session.specs.declared.DecodeFed.{DecodeFed}
+use Rattle.decode_session.specs.declared.DecodeClose.{DecodeClose}
+use Rattle.decode_session.specs.declared.DecodeClose.the-variants.{Frames}
+use Rattle.decode_session.specs.declared.DecodeClosed.{DecodeClosed}
+use Rattle.decode_session.specs.declared.HeaderSeen.{HeaderSeen}
+
+-- what the code's answers mean
+abbrev pub fedMeaning : DecodeFeed → Answer Told
+fedMeaning (Took n b) = gives (took n b)
+fedMeaning (DecodeFeed.Refused e) = Answers.refusal e
+
+abbrev pub closedMeaning : DecodeClose → Answer Told
+closedMeaning (Frames n) = gives (frames n)
+closedMeaning (DecodeClose.Refused e) = Answers.refusal e
+
+-- the header of the file so far
+pub data Seen : Type 0 where
+  unread : Seen
+  seen : Outline → Seen
+
+abbrev pub seenMeaning : HeaderSeen → Seen
+seenMeaning HeaderSeen.Unread = unread
+seenMeaning (HeaderSeen.Header h) = seen (parsed h)
+
+abbrev pub seenOf : Answer Outline → Met → Seen
+seenOf (gives h) nothing = seen h
+seenOf (refuses code place) nothing = unread
+seenOf a (refusal code place) = unread
+
+abbrev pub headerSeen : Model → Seen
+headerSeen m = seenOf (headerOf (m .options .mode) (m .bytes)) (m .met)
+
+-- in the body: so many whole planes, and so many bytes of the begun one; behind the last plane bytes are dropped
+pub record InBody (m : Model) (h : Outline) (whole begun : ℕ) : Type 0 where
+  pub nothingMet : m .met ≡ nothing
+  pub headerIs : headerOf (m .options .mode) (m .bytes) ≡ gives h
+  pub admitted : checkLimits (m .options) (h .width) (h .height) (planeOf h) (h .body) ≡ gives tt
+  pub start : h .body ≤ length (m .bytes)
+  pub below : begun < planeOf h
+  pub place : ((whole < m .ceiling) × (h .body + (whole * planeOf h + begun) ≡ length (m .bytes)))
+      ⊎ ((whole ≡ m .ceiling) × ((begun ≡ 0) × (h .body + whole * planeOf h ≤ length (m .bytes))))
+
+abbrev pub StageOf : Stage → Model → Type 0
+StageOf (Stage.Header r at kept) m = (m .met ≡ nothing) × Reached (imageSettings (m .options .mode)) (m .bytes) r at kept
+StageOf (Stage.Body h whole begun) m = InBody m (parsed h) whole begun
+StageOf (Stage.Refused e) m = m .met ≡ refusal (e .code) (e .offset)
+
+-- the settings passed their test, and the ceiling is theirs
+pub record Bounded (ceiling : ℕ) (d : Decoding) : Type 0 where
+  pub passed : settled d ≡ gives d
+  pub is : ceiling ≡ ceilingOf d
+
+pub record Stands (s : DecodeSession) (m : Model) : Type 0 where
+  pub ceiling : Bounded (m .ceiling) (m .options)
+  pub options : decoding (s .options) ≡ m .options
+  pub live : s .live ≡ m .live
+  pub stage : StageOf (s .stage) m
+
+-- ---- the contracts; the session keeps nothing in a buffer, so they hold for every buffer
+
+-- Opening is lent the extension buffer and leaves it as it was. A session whose opening is refused stands for the closed machine.
+pub record Opens (s : Answer (Unit {0})) (r : DecodeOpened) (m : Model) : Type 0 where
+  pub answer : checked (r .answer) ≡ s
+  pub stands : s ≡ gives tt → Stands (r .session) m
+  pub refused : (code place : ℕ) → s ≡ refuses code place → Stands (r .session) (shut m)
+
+pub record Feeds (s : DecodeSession) (piece out ext : List ℕ) (r : DecodeFed) (out′ ext′ : List ℕ) : Type 0 where
+  pub does : (m : Model) → Stands s m
+      → (outcome m (feed piece out ext) .reply ≡ record { answer = fedMeaning (r .answer); output = out′; extension = ext′ })
+      × Stands (r .session) (outcome m (feed piece out ext) .next)
+
+pub record Closes (s : DecodeSession) (r : DecodeClosed) : Type 0 where
+  pub does : (m : Model) → Stands s m
+      → (outcome m close .reply ≡ record { answer = closedMeaning (r .answer); output = []; extension = [] })
+      × Stands (r .session) (outcome m close .next)
+
+pub record Sees (s : DecodeSession) (r : HeaderSeen) : Type 0 where
+  pub does : (m : Model) → Stands s m → seenMeaning r ≡ headerSeen m

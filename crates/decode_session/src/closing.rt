@@ -1,0 +1,27 @@
+// Closing a session.
+use crate::DecodeClose;
+use crate::Stage;
+use crate::body::MAX_FRAMES;
+use crate::body::least;
+use error::PLANE_TOO_SHORT;
+use error::WbmpError;
+ghost use Rattle.decode_session.specs.Stages.{Finishes};
+
+// What closing answers: the refusal met, that of a file which ends in its header or its first plane, or how many planes are whole.
+pub(crate) fn finish(stage: Stage) -> DecodeClose
+    ensures { λ r. ⌜ Finishes stage r ⌝ }
+{
+    match stage {
+        Stage::Header(reader, _, _) => DecodeClose::Refused(reader.ended()),
+        Stage::Body(h, whole, _) => {
+            if whole == 0 {
+                return DecodeClose::Refused(WbmpError {
+                    code: PLANE_TOO_SHORT,
+                    offset: h.data_offset,
+                });
+            }
+            DecodeClose::Frames(least(whole, MAX_FRAMES) as u32)
+        }
+        Stage::Refused(e) => DecodeClose::Refused(e),
+    }
+}

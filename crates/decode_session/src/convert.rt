@@ -1,0 +1,54 @@
+// A stretch of a body in the asked format.
+use image::PixelFormat;
+use image::PlaneLayout;
+ghost use mathlib.Core.Path.{_≡_};
+ghost use lib.ListN.{length};
+ghost use Rattle.image.specs.Rows.{invert};
+ghost use Rattle.decode_session.specs.Sequence.{bodyFrom};
+ghost use Rattle.decode_session.specs.Body.{Cleared};
+
+// The inverted bytes of another list.
+fn invert_from(from: &[u8], to: &mut [u8])
+    requires { ⌜ length (now from) ≡ length (now to) ⌝ }
+    ensures { λ r. ⌜ now (to .exit) ≡ invert (now (from .entry)) ⌝ }
+{
+    let mut i: usize = 0;
+    while i < to.len() {
+        to[i] = 255 - from[i];
+        i += 1;
+    }
+}
+
+// The padding of each row that ends among these bytes of a body, the first of which is byte `at`, is cleared.
+fn clear_ends(bytes: &mut [u8], width: u32, at: usize)
+    ensures { λ r. ⌜ Cleared width at (now (bytes .entry)) (now (bytes .exit)) ⌝ }
+{
+    if width % 8 == 0 {
+        return;
+    }
+    let layout = PlaneLayout::new(width, 1);
+    let row = layout.stride;
+    let mask = layout.last_byte_pad_mask;
+    let mut last = row - 1 - at % row;
+    while last < bytes.len() {
+        bytes[last] = bytes[last] & mask;
+        last += row;
+    }
+}
+
+// All bytes at once, and then the padding.
+pub(crate) fn convert(format: PixelFormat, width: u32, at: usize, bytes: &[u8], out: &mut [u8])
+    requires { ⌜ length (now bytes) ≡ length (now out) ⌝ }
+    ensures { λ r. ⌜ now (out .exit) ≡ bodyFrom format width at (now (bytes .entry)) ⌝ }
+{
+    match format {
+        PixelFormat::MonoBlack => {
+            let native = PixelFormat::MonoBlack;
+            image::into_format(bytes, width, 0, native, native, out);
+        }
+        PixelFormat::MonoWhite => {
+            invert_from(bytes, out);
+            clear_ends(out, width, at);
+        }
+    }
+}

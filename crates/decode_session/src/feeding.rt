@@ -1,0 +1,122 @@
+// Feeding a session that no test of the call's order has answered.
+use crate::DecodeFed;
+use crate::DecodeFeed;
+use crate::DecodeSession;
+use crate::Stage;
+use crate::body::MAX_FRAMES;
+use crate::body::feed_body;
+use crate::head::HeadEnd;
+use crate::head::feed_header;
+use error::Checked;
+use error::WbmpError;
+use header::HeaderReader;
+use header::ParsedHeader;
+use image::PlaneLayout;
+use options::DecodeOptions;
+ghost use mathlib.Core.Path.{_≡_};
+ghost use mathlib.Core.Bool.{true};
+ghost use Prim.Native.Nat.{_≤_};
+ghost use lib.ListN.{length};
+ghost use Rattle.decode_session.specs.Session.{Feeds};
+ghost use Rattle.decode_session.specs.Stages.{takenIn, metIn, Planes, Begins};
+
+// The session after a call that takes and writes so many bytes.
+fn took(options: DecodeOptions, stage: Stage, taken: usize, written: usize) -> DecodeFed
+    ensures { λ r. ⌜ r ≡ takenIn options stage taken written ⌝ }
+{
+    let session = DecodeSession {
+        options,
+        stage,
+        live: true,
+    };
+    let answer = DecodeFeed::Took { taken, written };
+    DecodeFed { session, answer }
+}
+
+// The session after a call that meets a refusal of the file.
+fn met(options: DecodeOptions, e: WbmpError) -> DecodeFed
+    ensures { λ r. ⌜ r ≡ metIn options e ⌝ }
+{
+    let stage = Stage::Refused(e);
+    let session = DecodeSession {
+        options,
+        stage,
+        live: true,
+    };
+    let answer = DecodeFeed::Refused(e);
+    DecodeFed { session, answer }
+}
+
+// The body behind the first `from` bytes of a piece.
+pub(crate) fn feed_planes(
+    options: DecodeOptions,
+    h: ParsedHeader,
+    whole: usize,
+    begun: usize,
+    from: usize,
+    piece: &[u8],
+    out: &mut [u8],
+) -> DecodeFed
+    requires { ⌜ from ≤ length (now piece) ⌝ }
+    ensures { λ r. ⌜ Planes options h whole begun from (now (piece .entry)) (now (out .entry)) r (now (out .exit)) ⌝ }
+{
+    let format = options.format;
+    let fed = feed_body(
+        format,
+        h.width,
+        h.height,
+        MAX_FRAMES,
+        whole,
+        begun,
+        &piece[from..],
+        out,
+    );
+    let stage = Stage::Body(h, fed.whole, fed.begun);
+    took(options, stage, from + fed.taken, fed.written)
+}
+
+// Behind the header, which ended with the first `from` bytes of a piece: the limits, then the body.
+fn feed_first(
+    options: DecodeOptions,
+    h: ParsedHeader,
+    from: usize,
+    piece: &[u8],
+    out: &mut [u8],
+) -> DecodeFed
+    requires { ⌜ from ≤ length (now piece) ⌝ }
+    ensures { λ r. ⌜ Begins options h from (now (piece .entry)) (now (out .entry)) r (now (out .exit)) ⌝ }
+{
+    let layout = PlaneLayout::new(h.width, h.height);
+    let plane = layout.total_bytes as u64;
+    match options.check(h.width, h.height, plane, h.data_offset) {
+        Checked::Accepted => feed_planes(options, h, 0, 0, from, piece, out),
+        Checked::Refused(e) => met(options, e),
+    }
+}
+
+// A piece for a session in the header.
+pub(crate) fn feed_head(
+    options: DecodeOptions,
+    reader: HeaderReader,
+    at: usize,
+    kept: usize,
+    piece: &[u8],
+    out: &mut [u8],
+    ext: &mut [u8],
+) -> DecodeFed
+    requires { ⌜ 4118 ≤ length (now ext) ⌝ }
+    ensures { λ r. ⌜ Feeds (record { options = options; stage = Stage.Header reader at kept; live = true }) (now (piece .entry)) (now (out .entry)) (now (ext .entry)) r (now (out .exit)) (now (ext .exit)) ⌝ }
+{
+    let fed = feed_header(reader, at, kept, piece, ext);
+    let taken = fed.taken;
+    let end = fed.end;
+    match end {
+        HeadEnd::More(next) => {
+            let now = std::num::wrapping_add_usize(at, taken);
+            let stage = Stage::Header(next, now, fed.kept);
+            took(options, stage, taken, 0)
+        }
+        HeadEnd::Done(h) => feed_first(options, h, taken, piece, out),
+        HeadEnd::Refused(e) => met(options, e),
+    }
+}

@@ -1,0 +1,98 @@
+// The header's part of a piece: each byte goes to the header's reader, and those of extension fields to the lent buffer too.
+use error::WbmpError;
+use header::HeaderReader;
+use header::HeaderStep;
+use header::ParsedHeader;
+ghost use Prim.Native.Nat.{_+_, _≤_};
+ghost use mathlib.Core.Path.{_≡_};
+ghost use lib.ListN.{length};
+ghost use Rattle.decode_session.specs.Head.{isKept, Keeps, Heads};
+
+// How the header's part of a piece ends: the header goes on, it ended, or it is refused.
+pub enum HeadEnd {
+    More(HeaderReader),
+    Done(ParsedHeader),
+    Refused(WbmpError),
+}
+
+// How many bytes of the piece are the header's, and how many extension bytes are kept by now.
+pub struct HeadFed {
+    pub taken: usize,
+    pub kept: usize,
+    pub end: HeadEnd,
+}
+
+// Whether a byte at the offset `at + i` is to be kept: one of the fields, and before the place of its refusal.
+fn is_kept(inside: bool, at: usize, i: usize, step: HeaderStep) -> bool
+    ensures { λ r. ⌜ r ≡ isKept inside (at + i) step ⌝ }
+{
+    match step {
+        HeaderStep::More(_) => inside,
+        HeaderStep::Done(_) => false,
+        HeaderStep::Refused(e) => {
+            if inside {
+                if at < e.offset {
+                    i < e.offset - at
+                } else {
+                    false
+                }
+            } else {
+                false
+            }
+        }
+    }
+}
+
+// Stores a byte that is wanted behind those kept, and says how many are kept then.
+fn keep(ext: &mut [u8], kept: usize, byte: u8, wanted: bool) -> usize
+    ensures { λ r. ⌜ Keeps kept byte wanted (now (ext .entry)) r (now (ext .exit)) ⌝ }
+{
+    if wanted {
+        if kept < ext.len() {
+            let next = kept + 1;
+            ext[kept] = byte;
+            return next;
+        }
+    }
+    kept
+}
+
+// Feeds a piece to the header's reader, up to the header's last byte or a refusal. `at` bytes came before the piece, and `kept` extension bytes
+// among them.
+pub(crate) fn feed_header(
+    reader: HeaderReader,
+    at: usize,
+    kept: usize,
+    piece: &[u8],
+    ext: &mut [u8],
+) -> HeadFed
+    requires { ⌜ 4118 ≤ length (now ext) ⌝ }
+    ensures { λ r. ⌜ Heads reader at kept (now (piece .entry)) (now (ext .entry)) r (now (ext .exit)) ⌝ }
+{
+    let mut reader = reader;
+    let mut kept = kept;
+    let mut taken = 0;
+    while taken < piece.len() {
+        let byte = piece[taken];
+        let inside = reader.in_fields();
+        let step = reader.step(byte);
+        let wanted = is_kept(inside, at, taken, step);
+        kept = keep(ext, kept, byte, wanted);
+        taken += 1;
+        match step {
+            HeaderStep::More(next) => {
+                reader = next;
+            }
+            HeaderStep::Done(header) => {
+                let end = HeadEnd::Done(header);
+                return HeadFed { taken, kept, end };
+            }
+            HeaderStep::Refused(e) => {
+                let end = HeadEnd::Refused(e);
+                return HeadFed { taken, kept, end };
+            }
+        }
+    }
+    let end = HeadEnd::More(reader);
+    HeadFed { taken, kept, end }
+}

@@ -1,0 +1,10 @@
+-- The laws that several proofs cite, and the theorems on lists of calls.
+pub mod Answering
+pub mod Opening
+pub mod Feeding
+pub mod Closing
+pub mod Lists
+pub mod Reaching
+pub mod Joining
+pub mod Theorems
+pub mod Examples

@@ -1,0 +1,196 @@
+// A making session: gray samples come in pieces, and the bytes of the file go out in pieces.
+use error::BUFFER_TOO_SHORT;
+use error::Checked;
+use error::GRAY_TOO_SHORT;
+use error::SESSION_CLOSED;
+use error::UNKNOWN_SETTING;
+use error::WbmpError;
+use error::Written;
+use error::ZERO_DIMENSION;
+use options::EncodeOptions;
+use options::Quantize;
+use quantize::Quantizer;
+ghost use Prim.Native.Nat.{_*_};
+ghost use mathlib.Core.Path.{_≡_};
+ghost use mathlib.Core.Bool.{true};
+ghost use lib.ListN.{length};
+ghost use Rattle.error.specs.Answer.{refuses, written};
+ghost use Rattle.error.specs.Emits.{Emits};
+ghost use Rattle.options.specs.declared.Quantize.{Quantize};
+ghost use Rattle.quantize.specs.Engine.{meaning, roomy};
+ghost use Rattle.encode_session.specs.Model.{opening, header};
+ghost use Rattle.encode_session.specs.Session.{isGiven, refusedFed, refusedClosed, Opens, Feeds, Closes};
+
+// The main image and at most 15 that follow it.
+const MAX_FRAMES: u32 = 16;
+
+// How many numbers of work serve a card of so many dots a row under any rule; only dithering wants them.
+pub fn work_numbers(width: u32) -> usize
+    ensures { λ r. ⌜ (r ≡ 2 * width) × ((rule : Quantize) → roomy (meaning rule) width r ≡ true) ⌝ }
+{
+    2 * (width as usize)
+}
+
+// An opened session; only `open` makes one.
+pub struct EncodeSession {
+    quantizer: Quantizer,
+    live: bool,
+}
+
+// What opening answers: how many bytes of header it wrote, and the session, which is closed where opening is refused.
+pub struct EncodeOpened {
+    pub session: EncodeSession,
+    pub answer: Written,
+}
+
+// What feeding answers: how many samples were taken and how many bytes written.
+pub enum EncodeFeed {
+    Took { taken: usize, written: usize },
+    Refused(WbmpError),
+}
+
+pub struct EncodeFed {
+    pub session: EncodeSession,
+    pub answer: EncodeFeed,
+}
+
+// What closing answers.
+pub struct EncodeClosed {
+    pub session: EncodeSession,
+    pub answer: Checked,
+}
+
+// Refusals, place 0; a refused call hands the session back as it was.
+fn refused(code: u8) -> Written
+    ensures { λ r. ⌜ written r ≡ refuses code 0 ⌝ }
+{
+    Written::Refused(WbmpError { code, offset: 0 })
+}
+
+fn unfed(session: EncodeSession, code: u8) -> EncodeFed
+    ensures { λ r. ⌜ r ≡ refusedFed session code ⌝ }
+{
+    EncodeFed {
+        session: session,
+        answer: EncodeFeed::Refused(WbmpError { code, offset: 0 }),
+    }
+}
+
+fn unclosed(session: EncodeSession, code: u8) -> EncodeClosed
+    ensures { λ r. ⌜ r ≡ refusedClosed session code ⌝ }
+{
+    EncodeClosed {
+        session: session,
+        answer: Checked::Refused(WbmpError { code, offset: 0 }),
+    }
+}
+
+// The header at the front of the lent output, if the rule and so many numbers of work serve.
+fn write_opening(
+    width: u32,
+    height: u32,
+    options: EncodeOptions,
+    text: &[u8],
+    lengths: &[usize],
+    work: usize,
+    out: &mut [u8],
+) -> Written
+    ensures { λ r. ⌜ Emits (header (opening options width height (now (text .entry)) (now (lengths .entry))) work) (written r) (now (out .entry)) (now (out .exit)) ⌝ }
+{
+    if width == 0 {
+        return refused(ZERO_DIMENSION);
+    }
+    if height == 0 {
+        return refused(ZERO_DIMENSION);
+    }
+    let rule = options.quantize;
+    if !quantize::known_rule(rule) {
+        return refused(UNKNOWN_SETTING);
+    }
+    if !quantize::roomy(rule, width, work) {
+        return refused(BUFFER_TOO_SHORT);
+    }
+    let ext = options.ext;
+    header::write_header_ext_lengths(width, height, ext, text, lengths, options.strict, out)
+}
+
+fn is_given(answer: Written) -> bool
+    ensures { λ r. ⌜ r ≡ isGiven (written answer) ⌝ }
+{
+    match answer {
+        Written::Bytes(_) => true,
+        Written::Refused(_) => false,
+    }
+}
+
+impl EncodeSession {
+    // Writes the header. The work buffer is only measured; feeding calls are lent it again.
+    pub fn open(
+        width: u32,
+        height: u32,
+        options: EncodeOptions,
+        text: &[u8],
+        lengths: &[usize],
+        work: &[i16],
+        out: &mut [u8],
+    ) -> EncodeOpened
+        ensures { λ r. ⌜ Opens (opening options width height (now (text .entry)) (now (lengths .entry))) (length (now (work .entry))) r (now (out .entry)) (now (out .exit)) ⌝ }
+    {
+        let rule = options.quantize;
+        let quantizer = Quantizer::new(rule, width, height, MAX_FRAMES);
+        let answer = write_opening(width, height, options, text, lengths, work.len(), out);
+        let live = is_given(answer);
+        EncodeOpened {
+            session: EncodeSession {
+                quantizer: quantizer,
+                live: live,
+            },
+            answer: answer,
+        }
+    }
+
+    // Takes the most samples whose finished bytes fit the lent output, none past 16 frames.
+    pub fn feed(self, samples: &[u8], work: &mut [i16], out: &mut [u8]) -> EncodeFed
+        ensures { λ r. ⌜ Feeds self (now (samples .entry)) (now (out .entry)) (now (work .entry)) r (now (out .exit)) (now (work .exit)) ⌝ }
+    {
+        let quantizer = self.quantizer;
+        let served = quantizer.serves(work.len());
+        if !self.live {
+            return unfed(self, SESSION_CLOSED);
+        }
+        if !served {
+            return unfed(self, BUFFER_TOO_SHORT);
+        }
+        let ran = quantizer.run(samples, out, work);
+        let next = ran.quantizer;
+        EncodeFed {
+            session: EncodeSession {
+                quantizer: next,
+                live: true,
+            },
+            answer: EncodeFeed::Took {
+                taken: ran.taken,
+                written: ran.written,
+            },
+        }
+    }
+
+    // Inside a frame, or before the first one ended, the session stays open.
+    pub fn close(mut self) -> EncodeClosed
+        ensures { λ r. ⌜ Closes self r ⌝ }
+    {
+        let quantizer = self.quantizer;
+        let whole = quantizer.whole_frames(MAX_FRAMES);
+        if self.live {
+            if whole {
+                self.live = false;
+                return EncodeClosed {
+                    session: self,
+                    answer: Checked::Accepted,
+                };
+            }
+            return unclosed(self, GRAY_TOO_SHORT);
+        }
+        unclosed(self, SESSION_CLOSED)
+    }
+}
