@@ -11,8 +11,9 @@ use lib.Seq.{length-take-le}
 use Rattle.error.specs.Answer.{gives, refuses}
 use Rattle.laws.proofs.Tests.{if-true, zero-one}
 use Rattle.quantize.specs.declared.engine.Ran.{Ran}
-use Rattle.quantize.specs.Engine.{TellsRoom, Counts, Runs, Holds as QHolds}
+use Rattle.quantize.specs.Engine.{roomFor, Counts, Runs, Stands as QStands, Holds as QHolds}
 use Rattle.quantize.specs.Finished.{newly}
+use Rattle.quantize.proofs.Framing.{frames-done, room-behind}
 use Rattle.quantize.proofs.Growing.{length-finished}
 use Rattle.encode_session.specs.declared.EncodeSession.{EncodeSession}
 use Rattle.encode_session.specs.declared.EncodeFed.{EncodeFed}
@@ -22,16 +23,16 @@ use Rattle.encode_session.specs.Session.{refusedFed, Stands, Holds, Feed
 use Rattle.encode_session.proofs.Answering.{feed-shut, feed-short, feed-busy}
 
 -- the engine tests what the machine does
-pub served-is : (s : EncodeSession) (m : Model) (work : ℕ) (b : Bool) → Stands s m → TellsRoom (s .quantizer) work b → serves (m .opening) work ≡ b
-served-is s m work b t tells = sym (tells (settingOf (m .opening)) (length (m .samples)) (t .place))
+pub served-is : (s : EncodeSession) (m : Model) (work : ℕ) (b : Bool) → Stands s m → m .live ≡ true → b ≡ roomFor (s .quantizer) work
+    → serves (m .opening) work ≡ b
+served-is s m work b t l tells = sym (tells ∙ room-behind (s .quantizer) (settingOf (m .opening)) (length (m .samples)) work (t .place l))
 
 module _ (s : EncodeSession) (xs out : List ℕ) (work : List ℤ) where
   -- a call that the machine refuses too
-  idle-feed : (code : ℕ) → (s .live ≡ false → code ≡ 30) → ((m : Model) → Stands s m → outcome m (feed xs out (length work)) ≡ unaltered m code out)
+  idle-feed : (code : ℕ) → ((m : Model) → Stands s m → outcome m (feed xs out (length work)) ≡ unaltered m code out)
       → Feeds s xs out work (refusedFed s code) out work
-  idle-feed code shut idle =
+  idle-feed code idle =
       record {
-        shut = λ l. ap (λ (k : ℕ). refuses k 0) (shut l);
         refused = λ code place e. (refl, (refl, refl));
         runs = λ n b e. zero-one (cc);
         counts = λ m t. subst (λ (x : Outcome). (refuses code 0 ≡ x .reply .answer) × Stands s (x .next)) (sym (idle m t)) (refl, t);
@@ -41,17 +42,18 @@ module _ (s : EncodeSession) (xs out : List ℕ) (work : List ℤ) where
   pub feeds-shut : (r : EncodeFed) → r ≡ refusedFed s 30 → s .live ≡ false → Feeds s xs out work r out work
   feeds-shut r f l =
       subst (λ (x : EncodeFed). Feeds s xs out work x out work) (sym f)
-      (idle-feed 30 (λ _. refl) (λ m t. feed-shut m xs out (length work) (sym (t .live) ∙ l)))
+      (idle-feed 30 (λ m t. feed-shut m xs out (length work) (sym (t .live) ∙ l)))
 
-  pub feeds-short : (r : EncodeFed) → r ≡ refusedFed s 28 → s .live ≡ true → (b : Bool) → TellsRoom (s .quantizer) (length work) b → b ≡ false
+  pub feeds-short : (r : EncodeFed) → r ≡ refusedFed s 28 → s .live ≡ true → (b : Bool) → b ≡ roomFor (s .quantizer) (length work) → b ≡ false
       → Feeds s xs out work r out work
   feeds-short r f l b tells e =
       subst (λ (x : EncodeFed). Feeds s xs out work x out work) (sym f)
-      (idle-feed 28 (λ k. zero-one (cc)) (λ m t. feed-short m xs out (length work) (sym (t .live) ∙ l) (served-is s m (length work) b t tells ∙ e)))
+      (idle-feed 28
+      (λ m t. let o = sym (t .live) ∙ l in feed-short m xs out (length work) o (served-is s m (length work) b t o tells ∙ e)))
 
 -- ---- the engine ran
 
-module _ (s : EncodeSession) (xs out : List ℕ) (work : List ℤ) (l : s .live ≡ true) (b : Bool) (tells : TellsRoom (s .quantizer) (length work) b) (e : b ≡ true)
+module _ (s : EncodeSession) (xs out : List ℕ) (work : List ℤ) (l : s .live ≡ true) (b : Bool) (tells : b ≡ roomFor (s .quantizer) (length work)) (e : b ≡ true)
     (r : Ran) (out′ : List ℕ) (work′ : List ℤ) (R : Runs (s .quantizer) xs out work r out′ work′) where
   abbrev next : EncodeSession
   next = record { quantizer = r .quantizer; live = true }
@@ -60,14 +62,14 @@ module _ (s : EncodeSession) (xs out : List ℕ) (work : List ℤ) (l : s .live 
     abbrev n : ℕ
     n = length (m .samples)
 
-    C : Counts (s .quantizer) (settingOf (m .opening)) n (length xs) (length out) (length work) r
-    C = R .counts (settingOf (m .opening)) n (t .place)
-
     open-is : m .live ≡ true
     open-is = sym (t .live) ∙ l
 
+    C : Counts (s .quantizer) (settingOf (m .opening)) n (length xs) (length out) (length work) r
+    C = R .counts (settingOf (m .opening)) n (t .place open-is)
+
     served : serves (m .opening) (length work) ≡ true
-    served = served-is s m (length work) b t tells ∙ e
+    served = served-is s m (length work) b t open-is tells ∙ e
 
     taken-is : taken m xs (length out) ≡ take (r .taken) xs
     unfolding taken
@@ -90,12 +92,13 @@ module _ (s : EncodeSession) (xs out : List ℕ) (work : List ℤ) (l : s .live 
         (omega (arith, C .written))
 
     stands : Stands next (record { opening = m .opening; live = true; samples = m .samples ++ taken m xs (length out) })
-    stands = record { live = refl; place = rw joined-long (C .stands) }
+    stands =
+        let a : QStands (r .quantizer) (settingOf (m .opening)) (length (m .samples ++ taken m xs (length out))) = rw joined-long (C .stands) in
+        record { live = refl; left = frames-done _ _ _ _ _ (a .at); place = λ _. a }
 
   pub feeds-ran : Feeds s xs out work (record { session = next; answer = Took (r .taken) (r .written) }) out′ work′
   feeds-ran =
       record {
-        shut = λ f. zero-one (cc);
         refused = λ code place f. zero-one (cc);
         runs = λ n k f.
             let p : r .taken ≡ n = cc in
@@ -108,10 +111,10 @@ module _ (s : EncodeSession) (xs out : List ℕ) (work : List ℤ) (l : s .live 
             (told m t, stands m t);
         does = λ m h.
             let t = h .stands in
-            let D = R .defined (settingOf (m .opening)) (m .samples) (h .keeps) in
+            let D = R .defined (settingOf (m .opening)) (m .samples) (h .keeps (open-is m t)) in
             subst (λ (x : Outcome). (out′ ≡ x .reply .output) × Holds next work′ (x .next))
             (sym (feed-busy m xs out (length work) (open-is m t) (served m t)))
-            (D .bytes ∙ bytes-are m t, record { stands = stands m t; keeps = kept m t (D .holds) });
+            (D .bytes ∙ bytes-are m t, record { stands = stands m t; keeps = λ _. kept m t (D .holds) });
       }
     where
       told : (m : Model) (t : Stands s m) → gives (took (r .taken) (r .written)) ≡ gives (took (length (taken m xs (length out))) (length (written m xs (length out))))

@@ -1,9 +1,10 @@
 -- Opening: the refusals in their order, and what an accepted opening hands back.
 -- Assumes nothing.
-use Prim.Native.Nat.{ℕ, _*_, _<_}
+use Prim.Native.Nat.{ℕ, _+_, _*_, _/_, _<_}
 use mathlib.Core.Path.{_≡_, refl, sym, ap, _∙_, subst}
 use mathlib.Core.Bool.{Bool, true, false, _||_}
 use mathlib.Core.List.{List}
+use native.Mathlib.Nat.{zero-div}
 use native.Mathlib.Omega.{arith}
 use borrow.Author.Tests.{le-leb, ne-eqb, eqb-false}
 use lib.Dec.{eqb}
@@ -103,10 +104,14 @@ module _ (a : Opening) (work : ℕ) where
         emits = h;
         holds = λ n e any.
             let k = held (headed-by n old (header a work) (sym e ∙ h .answer)) any in
-            record { stands = record { live = l ∙ ap isGiven e; place = k .stands }; keeps = k };
-        refused = λ code place e. l ∙ ap isGiven e;
+            record { stands = record { live = l ∙ ap isGiven e; left = none-done; place = λ _. k .stands }; keeps = λ _. k };
+        refused = λ code place e any.
+            record { stands = record { live = l ∙ ap isGiven e; left = none-done; place = λ f. zero-one (cc) }; keeps = λ f. zero-one (cc) };
       }
     where
+      none-done : q .place .frames + 0 / (a .width * a .height) ≡ 16
+      none-done = rw (o .framesAre, zero-div)
+
       held : (bytes : List ℕ) × (header a work ≡ gives bytes) → (any : List ℤ) → QHolds q any (settingOf a) (opened a .samples)
       held b any = let p = passed (b .0) (b .1) in o .holds (p .known) (p .wide) (p .high) any
 

@@ -1,5 +1,5 @@
 -- Making in pieces (document 01, "Making session" and "Lists": the plain machine, which "keeps only the opening's arguments, open or closed, the samples .. taken, joined in call order").
-use Prim.Native.Nat.{ℕ}
+use Prim.Native.Nat.{ℕ, _*_, _/_}
 use mathlib.Core.Bool.{Bool, true, false, _||_}
 use mathlib.Core.List.{List, [], _∷_, _++_}
 use lib.Dec.{eqb}
@@ -77,6 +77,10 @@ written m xs room = newly (settingOf (m .opening)) (m .samples) (m .samples ++ t
 abbrev pub isWhole : Model → Bool
 isWhole m = wholeFrames (settingOf (m .opening)) (length (m .samples))
 
+-- how many frames are done
+abbrev pub framesDone : Model → ℕ
+framesDone m = length (m .samples) / (m .opening .width * m .opening .height)
+
 -- what a call comes to
 pub record Outcome : Type 0 where
   pub reply : Reply
@@ -92,9 +96,12 @@ fedBy m xs out =
       next = record { opening = m .opening; live = true; samples = m .samples ++ t };
     }
 
+abbrev pub shut : Model → Model
+shut m = record { opening = m .opening; live = false; samples = m .samples }
+
 -- the session is closed
 abbrev pub closedBy : Model → Outcome
-closedBy m = record { reply = record { answer = gives closed; output = [] }; next = record { opening = m .opening; live = false; samples = m .samples } }
+closedBy m = record { reply = record { answer = gives closed; output = [] }; next = shut m }
 
 -- nothing is altered
 abbrev pub unaltered : Model → ℕ → List ℕ → Outcome

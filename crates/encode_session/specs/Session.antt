@@ -1,7 +1,7 @@
 -- What a session stands for, and what its calls promise.
-use Prim.Native.Nat.{ℕ}
+use Prim.Native.Nat.{ℕ, _+_}
 use mathlib.Core.Path.{_≡_}
-use mathlib.Core.Bool.{Bool, true, false}
+use mathlib.Core.Bool.{Bool, true, false, not}
 use mathlib.Core.List.{List}
 use lib.IntN.{ℤ}
 use lib.ListN.{length}
@@ -9,7 +9,7 @@ use Rattle.error.specs.Answer.{Answer, gives, refuses, refusal, written as mean
 use Rattle.error.specs.Emits.{Emits}
 use Rattle.error.specs.declared.Checked.{Checked}
 use Rattle.quantize.specs.Engine.{Runs, Stands as QStands, Holds as QHolds}
-use Rattle.encode_session.specs.Model.{Opening, settingOf, header, Model, opened, feed, close, Told, took, closed, outcome}
+use Rattle.encode_session.specs.Model.{Opening, settingOf, header, Model, opened, framesDone, shut, feed, close, Told, took, closed, outcome}
 use Rattle.encode_session.specs.declared.EncodeSession.{EncodeSession}
 use Rattle.encode_session.specs.declared.EncodeOpened.{EncodeOpened}
 use Rattle.encode_session.specs.declared.EncodeFeed.{EncodeFeed}
@@ -37,30 +37,29 @@ refusedFed s code = record { session = s; answer = EncodeFeed.Refused (record { 
 abbrev pub refusedClosed : EncodeSession → ℕ → EncodeClosed
 refusedClosed s code = record { session = s; answer = Checked.Refused (record { code = code; offset = 0 }) }
 
--- the session's own numbers are those of the model
+-- the session's own numbers are those of the model; while it is open, the engine stands behind the samples taken
 pub record Stands (s : EncodeSession) (m : Model) : Type 0 where
   pub live : s .live ≡ m .live
-  pub place : QStands (s .quantizer) (settingOf (m .opening)) (length (m .samples))
+  pub left : s .quantizer .place .frames + framesDone m ≡ 16
+  pub place : m .live ≡ true → QStands (s .quantizer) (settingOf (m .opening)) (length (m .samples))
 
 -- the work buffer too is as the model's samples leave it
 pub record Holds (s : EncodeSession) (work : List ℤ) (m : Model) : Type 0 where
   pub stands : Stands s m
-  pub keeps : QHolds (s .quantizer) work (settingOf (m .opening)) (m .samples)
+  pub keeps : m .live ≡ true → QHolds (s .quantizer) work (settingOf (m .opening)) (m .samples)
 
 -- ---- the contracts
 
 -- Opening: the header is written; whatever a work buffer holds, the session then stands for the opened model. A session whose opening is
--- refused is closed.
+-- refused stands for the closed one.
 pub record Opens (a : Opening) (work : ℕ) (r : EncodeOpened) (old new : List ℕ) : Type 0 where
   pub emits : Emits (header a work) (meantWritten (r .answer)) old new
   pub holds : (n : ℕ) → meantWritten (r .answer) ≡ gives n → (any : List ℤ) → Holds (r .session) any (opened a)
-  pub refused : (code place : ℕ) → meantWritten (r .answer) ≡ refuses code place → r .session .live ≡ false
+  pub refused : (code place : ℕ) → meantWritten (r .answer) ≡ refuses code place → (any : List ℤ) → Holds (r .session) any (shut (opened a))
 
 -- Feeding. Answers and counts are the model's whatever the work buffer holds; the bytes are too where it is as the last call left it. What
--- the engine does with other numbers is its own contract, `Runs`: one outside -128..128 counts as the nearer end. A closed session gives 30
--- whatever it stands for: so does one whose opening was refused.
+-- the engine does with other numbers is its own contract, `Runs`: one outside -128..128 counts as the nearer end.
 pub record Feeds (s : EncodeSession) (xs out : List ℕ) (work : List ℤ) (r : EncodeFed) (out′ : List ℕ) (work′ : List ℤ) : Type 0 where
-  pub shut : s .live ≡ false → fedMeaning (r .answer) ≡ refuses 30 0
   pub refused : (code place : ℕ) → fedMeaning (r .answer) ≡ refuses code place → (r .session ≡ s) × ((out′ ≡ out) × (work′ ≡ work))
   pub runs : (n b : ℕ) → r .answer ≡ Took n b
       → Runs (s .quantizer) xs out work (record { quantizer = r .session .quantizer; taken = n; written = b }) out′ work′
@@ -71,7 +70,14 @@ pub record Feeds (s : EncodeSession) (xs out : List ℕ) (work : List ℤ) (r : 
 
 -- Closing: it is lent nothing, and the buffer stays as it is.
 pub record Closes (s : EncodeSession) (r : EncodeClosed) : Type 0 where
-  pub shut : s .live ≡ false → closedMeaning (r .answer) ≡ refuses 30 0
   pub refused : (code place : ℕ) → closedMeaning (r .answer) ≡ refuses code place → r .session ≡ s
   pub counts : (m : Model) → Stands s m → (closedMeaning (r .answer) ≡ outcome m close .reply .answer) × Stands (r .session) (outcome m close .next)
   pub does : (m : Model) (work : List ℤ) → Holds s work m → Holds (r .session) work (outcome m close .next)
+
+-- ---- what can be asked of a session
+
+abbrev pub TellsClosed : EncodeSession → Bool → Type 0
+TellsClosed s r = (m : Model) → Stands s m → r ≡ not (m .live)
+
+abbrev pub TellsFrames : EncodeSession → ℕ → Type 0
+TellsFrames s r = (m : Model) → Stands s m → r ≡ framesDone m

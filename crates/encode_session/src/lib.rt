@@ -19,7 +19,7 @@ ghost use Rattle.error.specs.Emits.{Emits};
 ghost use Rattle.options.specs.declared.Quantize.{Quantize};
 ghost use Rattle.quantize.specs.Engine.{meaning, roomy};
 ghost use Rattle.encode_session.specs.Model.{opening, header};
-ghost use Rattle.encode_session.specs.Session.{isGiven, refusedFed, refusedClosed, Opens, Feeds, Closes};
+ghost use Rattle.encode_session.specs.Session.{isGiven, refusedFed, refusedClosed, Opens, Feeds, Closes, TellsClosed, TellsFrames};
 
 // The main image and at most 15 that follow it.
 const MAX_FRAMES: u32 = 16;
@@ -172,6 +172,25 @@ impl EncodeSession {
                 taken: ran.taken,
                 written: ran.written,
             },
+        }
+    }
+
+    pub fn is_closed(self) -> bool
+        ensures { λ r. ⌜ TellsClosed self r ⌝ }
+    {
+        !self.live
+    }
+
+    // How many frames are done.
+    pub fn frames(self) -> u32
+        ensures { λ r. ⌜ TellsFrames self r ⌝ }
+    {
+        let quantizer = self.quantizer;
+        let spot = quantizer.spot();
+        if spot.frames < MAX_FRAMES as usize {
+            MAX_FRAMES - spot.frames as u32
+        } else {
+            0
         }
     }
 

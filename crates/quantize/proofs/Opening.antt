@@ -56,6 +56,7 @@ opens rule table w h frames t =
       ruleIs = refl;
       widthIs = refl;
       heightIs = refl;
+      framesAre = refl;
       holds = λ k pw ph work.
           record {
             stands = record {

@@ -1,8 +1,9 @@
 -- What a `Quantizer` stands for, and what `new` and `run` promise.
 use Prim.Native.Nat.{ℕ, _+_, _*_, _/_, _%_, _^_, _≤_, _<_}
 use mathlib.Core.Path.{_≡_}
-use mathlib.Core.Bool.{Bool, true, false}
+use mathlib.Core.Bool.{Bool, true, false, _&&_}
 use mathlib.Core.List.{List, [], _++_}
+use lib.Dec.{ltb, eqb}
 use lib.IntN.{ℤ, pos}
 use lib.ListN.{length, getD, take, drop}
 use Rattle.error.specs.Choice.{if}
@@ -13,7 +14,7 @@ use Rattle.quantize.specs.declared.engine.Spot.{Spot}
 use Rattle.quantize.specs.Diffusion.{Direction, Scan, onLeft, above, residualAt}
 use Rattle.quantize.specs.Rule.{Rule, threshold, dither, ordered, rightwards}
 use Rattle.quantize.specs.Asked.{meaning, knownRule, carries, roomy, Served}
-use Rattle.quantize.specs.Finished.{Setting, count, frame, dotOf, newly, takes, wholeFrames}
+use Rattle.quantize.specs.Finished.{Setting, count, frame, dotOf, newly, takes}
 use Rattle.quantize.specs.Machine.{Carry, State, clamp, carried, emitted}
 use Rattle.quantize.specs.Place.{At, Begun}
 use Rattle.quantize.specs.Steps.{stateOf, ruleOf}
@@ -70,6 +71,7 @@ pub record Opens (rule : Quantize) (w h frames : ℕ) (q : Quantizer) : Type 0 w
   pub ruleIs : q .rule ≡ rule
   pub widthIs : q .width ≡ w
   pub heightIs : q .height ≡ h
+  pub framesAre : q .place .frames ≡ frames
   pub holds : knownRule rule ≡ true → 0 < w → 0 < h → (work : List ℤ) → Holds q work (setting rule w h frames) []
 
 -- samples can be taken: there are dots, the side is known, and the work buffer is long enough
@@ -114,13 +116,13 @@ pub record Runs (q : Quantizer) (samples out : List ℕ) (work : List ℤ) (r : 
   pub defined : (s : Setting) (xs : List ℕ) → Holds q work s xs → Defined s xs samples out r out′ work′
 
 -- where the next sample goes
-abbrev pub TellsSpot : Quantizer → Spot → Type 0
-TellsSpot q r = (s : Setting) (n : ℕ) → Stands q s n → At s n (r .frames) (r .row) (r .column)
+abbrev pub spotOf : Quantizer → Spot
+spotOf q = record { frames = q .place .frames; row = q .place .row; column = q .place .column }
 
 -- whether a work buffer of so many numbers is long enough
-abbrev pub TellsRoom : Quantizer → ℕ → Bool → Type 0
-TellsRoom q work r = (s : Setting) (n : ℕ) → Stands q s n → r ≡ roomy (s .rule) (s .width) work
+abbrev pub roomFor : Quantizer → ℕ → Bool
+roomFor q work = roomy (meaning (q .rule)) (q .width) work
 
--- whether the samples so far are whole frames, of a quantizer for so many
-abbrev pub TellsWhole : Quantizer → ℕ → Bool → Type 0
-TellsWhole q frames r = (s : Setting) (n : ℕ) → Stands q s n → s .frames ≡ frames → r ≡ wholeFrames s n
+-- whether it stands behind whole frames, and at least one, where it was made for so many
+abbrev pub behindFrames : Quantizer → ℕ → Bool
+behindFrames q frames = eqb (q .place .row) 0 && (eqb (q .place .column) 0 && ltb (q .place .frames) frames)

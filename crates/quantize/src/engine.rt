@@ -7,7 +7,8 @@ use crate::turn::fill_row;
 use crate::turn::share;
 use crate::turn::take;
 use options::Quantize;
-ghost use Rattle.quantize.specs.Engine.{Opens, Runs, Tabled, TellsRoom, TellsSpot, TellsWhole};
+ghost use mathlib.Core.Path.{_≡_};
+ghost use Rattle.quantize.specs.Engine.{Opens, Runs, Tabled, spotOf, roomFor, behindFrames};
 ghost use Rattle.quantize.specs.Steps.{Able};
 
 // Samples of at most so many frames on their way to bytes.
@@ -138,7 +139,7 @@ impl Quantizer {
     }
 
     pub fn spot(self) -> Spot
-        ensures { λ r. ⌜ TellsSpot self r ⌝ }
+        ensures { λ r. ⌜ r ≡ spotOf self ⌝ }
     {
         let p = self.place;
         Spot {
@@ -150,7 +151,7 @@ impl Quantizer {
 
     // Whether a work buffer of so many numbers is long enough.
     pub fn serves(self, work: usize) -> bool
-        ensures { λ r. ⌜ TellsRoom self work r ⌝ }
+        ensures { λ r. ⌜ r ≡ roomFor self work ⌝ }
     {
         let rule = self.rule;
         let width = self.width;
@@ -163,7 +164,7 @@ impl Quantizer {
 
     // Whether the samples so far are whole frames, and at least one, where the engine was made for so many frames.
     pub fn whole_frames(self, frames: u32) -> bool
-        ensures { λ r. ⌜ TellsWhole self frames r ⌝ }
+        ensures { λ r. ⌜ r ≡ behindFrames self frames ⌝ }
     {
         let p = self.spot();
         if p.row != 0 {

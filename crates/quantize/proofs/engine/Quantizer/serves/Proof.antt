@@ -1,7 +1,8 @@
 -- `quantize::engine::Quantizer::serves` meets its contract.
 -- Assumes nothing.
-use mathlib.Core.Path.{refl}
-use Rattle.quantize.proofs.Framing.{tells-room}
+use mathlib.Core.Path.{sym, ap, _∙_}
+use Rattle.options.specs.declared.Quantize.{Quantize}
+use Rattle.quantize.specs.Asked.{meaning, roomy}
 use Rattle.quantize.proofs.Abilities.{half-leb}
 use borrow.Author.Needs.{needs}
 use Rattle.quantize.proofs.engine.Quantizer.serves.Statement.{statement}
@@ -17,15 +18,15 @@ enum-told-3 : tie.Need-enum-told-3
 enum-told-3 c = search needs
 
 returns : tie.Need-returns
-returns c = tells-room (c .before .before .args .self) _ _ _ (c .enum-told .given .1) (λ _. refl)
+returns c = sym (ap (λ (x : Quantize). roomy (meaning x) (c .before .before .args .self .width) (c .before .before .args .work)) (c .enum-told .given .1))
 
 returns-2 : tie.Need-returns-2
 returns-2 c =
     let a = c .before .before .args in
-    tells-room (a .self) _ _ _ (c .enum-told2 .given .1) (λ _. half-leb (a .self .width) (a .work))
+    half-leb (a .self .width) (a .work) ∙ sym (ap (λ (x : Quantize). roomy (meaning x) (a .self .width) (a .work)) (c .enum-told2 .given .1))
 
 returns-3 : tie.Need-returns-3
-returns-3 c = tells-room (c .before .before .args .self) _ _ _ (c .enum-told3 .given .1) (λ _. refl)
+returns-3 c = sym (ap (λ (x : Quantize). roomy (meaning x) (c .before .before .args .self .width) (c .before .before .args .work)) (c .enum-told3 .given .1))
 
 pub serves-spec : {M : Type 1} → statement M
 serves-spec = tie.close (tie.spec enum-told enum-told-2 enum-told-3 returns returns-2 returns-3)
