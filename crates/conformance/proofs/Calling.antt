@@ -1,24 +1,24 @@
 -- Lists of calls that code makes.
-use Prim.Native.Nat.{ℕ, _^_, _≤_, _<_}
+use Prim.Native.Nat.{ℕ, _^_, _<_}
 use mathlib.Core.Path.{_≡_, refl, sym, ap, _∙_, subst}
 use mathlib.Core.Bool.{Bool, true, false}
 use mathlib.Core.List.{List, [], _∷_, _++_}
-use borrow.Author.Tests.{le-leb}
 use lib.Dec.{leb}
 use lib.IntN.{ℤ}
 use lib.ListN.{length, take, drop}
 use lib.Seq.{take-append-seam}
 use Rattle.error.specs.Choice.{if}
-use Rattle.error.specs.Answer.{Answer, gives, refuses, bind, written}
+use Rattle.error.specs.Answer.{Answer, gives, refuses, written}
 use Rattle.error.specs.Emits.{Emits}
-use Rattle.laws.proofs.Tests.{if-true, zero-one}
+use Rattle.laws.proofs.Tests.{zero-one}
 use Rattle.options.specs.Limits.{Decoding}
-use Rattle.options.proofs.Ceilings.{passes}
-use Rattle.decode_session.specs.Model.{feed, opening, opened}
-use Rattle.decode_session.specs.Session.{fedMeaning, Opens, Feeds}
-use Rattle.decode_session.specs.Trace.{fed, none}
+use Rattle.decode_session.specs.Model as Reading
+use Rattle.decode_session.specs.Session as ReadingSession
+use Rattle.decode_session.specs.Trace as ReadingTrace
 use Rattle.decode_session.specs.declared.DecodeOpened.{DecodeOpened}
 use Rattle.decode_session.specs.declared.DecodeFed.{DecodeFed}
+use Rattle.decode_session.specs.declared.DecodeClosed.{DecodeClosed}
+use Rattle.decode_session.specs.declared.HeaderSeen.{HeaderSeen}
 use Rattle.encode_session.specs.Model as Making
 use Rattle.encode_session.specs.Session as MakingSession
 use Rattle.encode_session.specs.Trace as MakingTrace
@@ -26,20 +26,30 @@ use Rattle.encode_session.specs.declared.EncodeSession.{EncodeSession}
 use Rattle.encode_session.specs.declared.EncodeOpened.{EncodeOpened}
 use Rattle.encode_session.specs.declared.EncodeFed.{EncodeFed}
 use Rattle.encode_session.specs.declared.EncodeClosed.{EncodeClosed}
-use Rattle.conformance.specs.Lists.{MakingList, ReadingList}
+use Rattle.conformance.specs.Lists.{MakingList}
+use Rattle.conformance.specs.Calls.{MakesCard, ReadsCard}
 
-pub listed-once : (d : Decoding) (lent piece out out′ ext′ : List ℕ) (o : DecodeOpened) (r : DecodeFed) → Opens (opening d (length lent)) o (opened d)
-    → Feeds (o .session) piece out lent r out′ ext′ → 4118 ≤ length lent
-    → ReadingList d (feed piece out lent ∷ []) (record { answer = fedMeaning (r .answer); output = out′; extension = ext′ } ∷ []) (r .session) ext′
-listed-once d lent piece out out′ ext′ o r p f long =
+-- the calls of a decode session
+pub reads-card : (d : Decoding) (piece out ext out′ ext′ : List ℕ) (o : DecodeOpened) (f : DecodeFed) (c : DecodeClosed) (seen : HeaderSeen)
+    → ReadingSession.Opens (Reading.opening d (length ext)) o (Reading.opened d) → ReadingSession.Feeds (o .session) piece out ext f out′ ext′
+    → ReadingSession.Closes (f .session) c → ReadingSession.Sees (c .session) seen
+    → ReadsCard d piece out ext (record { opening = o .answer; feeding = f .answer; closing = c .answer; seen = seen }) out′ ext′
+unfolding Reading.outcome
+reads-card d piece out ext out′ ext′ o f c seen p q r s =
     record {
-      lent = lent;
-      result = o;
-      opens = p;
-      accepted =
-          p .answer ∙ ap (λ (a : Answer Decoding). bind a (λ _. if (leb 4118 (length lent)) (gives tt) (refuses 28 0))) (passes d)
-          ∙ if-true (leb 4118 (length lent)) (gives tt) (refuses 28 0) (le-leb 4118 (length lent) long);
-      trace = fed f none;
+      last = c .session;
+      opening = p .answer;
+      list = λ given. record { lent = ext; result = o; opens = p; accepted = given; trace = ReadingTrace.fed q (ReadingTrace.shut r ReadingTrace.none) };
+      sees = s;
+      refused = λ code place e.
+          let m = Reading.shut (Reading.opened d) in
+          let a = q .does m (p .refused code place (sym (p .answer) ∙ e)) in
+          let b = r .does m (a .1) in (
+            sym (ap (λ (x : Reading.Reply). x .answer) (a .0)),
+            sym (ap (λ (x : Reading.Reply). x .answer) (b .0)),
+            sym (ap (λ (x : Reading.Reply). x .output) (a .0)),
+            sym (ap (λ (x : Reading.Reply). x .extension) (a .0)),
+          );
     }
 
 -- what a writer wrote
@@ -77,24 +87,19 @@ made-list a work old new o last cs rs wide high p t n given =
       trace = t;
     }
 
--- two feeding calls and a closing one; the work buffer keeps its length
-pub fed-twice : (s : EncodeSession) (xs ys out out′ rest rest′ : List ℕ) (work work′ work″ : List ℤ) (f g : EncodeFed) (c : EncodeClosed)
-    → length work′ ≡ length work → MakingSession.Feeds s xs out work f out′ work′ → MakingSession.Feeds (f .session) ys rest work′ g rest′ work″
-    → MakingSession.Closes (g .session) c
-    → MakingTrace.Trace s work (Making.feed xs out (length work) ∷ Making.feed ys rest (length work) ∷ Making.close ∷ [])
-    (record { answer = MakingSession.fedMeaning (f .answer); output = out′ }
-    ∷ record { answer = MakingSession.fedMeaning (g .answer); output = rest′ }
-    ∷ record { answer = MakingSession.closedMeaning (c .answer); output = [] }
-    ∷ [])
-    (c .session)
-fed-twice s xs ys out out′ rest rest′ work work′ work″ f g c e p q r =
-    subst
-    (λ (n : ℕ).
-    MakingTrace.Trace s work (Making.feed xs out (length work) ∷ Making.feed ys rest n ∷ Making.close ∷ [])
-    (record { answer = MakingSession.fedMeaning (f .answer); output = out′ }
-    ∷ record { answer = MakingSession.fedMeaning (g .answer); output = rest′ }
-    ∷ record { answer = MakingSession.closedMeaning (c .answer); output = [] }
-    ∷ [])
-    (c .session))
-    e
-    (MakingTrace.fed p (MakingTrace.fed q (MakingTrace.shut r MakingTrace.none)))
+-- the calls of an encode session
+pub makes-card : (a : Making.Opening) (samples : List ℕ) (work : List ℤ) (head out : List ℕ) (work′ : List ℤ) (head′ out′ : List ℕ)
+    (o : EncodeOpened) (f : EncodeFed) (c : EncodeClosed) → a .width < 2 ^ 32 → a .height < 2 ^ 32 → MakingSession.Opens a (length work) o head head′
+    → MakingSession.Feeds (o .session) samples out work f out′ work′ → MakingSession.Closes (f .session) c
+    → MakesCard a samples work head out (record { header = o .answer; feeding = f .answer; closing = c .answer }) work′ head′ out′
+unfolding Making.outcome
+makes-card a samples work head out work′ head′ out′ o f c wide high p q r =
+    record {
+      header = p .emits;
+      list = made-list a work head head′ o (c .session) _ _ wide high p (MakingTrace.fed q (MakingTrace.shut r MakingTrace.none));
+      refused = λ code place e.
+          let m = Making.shut (Making.opened a) in
+          let x = q .counts m (p .refused code place e work .stands) in
+          let y = q .refused 30 0 (x .0) in
+          (x .0, r .counts m (x .1) .0, y .1 .0, y .1 .1);
+    }

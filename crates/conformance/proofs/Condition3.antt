@@ -1,5 +1,5 @@
 -- Condition 3 of the tender.
-use Prim.Native.Nat.{ℕ, _*_, _≤_, min}
+use Prim.Native.Nat.{ℕ, _*_, _≤_}
 use mathlib.Core.Path.{_≡_, refl, sym, ap, _∙_, subst}
 use mathlib.Core.Bool.{Bool, true, false, _||_}
 use mathlib.Core.List.{List, _++_}
@@ -14,7 +14,6 @@ use Rattle.laws.proofs.Tests.{zero-one}
 use Rattle.ext.specs.Kinds.{Fields}
 use Rattle.header.specs.Write.{presented}
 use Rattle.options.specs.Limits.{Decoding, ceilingOf}
-use Rattle.options.proofs.Ceilings.{sixteen}
 use Rattle.quantize.specs.Engine.{setting}
 use Rattle.quantize.specs.Finished.{finished}
 use Rattle.quantize.proofs.Joining.{finished-frames}
@@ -119,7 +118,3 @@ condition-3 =
       card = card-closed;
       whole = λ {file = file} {d = d} l cut. (whole (ceilingOf d) d file nothing unmet (omega arith) cut (replied l), begins l cut);
     }
-
--- every scan of a card is read with a ceiling of 16
-every-scan : {a : Making.Opening} {scans bytes : List ℕ} {k : ℕ} (d : Decoding) → Card a scans bytes k → min k (ceilingOf d) ≡ k
-every-scan d c = omega (arith, sixteen d, c .most)

@@ -21,7 +21,7 @@ use Rattle.header.proofs.RoundTrip.{Fitting}
 use Rattle.image.specs.Dots.{isWhite}
 use Rattle.image.specs.Geometry.{rowBytes, planeBytes}
 use Rattle.options.specs.Limits.{Decoding, settled, ceilingOf}
-use Rattle.options.proofs.Ceilings.{tested}
+use Rattle.options.proofs.Ceilings.{tested, sixteen}
 use Rattle.quantize.specs.Engine.{setting}
 use Rattle.quantize.specs.Finished.{finished}
 use Rattle.decoder.specs.Body.{framesIn, planes}
@@ -146,6 +146,10 @@ module _ (d : Decoding) (a : Making.Opening) (fields : Fields) (k : ℕ) (scans 
   tests : Passed 16 (a .options) w h k scans (a .text) (a .lengths) work bytes
   tests = passed 16 (a .options) w h k scans (a .text) (a .lengths) work bytes made
 
+  -- a card has 16 scans at most, and so many are read
+  every-scan : min k most ≡ k
+  every-scan = omega (arith, sixteen d, tests .tests .sized .few)
+
   abbrev body : List ℕ
   body = scanBytes (a .options .quantize) w h scans k
 
@@ -193,7 +197,8 @@ module _ (d : Decoding) (a : Making.Opening) (fields : Fields) (k : ℕ) (scans 
         height = refl;
         fieldsAre = fields-are d bytes shape read l cut (a .options .strict) (parts .fieldBytes) (sizeBytes w h ++ body) fields
             (parts .bytesAre ∙ at-fields (fixByte fields) (parts .fieldBytes) w h body) (parts .fieldsGive) fit;
-        frames = closing-is d bytes shape read l cut ∙ ap (λ (n : ℕ). gives (frames n)) count-is;
-        size = ap length j ∙ back .size;
-        dots = λ f x y b. ap (λ (s : List ℕ). isWhite (d .format) w h (rowBytes w) (planeIn w h s f) x y) j ∙ back .dots f x y b;
+        frames = closing-is d bytes shape read l cut ∙ ap (λ (n : ℕ). gives (frames n)) (count-is ∙ every-scan);
+        size = ap length j ∙ back .size ∙ ap (λ (n : ℕ). n * planeBytes w h) every-scan;
+        dots = λ f x y b.
+            ap (λ (s : List ℕ). isWhite (d .format) w h (rowBytes w) (planeIn w h s f) x y) j ∙ back .dots f x y (omega (arith, every-scan));
       }

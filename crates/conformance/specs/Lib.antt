@@ -2,3 +2,4 @@ pub mod Table
 pub mod Check
 pub mod ReadBack
 pub mod Lists
+pub mod Calls

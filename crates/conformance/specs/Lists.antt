@@ -1,5 +1,5 @@
 -- Condition 3 of the tender, as document 01 tells it ("Lists (condition 3)"): one claim about lists of calls on a session that makes a card and on one that reads it.
-use Prim.Native.Nat.{ℕ, _*_, _^_, _≤_, _<_, min}
+use Prim.Native.Nat.{ℕ, _*_, _^_, _≤_, _<_}
 use mathlib.Core.Path.{_≡_}
 use mathlib.Core.Bool.{Bool, true, false, _||_}
 use mathlib.Core.List.{List, [], _∷_, _++_}
@@ -78,7 +78,7 @@ abbrev pub fieldsShown : Span → List ℕ → Answer Fields
 fieldsShown absent extension = gives none
 fieldsShown (span kind start len pairs) extension = map (λ f. f .0) (readFields false true kind (take len extension) 0)
 
--- "Shown are size and fields as the session ends with them (kind; pairs or octets in order, kind 00 without bit 7), frame count, and `is_white` at each dot of the joined outputs": those that the definitions give for k uncut scans, up to the most frames that are read
+-- "Shown are size and fields as the session ends with them (kind; pairs or octets in order, kind 00 without bit 7), frame count, and `is_white` at each dot of the joined outputs": those that the definitions give for k uncut scans
 pub record Shows (d : Decoding) (a : Making.Opening) (fields : Fields) (k : ℕ) (scans : List ℕ) (last : DecodeSession) (extension joined : List ℕ)
     (closing : Answer Reading.Told) : Type 0 where
   pub header : Outline
@@ -86,9 +86,9 @@ pub record Shows (d : Decoding) (a : Making.Opening) (fields : Fields) (k : ℕ)
   pub width : header .width ≡ a .width
   pub height : header .height ≡ a .height
   pub fieldsAre : fieldsShown (header .fields) extension ≡ gives fields
-  pub frames : closing ≡ gives (Reading.frames (min k (ceilingOf d)))
-  pub size : length joined ≡ min k (ceilingOf d) * planeBytes (a .width) (a .height)
-  pub dots : (f x y : ℕ) → f < min k (ceilingOf d)
+  pub frames : closing ≡ gives (Reading.frames k)
+  pub size : length joined ≡ k * planeBytes (a .width) (a .height)
+  pub dots : (f x y : ℕ) → f < k
       → isWhite (d .format) (a .width) (a .height) (rowBytes (a .width)) (planeIn (a .width) (a .height) joined f) x y
       ≡ scanWhite (a .options .quantize) (a .width) (a .height) (lentScan (a .width) (a .height) scans f) x y
 

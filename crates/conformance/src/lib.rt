@@ -1,73 +1,81 @@
 // What all crates say together: document 01's cards P1 to P12 as one table, files that are written or made, read back and sniffed, and the
-// tender's condition 3 about lists of calls. The two functions here run such lists on both sessions, so the claim speaks of the code's own calls.
-use decode_session::DecodeFed;
+// tender's condition 3 about lists of calls. The two functions here make such lists on both sessions, so that the claim speaks of calls of code.
+use decode_session::DecodeClose;
+use decode_session::DecodeFeed;
 use decode_session::DecodeSession;
+use decode_session::HeaderSeen;
 use encode_session::EncodeFeed;
 use encode_session::EncodeSession;
 use error::Checked;
 use error::Written;
 use options::DecodeOptions;
 use options::EncodeOptions;
-ghost use Prim.Native.Nat.{ℕ, _≤_};
-ghost use mathlib.Core.Path.{_≡_};
-ghost use mathlib.Core.List.{[], _∷_};
-ghost use lib.ListN.{length, take};
-ghost use Rattle.error.specs.Answer.{gives, written};
+ghost use mathlib.Core.List.{[]};
 ghost use Rattle.options.specs.Limits.{decoding};
-ghost use Rattle.decode_session.specs.Model.{feed};
-ghost use Rattle.decode_session.specs.Session.{fedMeaning};
-ghost use Rattle.encode_session.specs.Model as Making;
-ghost use Rattle.encode_session.specs.Session as MakingSession;
-ghost use Rattle.conformance.specs.Lists.{MakingList, ReadingList};
+ghost use Rattle.encode_session.specs.Model.{opening};
+ghost use Rattle.conformance.specs.Calls.{MakesCard, ReadsCard};
 
-// Opening a reading and feeding it once is a list of which condition 3 speaks.
-pub fn read_once(options: DecodeOptions, piece: &[u8], out: &mut [u8], ext: &mut [u8]) -> DecodeFed
-    ensures { λ r. ⌜ (4118 ≤ length (now (ext .entry)) → ReadingList (decoding options) (feed (now (piece .entry)) (now (out .entry)) (now (ext .entry)) ∷ []) (record { answer = fedMeaning (r .answer); output = now (out .exit); extension = now (ext .exit) } ∷ []) (r .session) (now (ext .exit))) ⌝ }
-{
-    let opened = DecodeSession::open(options, &ext[..]);
-    let session = opened.session;
-    session.feed(piece, out, ext)
+// What the calls on an encode session answer.
+struct CardMade {
+    header: Written,
+    feeding: EncodeFeed,
+    closing: Checked,
 }
 
-// What the calls on a card maker answer.
-pub struct CardMade {
-    pub header: Written,
-    pub first: EncodeFeed,
-    pub second: EncodeFeed,
-    pub closing: Checked,
-}
-
-// Opening a card maker, where that is accepted, feeding it twice and closing it is one too.
-pub fn make_card(
+// Opens a session for a card without text, feeds it and closes it.
+fn make_card(
     width: u32,
     height: u32,
     options: EncodeOptions,
-    text: &[u8],
-    lengths: &[usize],
     samples: &[u8],
-    more: &[u8],
     work: &mut [i16],
     head: &mut [u8],
     out: &mut [u8],
-    rest: &mut [u8],
 ) -> CardMade
-    ensures { λ r. ⌜ ((n : ℕ) → written (r .header) ≡ gives n → MakingList (Making.opening options width height (now (text .entry)) (now (lengths .entry))) (take n (now (head .exit))) (Making.feed (now (samples .entry)) (now (out .entry)) (length (now (work .entry))) ∷ Making.feed (now (more .entry)) (now (rest .entry)) (length (now (work .entry))) ∷ Making.close ∷ []) (record { answer = MakingSession.fedMeaning (r .first); output = now (out .exit) } ∷ record { answer = MakingSession.fedMeaning (r .second); output = now (rest .exit) } ∷ record { answer = MakingSession.closedMeaning (r .closing); output = [] } ∷ [])) ⌝ }
+    ensures { λ r. ⌜ MakesCard (opening options width height [] []) (now (samples .entry)) (now (work .entry)) (now (head .entry)) (now (out .entry)) r (now (work .exit)) (now (head .exit)) (now (out .exit)) ⌝ }
 {
-    let opened = EncodeSession::open(width, height, options, text, lengths, &work[..], head);
+    let lengths = [0usize; 0];
+    let opened = EncodeSession::open(width, height, options, b"", &lengths, &work[..], head);
     let header = opened.answer;
     let begun = opened.session;
-    let one = begun.feed(samples, &mut work[..], out);
-    let first = one.answer;
-    let fed = one.session;
-    let two = fed.feed(more, work, rest);
-    let second = two.answer;
-    let last = two.session;
+    let fed = begun.feed(samples, work, out);
+    let feeding = fed.answer;
+    let last = fed.session;
     let end = last.close();
     let closing = end.answer;
     CardMade {
         header,
-        first,
-        second,
+        feeding,
         closing,
+    }
+}
+
+// What the calls on a decode session answer.
+struct CardRead {
+    opening: Checked,
+    feeding: DecodeFeed,
+    closing: DecodeClose,
+    seen: HeaderSeen,
+}
+
+// Opens a session, feeds it, closes it and asks for the header.
+fn read_card(options: DecodeOptions, piece: &[u8], out: &mut [u8], ext: &mut [u8]) -> CardRead
+    ensures { λ r. ⌜ ReadsCard (decoding options) (now (piece .entry)) (now (out .entry)) (now (ext .entry)) r (now (out .exit)) (now (ext .exit)) ⌝ }
+{
+    let opened = DecodeSession::open(options, &ext[..]);
+    let opening = opened.answer;
+    let begun = opened.session;
+    let fed = begun.feed(piece, out, ext);
+    let feeding = fed.answer;
+    let read = fed.session;
+    let end = read.close();
+    let closing = end.answer;
+    let last = end.session;
+    let seen = last.header();
+    CardRead {
+        opening,
+        feeding,
+        closing,
+        seen,
     }
 }

@@ -78,11 +78,12 @@ stored m longer buffer =
     let n = length (fieldBytes o (m .bytes)) in
     sets buffer n (drop n (fieldBytes o longer))
 
--- What a call comes to that 30, an earlier refusal and 28 do not answer.
+-- what a call comes to
 pub record Outcome : Type 0 where
   pub reply : Reply
   pub next : Model
 
+-- where neither 30, an earlier refusal nor 28 answers
 abbrev pub fedBy : Model → List ℕ → List ℕ → List ℕ → Met → Outcome
 fedBy m piece out ext nothing =
     let w = written m piece (length out) in

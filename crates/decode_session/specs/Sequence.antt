@@ -28,7 +28,7 @@ unfoldable pub bodyFrom : PixelFormat → ℕ → ℕ → List ℕ → List ℕ
 bodyFrom format width at [] = []
 bodyFrom format width at (b ∷ bs) = bodyByte format width at b ∷ bodyFrom format width (at + 1) bs
 
--- of a file so far, behind its header, up to a ceiling of planes
+-- of a file so far in which no refusal is met, behind its header, up to a ceiling of planes
 abbrev pub sequenceOf : ℕ → PixelFormat → List ℕ → Answer Outline → List ℕ
 sequenceOf ceiling format bytes (gives h) = bodyFrom format (h .width) 0 (take (ceiling * planeOf h) (drop (h .body) bytes))
 sequenceOf ceiling format bytes (refuses code place) = []

@@ -44,7 +44,7 @@ tookOf (gives (took n b)) = n
 tookOf (gives (frames n)) = 0
 tookOf (refuses code place) = 0
 
--- it met a refusal of the file: not 28
+-- it met a refusal of the file: not 28, and 30 cannot come before closing
 abbrev pub isMet : Answer Told → Bool
 isMet (gives t) = false
 isMet (refuses code place) = if (eqb code 28) false true

@@ -31,7 +31,7 @@ settingOf a = setting (a .options .quantize) (a .width) (a .height) 16
 abbrev pub serves : Opening → ℕ → Bool
 serves a work = roomy (meaning (a .options .quantize)) (a .width) work
 
--- "Opening writes the header": "8, .. 29, 28, .. fields" before it, and 25 where it does not fit
+-- "Opening writes the header", behind "8, .. 29, 28, .. fields"; 25 where it does not fit is `Emits`
 unfoldable pub header : Opening → ℕ → Answer (List ℕ)
 header a work =
     if (eqb (a .width) 0 || eqb (a .height) 0) (refuses 8 0)
