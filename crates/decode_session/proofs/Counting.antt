@@ -14,6 +14,7 @@ use Rattle.error.specs.declared.WbmpError.{WbmpError}
 use Rattle.laws.proofs.Tests.{if-true, if-false}
 use Rattle.header.specs.Read.{Outline, parsed}
 use Rattle.header.specs.Represents.{Ended}
+use Rattle.header.specs.declared.FieldsSeen.{FieldsSeen}
 use Rattle.header.specs.declared.ParsedHeader.{ParsedHeader}
 use Rattle.header.specs.declared.reader.HeaderReader.{HeaderReader}
 use Rattle.decoder.specs.Body.{extraFrames, planeOf, framesIn}
@@ -129,5 +130,5 @@ module _ (s : Stage) where
         positive : (whole ≡ 0 → ⊥) → 0 < whole
         positive f = omega arith
 
-  pub finish-refused : (e : WbmpError) → s ≡ Stage.Refused e → Finishes s (DecodeClose.Refused e)
-  finish-refused e g = record { does = λ m c st. sym (ap (closing m) (subst (λ (x : Stage). StageOf x m) g st)) }
+  pub finish-refused : (e : WbmpError) (f : FieldsSeen) → s ≡ Stage.Refused e f → Finishes s (DecodeClose.Refused e)
+  finish-refused e f g = record { does = λ m c st. sym (ap (closing m) (subst (λ (x : Stage). StageOf x m) g st .0)) }
