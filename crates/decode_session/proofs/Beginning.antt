@@ -30,14 +30,17 @@ use Rattle.decode_session.proofs.Bounds.{ceiling-some}
 use Rattle.decode_session.proofs.Meeting.{limit-over, admitted}
 
 -- the session that met a refusal agrees
-pub refused-agrees : (o : DecodeOptions) (m : Model) (piece out ext : List ℕ) (e : WbmpError) (f : FieldsSeen) → Bounded (m .ceiling) (m .options)
-    → decoding o ≡ m .options → Unread m f → meets m piece ≡ refusal (e .code) (e .offset)
+pub refused-agrees : (o : DecodeOptions) (m : Model) (piece out ext : List ℕ) (e : WbmpError) (f : FieldsSeen)
+    → Bounded (m .ceiling) (m .options) → decoding o ≡ m .options → Unread m f → meets m piece ≡ refusal (e .code) (e .offset)
     → Agrees (metIn o e f) out (stored m (m .bytes ++ piece) ext) (fedBy m piece out ext (meets m piece))
 refused-agrees o m piece out ext e f c q u met =
     subst
     (λ (x : Met). Agrees (metIn o e f) out (stored m (m .bytes ++ piece) ext) (fedBy m piece out ext x))
     (sym met)
-    (record { reply = refl; stands = record { ceiling = c; options = q; live = refl; stage = (refl, record { none = u .none; fields = u .fields }) } })
+    (record {
+      reply = refl;
+      stands = record { ceiling = c; options = q; live = refl; stage = (refl, record { none = u .none; fields = u .fields }) };
+    })
 
 module _ (m : Model) (piece : List ℕ) (from : ℕ) (h : Outline) (e : Ended m piece from h) where
   pub header-all : headerOf (m .options .mode) (m .bytes ++ piece) ≡ gives h

@@ -29,12 +29,12 @@ use Rattle.decode_session.proofs.Headers.{unread}
 use Rattle.decode_session.proofs.Bounds.{ceiling-some, ceiling-few}
 
 -- closing by the image's answer
-closes-by : (m : Model) (x : Answer Outline) → m .met ≡ nothing → readImage (m .options) (m .bytes) ≡ x
+pub closes-by : (m : Model) (x : Answer Outline) → m .met ≡ nothing → readImage (m .options) (m .bytes) ≡ x
     → closing m (m .met) ≡ map frames (map (framesIn (m .ceiling) (length (m .bytes))) x)
 closes-by m x n e =
     ap (closing m) n ∙ ap (λ (x : Answer Outline). map {B = Told} frames (map (framesIn (m .ceiling) (length (m .bytes))) x)) e
 
-image-by : (m : Model) (x : Answer Outline) → headerOf (m .options .mode) (m .bytes) ≡ x
+pub image-by : (m : Model) (x : Answer Outline) → headerOf (m .options .mode) (m .bytes) ≡ x
     → readImage (m .options) (m .bytes) ≡ bind x (testBody (m .options) (length (m .bytes)))
 unfolding readImage
 image-by m x e = ap (λ (x : Answer Outline). bind x (testBody (m .options) (length (m .bytes)))) e

@@ -170,5 +170,6 @@ module _ (o : DecodeOptions) (reader : HeaderReader) (at kept : ℕ) (piece out 
             let r = ends m st (HeadEnd.Refused e) q in
             agreed m piece out ext d out ext′ _ _ (reading m piece out ext (sym (st .live)) (st .stage .0) long) (stored-is m st)
             (subst (λ (d : DecodeFed). Agrees d out (stored m (m .bytes ++ piece) ext) (fedBy m piece out ext (meets m piece))) (sym s)
-            (refused-agrees o m piece out ext e k (st .ceiling) (st .options) (unread-so m reader at kept k (st .stage .1) u) (header-refused m piece (e .code) (e .offset) (r .0) (r .1))));
+            (refused-agrees o m piece out ext e k (st .ceiling) (st .options) (unread-so m reader at kept k (st .stage .1) u)
+            (header-refused m piece (e .code) (e .offset) (r .0) (r .1))));
       }

@@ -56,8 +56,10 @@ pub record Ended (m : Model) (piece : List ℕ) (from : ℕ) (h : Outline) : Typ
   pub body : h .body ≡ length (m .bytes) + from
   pub none : length (sequence (m .ceiling) (m .options) (m .bytes)) ≡ 0
 
-pub record Begins (o : DecodeOptions) (f : FieldsSeen) (h : ParsedHeader) (from : ℕ) (piece out : List ℕ) (r : DecodeFed) (out′ : List ℕ) : Type 0 where
-  pub does : (m : Model) (ext : List ℕ) → Bounded (m .ceiling) (m .options) → decoding o ≡ m .options → Unread m f → Ended m piece from (parsed h)
+pub record Begins (o : DecodeOptions) (f : FieldsSeen) (h : ParsedHeader) (from : ℕ) (piece out : List ℕ) (r : DecodeFed) (out′ : List ℕ)
+    : Type 0 where
+  pub does : (m : Model) (ext : List ℕ) → Bounded (m .ceiling) (m .options) → decoding o ≡ m .options
+      → Unread m f → Ended m piece from (parsed h)
       → Agrees r out′ (stored m (m .bytes ++ piece) ext) (fedBy m piece out ext (meets m piece))
 
 -- what closing answers

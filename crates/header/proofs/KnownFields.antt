@@ -29,7 +29,8 @@ abbrev fixSpan : Settings → List ℕ → ℕ → Answer Span
 fixSpan o [] at = refuses 6 at
 fixSpan o (b ∷ τ) at =
     if (o .fixZero && ltb 0 b) (refuses 7 at)
-    (if (o .honoured && fieldsFollow b) (fieldsFrom (o .classes) true (kindBits b) τ (at + 1) (spanTo (kindBits b) (at + 1))) (gives absent))
+    (if (o .honoured && fieldsFollow b) (fieldsFrom (o .classes) true (kindBits b) τ (at + 1) (spanTo (kindBits b) (at + 1)))
+    (gives absent))
 
 abbrev typeSpan : Settings → ℕ → ℕ → List ℕ → Answer Span
 typeSpan o type at τ = if (eqb type 0) (fixSpan o τ at) (refuses 5 at)
@@ -54,7 +55,8 @@ module _ (o : Settings) (s : List ℕ) where
     where
       within : (b : ℕ) (t u : Bool)
           → if t (refuses 7 at) (map (spanOf (at + 1)) (readFields (o .classes) u (kindBits b) s (at + 1)))
-          ≡ if t (refuses 7 at) (if u (fieldsFrom (o .classes) true (kindBits b) (drop (at + 1) s) (at + 1) (spanTo (kindBits b) (at + 1))) (gives absent))
+          ≡ if t (refuses 7 at)
+          (if u (fieldsFrom (o .classes) true (kindBits b) (drop (at + 1) s) (at + 1) (spanTo (kindBits b) (at + 1))) (gives absent))
       within b true u = refl
       within b false true = spans (o .classes) (kindBits b) s (at + 1)
       within b false false = refl
@@ -76,7 +78,8 @@ module _ (o : Settings) (s : List ℕ) where
       type (readMbi (o .shortest) s 0) ∙ sym (integer-mbi (o .shortest) s 0 (typeSpan o))
     where
       type : (x : Answer (ℕ × ℕ))
-          → bind x (λ t. if (eqb (t .0) 0) (spanAtFix o s (t .1)) (refuses 5 (t .1))) ≡ bind x (λ t. typeSpan o (t .0) (t .1) (drop (t .1) s))
+          → bind x (λ t. if (eqb (t .0) 0) (spanAtFix o s (t .1)) (refuses 5 (t .1)))
+          ≡ bind x (λ t. typeSpan o (t .0) (t .1) (drop (t .1) s))
       type (gives t) = ap (λ (a : Answer Span). if (eqb (t .0) 0) a (refuses 5 (t .1))) (fix-direct (t .1))
       type (refuses code place) = refl
 
@@ -88,7 +91,8 @@ module _ (o : Settings) where
   Left a (refused code place) τ = Unit {0}
 
   module _ (τ : List ℕ) where
-    pick : (t : Bool) (a c : Answer Span) (x y : Step) → Left a x τ → Left c y τ → Left (elim t as (λ q. Answer Span) [ true ↦ a | false ↦ c ]) (if t x y) τ
+    pick : (t : Bool) (a c : Answer Span) (x y : Step) → Left a x τ → Left c y τ
+        → Left (elim t as (λ q. Answer Span) [ true ↦ a | false ↦ c ]) (if t x y) τ
     pick true a c x y p q = p
     pick false a c x y p q = q
 
@@ -162,13 +166,16 @@ module _ (o : Settings) where
   span-end (inHeight fix f w at v n) = refl
 
   module _ (s : List ℕ) where
+    -- what the steps over all the bytes come to
+    spanned : (x : Step) → steps o start s ≡ x → Left (readSpan o s) x []
+    spanned x e =
+        subst (λ (a : Answer Span). Left a x []) (sym (span-direct o s))
+        (subst (λ (y : Step). Left (spanFrom o start s) y []) e (span-steps s start))
+
     -- a reading that goes on
     pub known-so : (st : State) → steps o start s ≡ more st → fieldsKnown o s ≡ knownIn st
-    known-so st e =
-        ap knownBy (span-direct o s ∙ subst (λ (x : Step). Left (spanFrom o start s) x []) e (span-steps s start)) ∙ span-end st
+    known-so st e = ap knownBy (spanned (more st) e) ∙ span-end st
 
     -- a header that was read
     pub known-header : (h : Outline) → map outline (readHeader o s) ≡ gives h → fieldsKnown o s ≡ known (h .fields)
-    known-header h e =
-        ap knownBy
-        (span-direct o s ∙ subst (λ (x : Step). Left (spanFrom o start s) x []) (finds o start s h (sym (direct o s) ∙ e)) (span-steps s start))
+    known-header h e = ap knownBy (spanned (done h) (finds o start s h (sym (direct o s) ∙ e)))

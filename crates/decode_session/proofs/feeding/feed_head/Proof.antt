@@ -41,7 +41,8 @@ returns c =
     let k = v .before .before in
     let s = k .before .before .before .before in
     let a = s .args in
-    more (a .options) (a .reader) (a .at) (a .kept) (now (a .piece)) (now (a .out)) (now (a .ext)) _ (v .feed-header .result) (v .feed-header .ensures) (s .pre) _ _ _ (t .end .given .1)
+    more (a .options) (a .reader) (a .at) (a .kept) (now (a .piece)) (now (a .out)) (now (a .ext)) _
+    (v .feed-header .result) (v .feed-header .ensures) (s .pre) _ _ _ (t .end .given .1)
     (c .before .wrapping-add-usize .ensures) (c .took .ensures)
 
 same-length-2 : tie.Need-same-length-2
@@ -58,7 +59,8 @@ returns-2 c =
     let k = v .before .before in
     let s = k .before .before .before .before in
     let a = s .args in
-    whole (a .options) (a .reader) (a .at) (a .kept) (now (a .piece)) (now (a .out)) (now (a .ext)) _ (v .feed-header .result) (v .feed-header .ensures) (s .pre) _ _ _ _ (k .fields .ensures) (t .end2 .given .1)
+    whole (a .options) (a .reader) (a .at) (a .kept) (now (a .piece)) (now (a .out)) (now (a .ext)) _
+    (v .feed-header .result) (v .feed-header .ensures) (s .pre) _ _ _ _ (k .fields .ensures) (t .end2 .given .1)
     (f .feed-first .ensures)
 
 same-length-4 : tie.Need-same-length-4
@@ -71,7 +73,8 @@ returns-3 c =
     let k = v .before .before in
     let s = k .before .before .before .before in
     let a = s .args in
-    refused (a .options) (a .reader) (a .at) (a .kept) (now (a .piece)) (now (a .out)) (now (a .ext)) _ (v .feed-header .result) (v .feed-header .ensures) (s .pre) _ _ _ (k .fields .ensures) (t .end3 .given .1)
+    refused (a .options) (a .reader) (a .at) (a .kept) (now (a .piece)) (now (a .out)) (now (a .ext)) _
+    (v .feed-header .result) (v .feed-header .ensures) (s .pre) _ _ _ (k .fields .ensures) (t .end3 .given .1)
     (c .met .ensures)
 
 pub feed-head-spec : {M : Type 1} → statement M
