@@ -1,6 +1,6 @@
 -- What a session tells of itself in each stage.
 use Prim.Native.Nat.{ℕ, zero, suc, _+_, _-_, _*_, _/_, _≤_, _<_}
-use mathlib.Core.Path.{_≡_, refl, sym, ap, subst, _∙_}
+use mathlib.Core.Path.{_≡_, refl, sym, ap, _∙_}
 use mathlib.Core.Bool.{Bool, true, false, not}
 use mathlib.Core.Logic.{_⊎_, inl, inr, ⊎-elim}
 use native.Mathlib.Nat.{div-eq-of-lt-le, le-div-iff-mul-le}
@@ -27,6 +27,7 @@ use Rattle.decode_session.specs.Session.{wholeIn, framesDone, InBody, Un
 use Rattle.decode_session.specs.declared.Stage.{Stage}
 use Rattle.decode_session.specs.declared.DecodeSession.{DecodeSession}
 use Rattle.decode_session.proofs.Headers.{unread-end}
+use Rattle.decode_session.proofs.Seeing.{staged}
 use Rattle.decode_session.proofs.Counting.{closes-by, image-by, none-whole, all-whole, at-most}
 
 -- no frame is done while a header is read
@@ -77,22 +78,19 @@ module _ {m : Model} {h : Outline} {whole begun : ℕ} (b : InBody m h whole beg
           capped (size / planeOf h) (m .ceiling) whole (omega (arith, v .0)) (inr (v .0, l))
 
 module _ (s : DecodeSession) where
-  staged : (x : Stage) (m : Model) → s .stage ≡ x → Stands s m → StageOf x m
-  staged x m g st = subst (λ (x : Stage). StageOf x m) g (st .stage)
-
   pub closed-is : TellsClosed s (not (s .live))
   closed-is = record { is = refl; does = λ m st. ap not (st .live) }
 
   module _ (r : HeaderReader) (at kept : ℕ) (g : s .stage ≡ Stage.Header r at kept) where
     pub header-frames : Counts s 0
-    header-frames = record { does = λ m st. sym (none-done m r at kept (staged (Stage.Header r at kept) m g st .1)) }
+    header-frames = record { does = λ m st. sym (none-done m r at kept (staged s (Stage.Header r at kept) m g st .1)) }
 
     pub header-fields : (f : FieldsSeen) → Knows r f → SeesFields s f
-    header-fields f k = record { does = λ m st. unread-so m r at kept f (staged (Stage.Header r at kept) m g st .1) k .fields }
+    header-fields f k = record { does = λ m st. unread-so m r at kept f (staged s (Stage.Header r at kept) m g st .1) k .fields }
 
   module _ (p : ParsedHeader) (whole begun : ℕ) (g : s .stage ≡ Stage.Body p whole begun) where
     in-body : (m : Model) → Stands s m → InBody m (parsed p) whole begun
-    in-body m st = staged (Stage.Body p whole begun) m g st
+    in-body m st = staged s (Stage.Body p whole begun) m g st
 
     pub body-frames : (n : ℕ) → (n ≡ whole) ⊎ (n ≡ 16) → n ≤ whole → Counts s n
     body-frames n i l =
@@ -111,7 +109,7 @@ module _ (s : DecodeSession) where
 
   module _ (e : WbmpError) (f : FieldsSeen) (g : s .stage ≡ Stage.Refused e f) where
     unread : (m : Model) → Stands s m → Unread m f
-    unread m st = staged (Stage.Refused e f) m g st .1
+    unread m st = staged s (Stage.Refused e f) m g st .1
 
     pub refused-frames : Counts s 0
     refused-frames = record { does = λ m st. sym (unread m st .none) }

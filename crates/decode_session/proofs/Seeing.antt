@@ -16,7 +16,7 @@ use Rattle.decode_session.specs.declared.HeaderSeen.{HeaderSeen}
 use Rattle.decode_session.proofs.Headers.{unread-end}
 
 module _ (s : DecodeSession) where
-  staged : (x : Stage) (m : Model) → s .stage ≡ x → Stands s m → StageOf x m
+  pub staged : (x : Stage) (m : Model) → s .stage ≡ x → Stands s m → StageOf x m
   staged x m g st = subst (λ (x : Stage). StageOf x m) g (st .stage)
 
   pub sees-none : (r : HeaderReader) (at kept : ℕ) → s .stage ≡ Stage.Header r at kept → Sees s HeaderSeen.Unread

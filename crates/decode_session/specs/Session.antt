@@ -115,17 +115,21 @@ pub record Closes (s : DecodeSession) (r : DecodeClosed) : Type 0 where
       → (outcome m close .reply ≡ record { answer = closedMeaning (r .answer); output = []; extension = [] })
       × Stands (r .session) (outcome m close .next)
 
+-- ---- what can be asked of a session, open or closed, refused or not
+
+-- its header, with its fields by their span in the file
 pub record Sees (s : DecodeSession) (r : HeaderSeen) : Type 0 where
   pub does : (m : Model) → Stands s m → seenMeaning r ≡ headerSeen m
 
--- whether it is closed, of every session, and so of every machine that it stands for
+-- whether it is closed; told of every session, also of one that stands for no machine
 pub record TellsClosed (s : DecodeSession) (r : Bool) : Type 0 where
   pub is : r ≡ not (s .live)
   pub does : (m : Model) → Stands s m → r ≡ not (m .live)
 
--- open or closed, refused or not
+-- how many frames are done
 pub record Counts (s : DecodeSession) (r : ℕ) : Type 0 where
   pub does : (m : Model) → Stands s m → r ≡ framesDone m
 
+-- the extension fields, before the sizes are read and after a refusal too
 pub record SeesFields (s : DecodeSession) (r : FieldsSeen) : Type 0 where
   pub does : (m : Model) → Stands s m → knownMeaning r ≡ fieldsSeen m

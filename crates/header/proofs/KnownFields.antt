@@ -9,16 +9,16 @@ use lib.ListN.{length, getD, drop, drop-of-length-le}
 use Rattle.error.specs.Choice.{if}
 use Rattle.error.specs.Answer.{Answer, gives, refuses, bind, map}
 use Rattle.laws.proofs.Lists.{drop-at}
-use Rattle.mbi.specs.Read.{ByteRead, goes, ends, wrong, readByte, readMbi, integer, upon}
+use Rattle.mbi.specs.Read.{ByteRead, goes, ends, wrong, readByte, readRest, readMbi, integer, upon}
 use Rattle.mbi.proofs.Continuation.{integer-mbi}
-use Rattle.ext.specs.Kinds.{Span, absent, spanOf, fieldsFollow, kindBits}
-use Rattle.ext.specs.Read.{readFields}
+use Rattle.ext.specs.Kinds.{Span, absent, span, spanOf, fieldsFollow, kindBits}
+use Rattle.ext.specs.Read.{readFields, readPairs, readPair}
 use Rattle.ext.specs.Bytewise.{octets, octet, pairsFrom, identifierFrom, valueFrom, fieldsFrom, valueFault}
 use Rattle.ext.proofs.Spans.{spanTo, spans}
-use Rattle.header.specs.Settings.{Settings}
+use Rattle.header.specs.Settings.{Settings, extInner}
 use Rattle.header.specs.Read.{Outline, outline, readHeader}
 use Rattle.header.specs.Machine.{State, inType, atFix, inOctets, atOctet, atPair, inIdentifier, inValue, inWidth, inHeight, start, Step, more, done, refused, onByte, stepOf, steps}
-use Rattle.header.specs.Known.{spanAtFix, readSpan, known, knownBy, fieldsKnown, knownIn}
+use Rattle.header.specs.Known.{spanAtFix, readSpan, unknown, known, knownBy, fieldsKnown, knownIn}
 use Rattle.header.specs.Pieces.{onward}
 use Rattle.header.proofs.Machine.{steps-cons}
 use Rattle.header.proofs.Direct.{direct}
@@ -179,3 +179,12 @@ module _ (o : Settings) where
     -- a header that was read
     pub known-header : (h : Outline) → map outline (readHeader o s) ≡ gives h → fieldsKnown o s ≡ known (h .fields)
     known-header h e = ap knownBy (spanned (done h) (finds o start s h (sym (direct o s) ∙ e)))
+
+-- the pair of P5, k = 12, is known with its last byte, and not before
+card : fieldsKnown (extInner false) (0 ∷ 224 ∷ 18 ∷ 107 ∷ 49 ∷ 50 ∷ []) ≡ known (span 3 2 4 1)
+unfolding readSpan readRest readByte readFields readPairs readPair
+card = refl
+
+short : fieldsKnown (extInner false) (0 ∷ 224 ∷ 18 ∷ 107 ∷ 49 ∷ []) ≡ unknown
+unfolding readSpan readRest readByte readFields readPairs readPair
+short = refl
