@@ -12,6 +12,7 @@ use Rattle.error.specs.declared.Checked.{Checked}
 use Rattle.error.specs.declared.Checked.the-variants.{Accepted}
 use Rattle.error.specs.declared.WbmpError.{WbmpError}
 use Rattle.header.specs.Read.{Outline, parsed}
+use Rattle.header.specs.declared.FieldsSeen.{FieldsSeen}
 use Rattle.header.specs.declared.ParsedHeader.{ParsedHeader}
 use Rattle.image.specs.Geometry.{rowBytes}
 use Rattle.options.specs.Limits.{Decoding, decoding, checkLimits}
@@ -20,7 +21,7 @@ use Rattle.decoder.specs.Body.{planeOf}
 use Rattle.decoder.specs.Image.{imageSettings, headerOf}
 use Rattle.decoder.proofs.Shaped.{outline-shape}
 use Rattle.decode_session.specs.Model.{Met, refusal, Model, meets, stored, fedBy}
-use Rattle.decode_session.specs.Session.{Bounded}
+use Rattle.decode_session.specs.Session.{Unread, Bounded}
 use Rattle.decode_session.specs.Stages.{metIn, Agrees, Enters, Planes, Ended, Begins}
 use Rattle.decode_session.specs.declared.DecodeFed.{DecodeFed}
 use Rattle.decode_session.proofs.Headers.{header-later}
@@ -29,14 +30,17 @@ use Rattle.decode_session.proofs.Bounds.{ceiling-some}
 use Rattle.decode_session.proofs.Meeting.{limit-over, admitted}
 
 -- the session that met a refusal agrees
-pub refused-agrees : (o : DecodeOptions) (m : Model) (piece out ext : List ℕ) (e : WbmpError) → Bounded (m .ceiling) (m .options) → decoding o ≡ m .options
-    → meets m piece ≡ refusal (e .code) (e .offset)
-    → Agrees (metIn o e) out (stored m (m .bytes ++ piece) ext) (fedBy m piece out ext (meets m piece))
-refused-agrees o m piece out ext e c q met =
+pub refused-agrees : (o : DecodeOptions) (m : Model) (piece out ext : List ℕ) (e : WbmpError) (f : FieldsSeen)
+    → Bounded (m .ceiling) (m .options) → decoding o ≡ m .options → Unread m f → meets m piece ≡ refusal (e .code) (e .offset)
+    → Agrees (metIn o e f) out (stored m (m .bytes ++ piece) ext) (fedBy m piece out ext (meets m piece))
+refused-agrees o m piece out ext e f c q u met =
     subst
-    (λ (x : Met). Agrees (metIn o e) out (stored m (m .bytes ++ piece) ext) (fedBy m piece out ext x))
+    (λ (x : Met). Agrees (metIn o e f) out (stored m (m .bytes ++ piece) ext) (fedBy m piece out ext x))
     (sym met)
-    (record { reply = refl; stands = record { ceiling = c; options = q; live = refl; stage = refl } })
+    (record {
+      reply = refl;
+      stands = record { ceiling = c; options = q; live = refl; stage = (refl, record { none = u .none; fields = u .fields }) };
+    })
 
 module _ (m : Model) (piece : List ℕ) (from : ℕ) (h : Outline) (e : Ended m piece from h) where
   pub header-all : headerOf (m .options .mode) (m .bytes ++ piece) ≡ gives h
@@ -70,7 +74,7 @@ module _ (m : Model) (piece : List ℕ) (from : ℕ) (h : Outline) (e : Ended m 
         earlier = e .none ∙ omega arith;
       }
 
-module _ (o : DecodeOptions) (p : ParsedHeader) (from : ℕ) (piece out : List ℕ) (d : DecodeFed) (r x : Checked) (n : ℕ)
+module _ (o : DecodeOptions) (f : FieldsSeen) (p : ParsedHeader) (from : ℕ) (piece out : List ℕ) (d : DecodeFed) (r x : Checked) (n : ℕ)
     (tested : checked r ≡ checkLimits (decoding o) (p .width) (p .height) n (p .«data_offset»)) (is : r ≡ x) (plane : n ≡ planeOf (parsed p)) where
   limits : (m : Model) → decoding o ≡ m .options → checkLimits (m .options) (p .width) (p .height) (planeOf (parsed p)) (p .«data_offset») ≡ checked x
   limits m q =
@@ -79,24 +83,24 @@ module _ (o : DecodeOptions) (p : ParsedHeader) (from : ℕ) (piece out : List �
       ∙ ap (λ (k : ℕ). checkLimits (decoding o) (p .width) (p .height) k (p .«data_offset»)) plane
       ∙ ap (λ (d : Decoding). checkLimits d (p .width) (p .height) (planeOf (parsed p)) (p .«data_offset»)) q)
 
-  pub begins : (out′ : List ℕ) → x ≡ Accepted → Planes o p 0 0 from piece out d out′ → Begins o p from piece out d out′
-  begins out′ a f =
+  pub begins : (out′ : List ℕ) → x ≡ Accepted → Planes o p 0 0 from piece out d out′ → Begins o f p from piece out d out′
+  begins out′ a t =
       record {
         does =
-            λ m ext c q e.
+            λ m ext c q u e.
             let l = limits m q ∙ ap checked a in
             subst (λ (x : Met). Agrees d out′ (stored m (m .bytes ++ piece) ext) (fedBy m piece out ext x))
             (sym (admitted m piece (parsed p) (header-all m piece from (parsed p) e) l))
-            (f .does m ext c q (enters m piece from (parsed p) e c l));
+            (t .does m ext c q (enters m piece from (parsed p) e c l));
       }
 
-  pub over : (e : WbmpError) → x ≡ Checked.Refused e → d ≡ metIn o e
-      → Begins o p from piece out d out
+  pub over : (e : WbmpError) → x ≡ Checked.Refused e → d ≡ metIn o e f
+      → Begins o f p from piece out d out
   over e a s =
       record {
         does =
-            λ m ext c q g.
+            λ m ext c q u g.
             subst (λ (d : DecodeFed). Agrees d out (stored m (m .bytes ++ piece) ext) (fedBy m piece out ext (meets m piece))) (sym s)
-            (refused-agrees o m piece out ext e c q
+            (refused-agrees o m piece out ext e f c q u
             (limit-over m piece (parsed p) (header-all m piece from (parsed p) g) (e .code) (e .offset) (limits m q ∙ ap checked a)));
       }

@@ -37,7 +37,7 @@ module _ (s : DecodeSession) where
   still (Stage.Header r at kept) m h = h
   still (Stage.Body p whole begun) m b =
       record { nothingMet = b .nothingMet; headerIs = b .headerIs; admitted = b .admitted; start = b .start; below = b .below; place = b .place }
-  still (Stage.Refused e) m h = h
+  still (Stage.Refused e f) m h = (h .0, record { none = h .1 .none; fields = h .1 .fields })
 
   pub close-open : (a : DecodeClose) → s .live ≡ true → Finishes (s .stage) a
       → Closes s (record { session = record { options = s .options; stage = s .stage; live = false }; answer = a })

@@ -14,6 +14,7 @@ use Rattle.error.specs.declared.WbmpError.{WbmpError}
 use Rattle.laws.proofs.Tests.{if-true, if-false}
 use Rattle.header.specs.Read.{Outline, parsed}
 use Rattle.header.specs.Represents.{Ended}
+use Rattle.header.specs.declared.FieldsSeen.{FieldsSeen}
 use Rattle.header.specs.declared.ParsedHeader.{ParsedHeader}
 use Rattle.header.specs.declared.reader.HeaderReader.{HeaderReader}
 use Rattle.decoder.specs.Body.{extraFrames, planeOf, framesIn}
@@ -28,12 +29,12 @@ use Rattle.decode_session.proofs.Headers.{unread}
 use Rattle.decode_session.proofs.Bounds.{ceiling-some, ceiling-few}
 
 -- closing by the image's answer
-closes-by : (m : Model) (x : Answer Outline) → m .met ≡ nothing → readImage (m .options) (m .bytes) ≡ x
+pub closes-by : (m : Model) (x : Answer Outline) → m .met ≡ nothing → readImage (m .options) (m .bytes) ≡ x
     → closing m (m .met) ≡ map frames (map (framesIn (m .ceiling) (length (m .bytes))) x)
 closes-by m x n e =
     ap (closing m) n ∙ ap (λ (x : Answer Outline). map {B = Told} frames (map (framesIn (m .ceiling) (length (m .bytes))) x)) e
 
-image-by : (m : Model) (x : Answer Outline) → headerOf (m .options .mode) (m .bytes) ≡ x
+pub image-by : (m : Model) (x : Answer Outline) → headerOf (m .options .mode) (m .bytes) ≡ x
     → readImage (m .options) (m .bytes) ≡ bind x (testBody (m .options) (length (m .bytes)))
 unfolding readImage
 image-by m x e = ap (λ (x : Answer Outline). bind x (testBody (m .options) (length (m .bytes)))) e
@@ -129,5 +130,5 @@ module _ (s : Stage) where
         positive : (whole ≡ 0 → ⊥) → 0 < whole
         positive f = omega arith
 
-  pub finish-refused : (e : WbmpError) → s ≡ Stage.Refused e → Finishes s (DecodeClose.Refused e)
-  finish-refused e g = record { does = λ m c st. sym (ap (closing m) (subst (λ (x : Stage). StageOf x m) g st)) }
+  pub finish-refused : (e : WbmpError) (f : FieldsSeen) → s ≡ Stage.Refused e f → Finishes s (DecodeClose.Refused e)
+  finish-refused e f g = record { does = λ m c st. sym (ap (closing m) (subst (λ (x : Stage). StageOf x m) g st .0)) }

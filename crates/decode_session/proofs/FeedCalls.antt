@@ -6,6 +6,7 @@ use mathlib.Core.List.{List, _++_, append-nil}
 use lib.ListN.{length}
 use Rattle.error.specs.declared.WbmpError.{WbmpError}
 use Rattle.header.specs.Read.{Outline, parsed}
+use Rattle.header.specs.declared.FieldsSeen.{FieldsSeen}
 use Rattle.header.specs.declared.ParsedHeader.{ParsedHeader}
 use Rattle.header.specs.declared.reader.HeaderReader.{HeaderReader}
 use Rattle.decoder.specs.Image.{imageSettings}
@@ -39,12 +40,12 @@ module _ (s : DecodeSession) (piece out ext : List ℕ) (d : DecodeFed) (e : Wbm
       }
 
   -- of an open session
-  pub feed-met : s .live ≡ true → s .stage ≡ Stage.Refused e → Feeds s piece out ext d out ext
-  feed-met l g =
+  pub feed-met : s .live ≡ true → (f : FieldsSeen) → s .stage ≡ Stage.Refused e f → Feeds s piece out ext d out ext
+  feed-met l f g =
       record {
         does =
             λ m st. unaltered-fits s m piece out ext e d st
-            (met-earlier m piece out ext (e .code) (e .offset) (sym (st .live) ∙ l) (subst (λ (x : Stage). StageOf x m) g (st .stage))) is;
+            (met-earlier m piece out ext (e .code) (e .offset) (sym (st .live) ∙ l) (subst (λ (x : Stage). StageOf x m) g (st .stage) .0)) is;
       }
 
   feed-short : s .live ≡ true → e ≡ record { code = 28; offset = 0 } → length ext < 4118 → ((m : Model) → Stands s m → m .met ≡ nothing)

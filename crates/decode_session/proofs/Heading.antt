@@ -10,6 +10,8 @@ use lib.Seq.{sets, take-length, drop-nil, length-take-le}
 use Rattle.error.specs.declared.WbmpError.{WbmpError}
 use Rattle.header.specs.Settings.{Settings}
 use Rattle.header.specs.Read.{parsed}
+use Rattle.header.specs.Known.{Knows}
+use Rattle.header.specs.declared.FieldsSeen.{FieldsSeen}
 use Rattle.header.specs.declared.ParsedHeader.{ParsedHeader}
 use Rattle.header.specs.declared.reader.HeaderReader.{HeaderReader}
 use Rattle.header.proofs.Ends.{endCode, endOffset, end-code}
@@ -31,6 +33,7 @@ use Rattle.decode_session.proofs.Fitting.{most-is}
 use Rattle.decode_session.proofs.Meeting.{header-refused, header-short}
 use Rattle.decode_session.proofs.Replies.{replied, parts, stored-as, reading, agreed}
 use Rattle.decode_session.proofs.Beginning.{refused-agrees}
+use Rattle.decode_session.proofs.Asked.{unread-so}
 
 -- a file whose header goes on shows nothing
 pub nothing-shown : (m : Model) (s : List ℕ) (r : HeaderReader) (at kept : ℕ) → Reached (imageSettings (m .options .mode)) s r at kept
@@ -149,24 +152,24 @@ module _ (o : DecodeOptions) (reader : HeaderReader) (at kept : ℕ) (piece out 
             (subst (λ (d : DecodeFed). Agrees d out ext′ (fedBy m piece out ext (meets m piece))) (sym s) (goes-on m st next now e n));
       }
 
-  pub whole : (h : ParsedHeader) (d : DecodeFed) (out′ : List ℕ) → f .end ≡ HeadEnd.Done h → Begins o h (f .taken) piece out d out′
-      → Feeds session piece out ext d out′ ext′
-  whole h d out′ e b =
+  pub whole : (k : FieldsSeen) (h : ParsedHeader) (d : DecodeFed) (out′ : List ℕ) → Knows reader k → f .end ≡ HeadEnd.Done h
+      → Begins o k h (f .taken) piece out d out′ → Feeds session piece out ext d out′ ext′
+  whole k h d out′ u e b =
       record {
         does =
             λ m st. agreed m piece out ext d out′ ext′ _ _ (reading m piece out ext (sym (st .live)) (st .stage .0) long) (stored-is m st)
-            (b .does m ext (st .ceiling) (st .options) (ended m st h e));
+            (b .does m ext (st .ceiling) (st .options) (unread-so m reader at kept k (st .stage .1) u) (ended m st h e));
       }
 
-  pub refused : (e : WbmpError) (d : DecodeFed) → f .end ≡ HeadEnd.Refused e
-      → d ≡ metIn o e
+  pub refused : (k : FieldsSeen) (e : WbmpError) (d : DecodeFed) → Knows reader k → f .end ≡ HeadEnd.Refused e → d ≡ metIn o e k
       → Feeds session piece out ext d out ext′
-  refused e d q s =
+  refused k e d u q s =
       record {
         does =
             λ m st.
             let r = ends m st (HeadEnd.Refused e) q in
             agreed m piece out ext d out ext′ _ _ (reading m piece out ext (sym (st .live)) (st .stage .0) long) (stored-is m st)
             (subst (λ (d : DecodeFed). Agrees d out (stored m (m .bytes ++ piece) ext) (fedBy m piece out ext (meets m piece))) (sym s)
-            (refused-agrees o m piece out ext e (st .ceiling) (st .options) (header-refused m piece (e .code) (e .offset) (r .0) (r .1))));
+            (refused-agrees o m piece out ext e k (st .ceiling) (st .options) (unread-so m reader at kept k (st .stage .1) u)
+            (header-refused m piece (e .code) (e .offset) (r .0) (r .1))));
       }

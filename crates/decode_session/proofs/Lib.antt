@@ -21,6 +21,7 @@ pub mod Beginning
 pub mod Heading
 pub mod FeedCalls
 pub mod Counting
+pub mod Asked
 pub mod CloseCalls
 pub mod Opening
 pub mod Seeing

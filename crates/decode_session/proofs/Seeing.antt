@@ -4,6 +4,7 @@ use mathlib.Core.Path.{_≡_, refl, sym, ap, subst, _∙_}
 use Rattle.error.specs.Answer.{Answer, gives, refuses}
 use Rattle.error.specs.declared.WbmpError.{WbmpError}
 use Rattle.header.specs.Read.{Outline, parsed}
+use Rattle.header.specs.declared.FieldsSeen.{FieldsSeen}
 use Rattle.header.specs.declared.ParsedHeader.{ParsedHeader}
 use Rattle.header.specs.declared.reader.HeaderReader.{HeaderReader}
 use Rattle.decoder.specs.Image.{imageSettings, headerOf}
@@ -15,7 +16,7 @@ use Rattle.decode_session.specs.declared.HeaderSeen.{HeaderSeen}
 use Rattle.decode_session.proofs.Headers.{unread-end}
 
 module _ (s : DecodeSession) where
-  staged : (x : Stage) (m : Model) → s .stage ≡ x → Stands s m → StageOf x m
+  pub staged : (x : Stage) (m : Model) → s .stage ≡ x → Stands s m → StageOf x m
   staged x m g st = subst (λ (x : Stage). StageOf x m) g (st .stage)
 
   pub sees-none : (r : HeaderReader) (at kept : ℕ) → s .stage ≡ Stage.Header r at kept → Sees s HeaderSeen.Unread
@@ -37,12 +38,12 @@ module _ (s : DecodeSession) where
             sym (ap (λ (x : Met). seenOf (headerOf (m .options .mode) (m .bytes)) x) (b .nothingMet) ∙ ap (λ (a : Answer Outline). seenOf a nothing) (b .headerIs));
       }
 
-  pub sees-refused : (e : WbmpError) → s .stage ≡ Stage.Refused e → Sees s HeaderSeen.Unread
-  sees-refused e g =
+  pub sees-refused : (e : WbmpError) (f : FieldsSeen) → s .stage ≡ Stage.Refused e f → Sees s HeaderSeen.Unread
+  sees-refused e f g =
       record {
         does =
             λ m st. sym
-            (ap (λ (x : Met). seenOf (headerOf (m .options .mode) (m .bytes)) x) (staged (Stage.Refused e) m g st)
+            (ap (λ (x : Met). seenOf (headerOf (m .options .mode) (m .bytes)) x) (staged (Stage.Refused e f) m g st .0)
             ∙ hidden (headerOf (m .options .mode) (m .bytes)));
       }
     where

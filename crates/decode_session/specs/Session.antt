@@ -1,12 +1,17 @@
 -- What a session stands for, and what its calls promise.
-use Prim.Native.Nat.{ℕ, _+_, _*_, _≤_, _<_}
+use Prim.Native.Nat.{ℕ, _+_, _-_, _*_, _/_, _≤_, _<_}
 use mathlib.Core.Path.{_≡_}
+use mathlib.Core.Bool.{Bool, not}
 use mathlib.Core.List.{List, []}
 use mathlib.Core.Logic.{_⊎_}
+use lib.Dec.{leb}
 use lib.ListN.{length}
+use Rattle.error.specs.Choice.{if}
 use Rattle.error.specs.Answer.{Answer, gives, refuses, checked}
 use Rattle.error.specs.Answer as Answers
 use Rattle.header.specs.Read.{Outline, parsed}
+use Rattle.header.specs.Known.{Known, fieldsKnown, knownMeaning}
+use Rattle.header.specs.declared.FieldsSeen.{FieldsSeen}
 use Rattle.options.specs.Limits.{Decoding, settled, ceilingOf, decoding, checkLimits}
 use Rattle.decoder.specs.Body.{planeOf}
 use Rattle.decoder.specs.Image.{imageSettings, headerOf}
@@ -49,6 +54,18 @@ seenOf a (refusal code place) = unread
 abbrev pub headerSeen : Model → Seen
 headerSeen m = seenOf (headerOf (m .options .mode) (m .bytes)) (m .met)
 
+-- how many frames of a file so far are done: the whole planes behind its header, up to a ceiling, and none before the header is read
+abbrev pub wholeIn : ℕ → ℕ → Answer Outline → ℕ
+wholeIn ceiling size (gives h) = let n = (size - h .body) / planeOf h in if (leb n ceiling) n ceiling
+wholeIn ceiling size (refuses code place) = 0
+
+abbrev pub framesDone : Model → ℕ
+framesDone m = wholeIn (m .ceiling) (length (m .bytes)) (headerOf (m .options .mode) (m .bytes))
+
+-- the extension fields of the bytes taken; those that end in a refused call's piece are not among them
+abbrev pub fieldsSeen : Model → Known
+fieldsSeen m = fieldsKnown (imageSettings (m .options .mode)) (m .bytes)
+
 -- in the body: so many whole planes, and so many bytes of the begun one; behind the last plane bytes are dropped
 pub record InBody (m : Model) (h : Outline) (whole begun : ℕ) : Type 0 where
   pub nothingMet : m .met ≡ nothing
@@ -59,10 +76,15 @@ pub record InBody (m : Model) (h : Outline) (whole begun : ℕ) : Type 0 where
   pub place : ((whole < m .ceiling) × (h .body + (whole * planeOf h + begun) ≡ length (m .bytes)))
       ⊎ ((whole ≡ m .ceiling) × ((begun ≡ 0) × (h .body + whole * planeOf h ≤ length (m .bytes))))
 
+-- before the header is read: no frame is done, and so much is known of the fields
+pub record Unread (m : Model) (f : FieldsSeen) : Type 0 where
+  pub none : framesDone m ≡ 0
+  pub fields : knownMeaning f ≡ fieldsSeen m
+
 abbrev pub StageOf : Stage → Model → Type 0
 StageOf (Stage.Header r at kept) m = (m .met ≡ nothing) × Reached (imageSettings (m .options .mode)) (m .bytes) r at kept
 StageOf (Stage.Body h whole begun) m = InBody m (parsed h) whole begun
-StageOf (Stage.Refused e) m = m .met ≡ refusal (e .code) (e .offset)
+StageOf (Stage.Refused e f) m = (m .met ≡ refusal (e .code) (e .offset)) × Unread m f
 
 -- the settings passed their test, and the ceiling is theirs
 pub record Bounded (ceiling : ℕ) (d : Decoding) : Type 0 where
@@ -93,5 +115,21 @@ pub record Closes (s : DecodeSession) (r : DecodeClosed) : Type 0 where
       → (outcome m close .reply ≡ record { answer = closedMeaning (r .answer); output = []; extension = [] })
       × Stands (r .session) (outcome m close .next)
 
+-- ---- what can be asked of a session, open or closed, refused or not
+
+-- its header, with its fields by their span in the file
 pub record Sees (s : DecodeSession) (r : HeaderSeen) : Type 0 where
   pub does : (m : Model) → Stands s m → seenMeaning r ≡ headerSeen m
+
+-- whether it is closed; told of every session, also of one that stands for no machine
+pub record TellsClosed (s : DecodeSession) (r : Bool) : Type 0 where
+  pub is : r ≡ not (s .live)
+  pub does : (m : Model) → Stands s m → r ≡ not (m .live)
+
+-- how many frames are done
+pub record Counts (s : DecodeSession) (r : ℕ) : Type 0 where
+  pub does : (m : Model) → Stands s m → r ≡ framesDone m
+
+-- the extension fields, before the sizes are read and after a refusal too
+pub record SeesFields (s : DecodeSession) (r : FieldsSeen) : Type 0 where
+  pub does : (m : Model) → Stands s m → knownMeaning r ≡ fieldsSeen m

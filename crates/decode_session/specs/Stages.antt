@@ -7,6 +7,7 @@ use lib.ListN.{length, take}
 use Rattle.error.specs.Answer.{gives}
 use Rattle.error.specs.declared.WbmpError.{WbmpError}
 use Rattle.header.specs.Read.{Outline, parsed}
+use Rattle.header.specs.declared.FieldsSeen.{FieldsSeen}
 use Rattle.header.specs.declared.ParsedHeader.{ParsedHeader}
 use Rattle.options.specs.Limits.{decoding}
 use Rattle.options.specs.declared.DecodeOptions.{DecodeOptions}
@@ -14,7 +15,7 @@ use Rattle.decoder.specs.Body.{planeOf}
 use Rattle.decoder.specs.Image.{headerOf}
 use Rattle.decode_session.specs.Sequence.{sequence}
 use Rattle.decode_session.specs.Model.{nothing, Model, Outcome, fedBy, meets, stored, closing}
-use Rattle.decode_session.specs.Session.{fedMeaning, closedMeaning, InBody, StageOf, Bounded, Stands}
+use Rattle.decode_session.specs.Session.{fedMeaning, closedMeaning, InBody, Unread, StageOf, Bounded, Stands}
 use Rattle.decode_session.specs.declared.Stage.{Stage}
 use Rattle.decode_session.specs.declared.DecodeFeed.{DecodeFeed}
 use Rattle.decode_session.specs.declared.DecodeFeed.the-variants.{Took}
@@ -26,12 +27,13 @@ pub record Agrees (r : DecodeFed) (out′ ext′ : List ℕ) (x : Outcome) : Typ
   pub reply : x .reply ≡ record { answer = fedMeaning (r .answer); output = out′; extension = ext′ }
   pub stands : Stands (r .session) (x .next)
 
--- an open session after a call that takes and writes so many bytes, and after one that meets a refusal of the file
+-- an open session after a call that takes and writes so many bytes, and after one that meets a refusal of the file, with what was known of
+-- the fields before it
 abbrev pub takenIn : DecodeOptions → Stage → ℕ → ℕ → DecodeFed
 takenIn o stage taken written = record { session = record { options = o; stage = stage; live = true }; answer = Took taken written }
 
-abbrev pub metIn : DecodeOptions → WbmpError → DecodeFed
-metIn o e = record { session = record { options = o; stage = Stage.Refused e; live = true }; answer = DecodeFeed.Refused e }
+abbrev pub metIn : DecodeOptions → WbmpError → FieldsSeen → DecodeFed
+metIn o e f = record { session = record { options = o; stage = Stage.Refused e f; live = true }; answer = DecodeFeed.Refused e }
 
 -- a plain machine with other bytes taken
 abbrev pub having : Model → List ℕ → Model
@@ -54,8 +56,10 @@ pub record Ended (m : Model) (piece : List ℕ) (from : ℕ) (h : Outline) : Typ
   pub body : h .body ≡ length (m .bytes) + from
   pub none : length (sequence (m .ceiling) (m .options) (m .bytes)) ≡ 0
 
-pub record Begins (o : DecodeOptions) (h : ParsedHeader) (from : ℕ) (piece out : List ℕ) (r : DecodeFed) (out′ : List ℕ) : Type 0 where
-  pub does : (m : Model) (ext : List ℕ) → Bounded (m .ceiling) (m .options) → decoding o ≡ m .options → Ended m piece from (parsed h)
+pub record Begins (o : DecodeOptions) (f : FieldsSeen) (h : ParsedHeader) (from : ℕ) (piece out : List ℕ) (r : DecodeFed) (out′ : List ℕ)
+    : Type 0 where
+  pub does : (m : Model) (ext : List ℕ) → Bounded (m .ceiling) (m .options) → decoding o ≡ m .options
+      → Unread m f → Ended m piece from (parsed h)
       → Agrees r out′ (stored m (m .bytes ++ piece) ext) (fedBy m piece out ext (meets m piece))
 
 -- what closing answers

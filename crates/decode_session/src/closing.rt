@@ -22,6 +22,6 @@ pub(crate) fn finish(stage: Stage) -> DecodeClose
             }
             DecodeClose::Frames(least(whole, MAX_FRAMES) as u32)
         }
-        Stage::Refused(e) => DecodeClose::Refused(e),
+        Stage::Refused(e, _) => DecodeClose::Refused(e),
     }
 }

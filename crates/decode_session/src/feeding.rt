@@ -9,6 +9,7 @@ use crate::head::HeadEnd;
 use crate::head::feed_header;
 use error::Checked;
 use error::WbmpError;
+use header::FieldsSeen;
 use header::HeaderReader;
 use header::ParsedHeader;
 use image::PlaneLayout;
@@ -34,10 +35,10 @@ fn took(options: DecodeOptions, stage: Stage, taken: usize, written: usize) -> D
 }
 
 // The session after a call that meets a refusal of the file.
-fn met(options: DecodeOptions, e: WbmpError) -> DecodeFed
-    ensures { λ r. ⌜ r ≡ metIn options e ⌝ }
+fn met(options: DecodeOptions, e: WbmpError, known: FieldsSeen) -> DecodeFed
+    ensures { λ r. ⌜ r ≡ metIn options e known ⌝ }
 {
-    let stage = Stage::Refused(e);
+    let stage = Stage::Refused(e, known);
     let session = DecodeSession {
         options,
         stage,
@@ -75,22 +76,24 @@ pub(crate) fn feed_planes(
     took(options, stage, from + fed.taken, fed.written)
 }
 
-// Behind the header, which ended with the first `from` bytes of a piece: the limits, then the body.
+// Behind the header, which ended with the first `from` bytes of a piece: the limits, then the body. `known` is what was known of the fields
+// before the piece.
 fn feed_first(
     options: DecodeOptions,
+    known: FieldsSeen,
     h: ParsedHeader,
     from: usize,
     piece: &[u8],
     out: &mut [u8],
 ) -> DecodeFed
     requires { ⌜ from ≤ length (now piece) ⌝ }
-    ensures { λ r. ⌜ Begins options h from (now (piece .entry)) (now (out .entry)) r (now (out .exit)) ⌝ }
+    ensures { λ r. ⌜ Begins options known h from (now (piece .entry)) (now (out .entry)) r (now (out .exit)) ⌝ }
 {
     let layout = PlaneLayout::new(h.width, h.height);
     let plane = layout.total_bytes as u64;
     match options.check(h.width, h.height, plane, h.data_offset) {
         Checked::Accepted => feed_planes(options, h, 0, 0, from, piece, out),
-        Checked::Refused(e) => met(options, e),
+        Checked::Refused(e) => met(options, e, known),
     }
 }
 
@@ -107,6 +110,7 @@ pub(crate) fn feed_head(
     requires { ⌜ 4118 ≤ length (now ext) ⌝ }
     ensures { λ r. ⌜ Feeds (record { options = options; stage = Stage.Header reader at kept; live = true }) (now (piece .entry)) (now (out .entry)) (now (ext .entry)) r (now (out .exit)) (now (ext .exit)) ⌝ }
 {
+    let known = reader.fields();
     let fed = feed_header(reader, at, kept, piece, ext);
     let taken = fed.taken;
     let end = fed.end;
@@ -116,7 +120,7 @@ pub(crate) fn feed_head(
             let stage = Stage::Header(next, now, fed.kept);
             took(options, stage, taken, 0)
         }
-        HeadEnd::Done(h) => feed_first(options, h, taken, piece, out),
-        HeadEnd::Refused(e) => met(options, e),
+        HeadEnd::Done(h) => feed_first(options, known, h, taken, piece, out),
+        HeadEnd::Refused(e) => met(options, e, known),
     }
 }

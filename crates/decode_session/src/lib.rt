@@ -6,6 +6,7 @@ use error::BUFFER_TOO_SHORT;
 use error::Checked;
 use error::SESSION_CLOSED;
 use error::WbmpError;
+use header::FieldsSeen;
 use header::HeaderReader;
 use header::ParsedHeader;
 use options::DecodeOptions;
@@ -20,6 +21,7 @@ mod closing;
 mod convert;
 mod feeding;
 mod head;
+mod queries;
 
 // The least length of an extension buffer: no fields are longer.
 pub const EXTENSION_BYTES: usize = 4118;
@@ -30,8 +32,8 @@ pub(crate) enum Stage {
     Header(HeaderReader, usize, usize),
     // In the body: whole frames, and bytes of the begun one.
     Body(ParsedHeader, usize, usize),
-    // A refusal that a call has met.
-    Refused(WbmpError),
+    // A refusal that a call has met, and the fields that were known before it.
+    Refused(WbmpError, FieldsSeen),
 }
 
 // An opened session; only `open` makes one.
@@ -136,7 +138,7 @@ impl DecodeSession {
                 }
                 feed_planes(options, h, whole, begun, 0, piece, out)
             }
-            Stage::Refused(e) => unaltered(self, e),
+            Stage::Refused(e, _) => unaltered(self, e),
         }
     }
 
@@ -170,7 +172,7 @@ impl DecodeSession {
         match stage {
             Stage::Header(_, _, _) => HeaderSeen::Unread,
             Stage::Body(h, _, _) => HeaderSeen::Header(h),
-            Stage::Refused(_) => HeaderSeen::Unread,
+            Stage::Refused(_, _) => HeaderSeen::Unread,
         }
     }
 }

@@ -7,6 +7,7 @@ pub mod Meets
 pub mod Represented
 pub mod Pieces
 pub mod Direct
+pub mod KnownFields
 pub mod Put
 pub mod Descent
 pub mod Prefix

@@ -4,5 +4,6 @@ pub mod Write
 pub mod Begin
 pub mod Machine
 pub mod Represents
+pub mod Known
 pub mod Phase
 pub mod Pieces

@@ -39,6 +39,12 @@ pub enum HeaderFields {
     Fields(ExtFields),
 }
 
+// The fields of a file so far, once their last byte was taken.
+pub enum FieldsSeen {
+    Unread,
+    Seen(HeaderFields),
+}
+
 pub struct ParsedHeader {
     pub width: u32,
     pub height: u32,

@@ -1,4 +1,5 @@
 // Where a reading of a header stands between two bytes, and what one byte more does.
+use crate::FieldsSeen;
 use crate::HeaderFields;
 use crate::HeaderMode;
 use crate::ParsedHeader;
@@ -22,6 +23,7 @@ ghost use Rattle.error.specs.Answer.{refusal};
 ghost use Rattle.header.specs.Settings.{Settings, settings};
 ghost use Rattle.header.specs.Machine.{inFields, resume, stepOf};
 ghost use Rattle.header.specs.Represents.{state};
+ghost use Rattle.header.specs.Known.{knownIn, knownMeaning};
 ghost use Rattle.header.specs.Phase.{moved, IntegerBound, FieldsBound, Bounded, Tells};
 
 // `at` is how many bytes were taken.
@@ -157,6 +159,23 @@ impl Phase {
             Phase::InValue { .. } => true,
             Phase::InWidth { .. } => false,
             Phase::InHeight { .. } => false,
+        }
+    }
+
+    // The extension fields, once their last byte was taken.
+    pub(crate) fn fields(self) -> FieldsSeen
+        ensures { λ r. ⌜ knownMeaning r ≡ knownIn (state self) ⌝ }
+    {
+        match self {
+            Phase::InType { .. } => FieldsSeen::Unread,
+            Phase::AtFix { .. } => FieldsSeen::Unread,
+            Phase::InOctets { .. } => FieldsSeen::Unread,
+            Phase::AtOctet { .. } => FieldsSeen::Unread,
+            Phase::AtPair { .. } => FieldsSeen::Unread,
+            Phase::InIdentifier { .. } => FieldsSeen::Unread,
+            Phase::InValue { .. } => FieldsSeen::Unread,
+            Phase::InWidth { fields, .. } => FieldsSeen::Seen(fields),
+            Phase::InHeight { fields, .. } => FieldsSeen::Seen(fields),
         }
     }
 

@@ -1,4 +1,5 @@
 // A header reader that takes one byte at a time.
+use crate::FieldsSeen;
 use crate::HeaderMode;
 use crate::ParsedHeader;
 use crate::phase::Phase;
@@ -8,6 +9,7 @@ ghost use mathlib.Core.Path.{_≡_};
 ghost use Rattle.header.specs.Settings.{Settings, settings};
 ghost use Rattle.header.specs.Machine.{State, start, inFields};
 ghost use Rattle.header.specs.Represents.{Represents, Stepped, Ended};
+ghost use Rattle.header.specs.Known.{Knows};
 
 pub struct HeaderReader {
     mode: HeaderMode,
@@ -56,6 +58,14 @@ impl HeaderReader {
     {
         let phase = self.phase;
         phase.in_fields()
+    }
+
+    // The extension fields, once their last byte was taken.
+    pub fn fields(self) -> FieldsSeen
+        ensures { λ r. ⌜ Knows self r ⌝ }
+    {
+        let phase = self.phase;
+        phase.fields()
     }
 
     // The input ends before the header does.

@@ -79,7 +79,7 @@ returns-5 c =
 returns-6 : tie.Need-returns-6
 returns-6 c =
     let t = c .before .before in
-    feed-met _ _ _ _ _ _ (c .unaltered4 .ensures) (not-false _ (t .before .before .if1 .left)) (t .stage3 .given .1)
+    feed-met _ _ _ _ _ _ (c .unaltered4 .ensures) (not-false _ (t .before .before .if1 .left)) _ (t .stage3 .given .1)
 
 pub feed-spec : {M : Type 1} → statement M
 feed-spec =

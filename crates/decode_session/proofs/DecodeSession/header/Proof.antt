@@ -19,7 +19,7 @@ returns-2 : tie.Need-returns-2
 returns-2 c = sees-it _ _ _ _ (c .before .stage .given .1)
 
 returns-3 : tie.Need-returns-3
-returns-3 c = sees-refused _ _ (c .enum-told2 .given .1)
+returns-3 c = sees-refused _ _ _ (c .enum-told2 .given .1)
 
 pub header-spec : {M : Type 1} → statement M
 header-spec =

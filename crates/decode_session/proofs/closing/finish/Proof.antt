@@ -33,7 +33,7 @@ returns-3 c =
     finish-body _ _ _ _ (c .before .before .before .stage2 .given .1) _ (c .before .if1 .left) (l .1 .1) (l .0)
 
 returns-4 : tie.Need-returns-4
-returns-4 c = finish-refused _ _ (c .before .stage3 .given .1)
+returns-4 c = finish-refused _ _ _ (c .before .stage3 .given .1)
 
 pub finish-spec : {M : Type 1} → statement M
 finish-spec =

@@ -31,14 +31,14 @@ returns c =
     let v = c .before .before in
     let t = v .before .before in
     let k = t .before .before in
-    begins _ _ _ _ _ _ (k .check .result) _ _ (k .check .ensures) (t .enum-told .given .1)
+    begins _ _ _ _ _ _ _ (k .check .result) _ _ (k .check .ensures) (t .enum-told .given .1)
     (ap (λ (l : PlaneLayout). l .«total_bytes») (k .before .new .ensures)) _ refl (v .feed-planes .ensures)
 
 returns-2 : tie.Need-returns-2
 returns-2 c =
     let t = c .before .before in
     let k = t .before .before in
-    over _ _ _ _ _ _ (k .check .result) _ _ (k .check .ensures) (t .e .given .1)
+    over _ _ _ _ _ _ _ (k .check .result) _ _ (k .check .ensures) (t .e .given .1)
     (ap (λ (l : PlaneLayout). l .«total_bytes») (k .before .new .ensures)) _ refl (c .met .ensures)
 
 pub feed-first-spec : {M : Type 1} → statement M

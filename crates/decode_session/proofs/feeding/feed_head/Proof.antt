@@ -4,6 +4,9 @@ use borrow.Author.Needs.{needs}
 use Rattle.decode_session.proofs.feeding.feed_head.Statement.{statement}
 use Rattle.decode_session.proofs.feeding.feed_head.Tie as tie
 
+fields-requires : tie.Need-fields-requires
+fields-requires c κs = search needs
+
 feed-header-requires : tie.Need-feed-header-requires
 feed-header-requires c κs = search needs
 
@@ -35,9 +38,11 @@ returns : tie.Need-returns
 returns c =
     let t = c .before .before .before in
     let v = t .before .before .before .before in
-    let s = v .before .before .before .before .before in
+    let k = v .before .before in
+    let s = k .before .before .before .before in
     let a = s .args in
-    more (a .options) (a .reader) (a .at) (a .kept) (now (a .piece)) (now (a .out)) (now (a .ext)) _ (v .feed-header .result) (v .feed-header .ensures) (s .pre) _ _ _ (t .end .given .1)
+    more (a .options) (a .reader) (a .at) (a .kept) (now (a .piece)) (now (a .out)) (now (a .ext)) _
+    (v .feed-header .result) (v .feed-header .ensures) (s .pre) _ _ _ (t .end .given .1)
     (c .before .wrapping-add-usize .ensures) (c .took .ensures)
 
 same-length-2 : tie.Need-same-length-2
@@ -51,9 +56,11 @@ returns-2 c =
     let f = c .before .before in
     let t = f .before .before .before in
     let v = t .before .before .before .before in
-    let s = v .before .before .before .before .before in
+    let k = v .before .before in
+    let s = k .before .before .before .before in
     let a = s .args in
-    whole (a .options) (a .reader) (a .at) (a .kept) (now (a .piece)) (now (a .out)) (now (a .ext)) _ (v .feed-header .result) (v .feed-header .ensures) (s .pre) _ _ _ (t .end2 .given .1)
+    whole (a .options) (a .reader) (a .at) (a .kept) (now (a .piece)) (now (a .out)) (now (a .ext)) _
+    (v .feed-header .result) (v .feed-header .ensures) (s .pre) _ _ _ _ (k .fields .ensures) (t .end2 .given .1)
     (f .feed-first .ensures)
 
 same-length-4 : tie.Need-same-length-4
@@ -63,15 +70,18 @@ returns-3 : tie.Need-returns-3
 returns-3 c =
     let t = c .before .before in
     let v = t .before .before .before .before in
-    let s = v .before .before .before .before .before in
+    let k = v .before .before in
+    let s = k .before .before .before .before in
     let a = s .args in
-    refused (a .options) (a .reader) (a .at) (a .kept) (now (a .piece)) (now (a .out)) (now (a .ext)) _ (v .feed-header .result) (v .feed-header .ensures) (s .pre) _ _ (t .end3 .given .1)
+    refused (a .options) (a .reader) (a .at) (a .kept) (now (a .piece)) (now (a .out)) (now (a .ext)) _
+    (v .feed-header .result) (v .feed-header .ensures) (s .pre) _ _ _ (k .fields .ensures) (t .end3 .given .1)
     (c .met .ensures)
 
 pub feed-head-spec : {M : Type 1} → statement M
 feed-head-spec =
     tie.close
     (tie.spec
+    fields-requires
     feed-header-requires
     enum-known-end
     wrapping-add-usize-requires

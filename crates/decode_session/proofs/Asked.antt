@@ -1,0 +1,137 @@
+-- What a session tells of itself in each stage.
+use Prim.Native.Nat.{ℕ, zero, suc, _+_, _-_, _*_, _/_, _≤_, _<_}
+use mathlib.Core.Path.{_≡_, refl, sym, ap, _∙_}
+use mathlib.Core.Bool.{Bool, true, false, not}
+use mathlib.Core.Logic.{_⊎_, inl, inr, ⊎-elim}
+use native.Mathlib.Nat.{div-eq-of-lt-le, le-div-iff-mul-le}
+use native.Mathlib.Omega.{arith}
+use borrow.Author.Tests.{leb-true, leb-false}
+use lib.Dec.{leb}
+use lib.ListN.{length}
+use Rattle.error.specs.Choice.{if}
+use Rattle.error.specs.Answer.{gives, refuses}
+use Rattle.error.specs.declared.WbmpError.{WbmpError}
+use Rattle.laws.proofs.Tests.{zero-one}
+use Rattle.header.specs.Read.{Outline, parsed}
+use Rattle.header.specs.Known.{Knows}
+use Rattle.header.specs.declared.FieldsSeen.{FieldsSeen}
+use Rattle.header.specs.declared.ParsedHeader.{ParsedHeader}
+use Rattle.header.specs.declared.reader.HeaderReader.{HeaderReader}
+use Rattle.header.proofs.Ends.{endCode, endOffset}
+use Rattle.header.proofs.KnownFields.{known-so, known-header}
+use Rattle.decoder.specs.Body.{planeOf}
+use Rattle.decoder.specs.Image.{imageSettings}
+use Rattle.decode_session.specs.Head.{Reached}
+use Rattle.decode_session.specs.Model.{Model, frames, closing}
+use Rattle.decode_session.specs.Session.{wholeIn, framesDone, InBody, Unread, StageOf, Stands, TellsClosed, Counts, SeesFields}
+use Rattle.decode_session.specs.declared.Stage.{Stage}
+use Rattle.decode_session.specs.declared.DecodeSession.{DecodeSession}
+use Rattle.decode_session.proofs.Headers.{unread-end}
+use Rattle.decode_session.proofs.Seeing.{staged}
+use Rattle.decode_session.proofs.Counting.{closes-by, image-by, none-whole, all-whole, at-most}
+
+-- no frame is done while a header is read
+none-done : (m : Model) (r : HeaderReader) (at kept : ℕ) → Reached (imageSettings (m .options .mode)) (m .bytes) r at kept
+    → framesDone m ≡ 0
+none-done m r at kept h =
+    ap (wholeIn (m .ceiling) (length (m .bytes))) (unread-end (imageSettings (m .options .mode)) (m .bytes) (h .state) (h .reached))
+
+-- and the reader knows what the bytes tell of the fields
+pub unread-so : (m : Model) (r : HeaderReader) (at kept : ℕ) (f : FieldsSeen)
+    → Reached (imageSettings (m .options .mode)) (m .bytes) r at kept → Knows r f → Unread m f
+unread-so m r at kept f h k =
+    let o = imageSettings (m .options .mode) in
+    record {
+      none = none-done m r at kept h;
+      fields = k .does o (h .state) (h .represents) ∙ sym (known-so o (m .bytes) (h .state) (h .reached));
+    }
+
+-- a count up to a ceiling
+capped : (n ceiling whole : ℕ) → whole ≤ ceiling → (n ≡ whole) ⊎ ((whole ≡ ceiling) × (whole ≤ n)) → if (leb n ceiling) n ceiling ≡ whole
+capped n ceiling whole l h = go (leb n ceiling) refl
+  where
+    go : (t : Bool) → leb n ceiling ≡ t → if t n ceiling ≡ whole
+    go true e =
+        let k = leb-true n ceiling e in
+        ⊎-elim (λ (p : n ≡ whole). p) (λ (p : (whole ≡ ceiling) × (whole ≤ n)). omega arith) h
+    go false e =
+        let k = leb-false n ceiling e in
+        ⊎-elim (λ (p : n ≡ whole). omega arith) (λ (p : (whole ≡ ceiling) × (whole ≤ n)). omega arith) h
+
+module _ {m : Model} {h : Outline} {whole begun : ℕ} (b : InBody m h whole begun) where
+  abbrev size : ℕ
+  size = length (m .bytes) - h .body
+
+  pub done-in : framesDone m ≡ whole
+  done-in = ap (wholeIn (m .ceiling) (length (m .bytes))) (b .headerIs) ∙ ⊎-elim inside behind (b .place)
+    where
+      inside : (whole < m .ceiling) × (h .body + (whole * planeOf h + begun) ≡ length (m .bytes))
+          → if (leb (size / planeOf h) (m .ceiling)) (size / planeOf h) (m .ceiling) ≡ whole
+      inside v =
+          let q : size / planeOf h ≡ whole = div-eq-of-lt-le (planeOf h) (omega (arith, v .1)) (omega (arith, v .1, b .below)) in
+          capped (size / planeOf h) (m .ceiling) whole (omega (arith, v .0)) (inl q)
+
+      behind : (whole ≡ m .ceiling) × ((begun ≡ 0) × (h .body + whole * planeOf h ≤ length (m .bytes)))
+          → if (leb (size / planeOf h) (m .ceiling)) (size / planeOf h) (m .ceiling) ≡ whole
+      behind v =
+          let l : whole ≤ size / planeOf h = le-div-iff-mul-le {k = planeOf h} (omega (arith, b .below)) .1 (omega (arith, v .1 .1)) in
+          capped (size / planeOf h) (m .ceiling) whole (omega (arith, v .0)) (inr (v .0, l))
+
+module _ (s : DecodeSession) where
+  pub closed-is : TellsClosed s (not (s .live))
+  closed-is = record { is = refl; does = λ m st. ap not (st .live) }
+
+  module _ (r : HeaderReader) (at kept : ℕ) (g : s .stage ≡ Stage.Header r at kept) where
+    pub header-frames : Counts s 0
+    header-frames = record { does = λ m st. sym (none-done m r at kept (staged s (Stage.Header r at kept) m g st .1)) }
+
+    pub header-fields : (f : FieldsSeen) → Knows r f → SeesFields s f
+    header-fields f k = record { does = λ m st. unread-so m r at kept f (staged s (Stage.Header r at kept) m g st .1) k .fields }
+
+  module _ (p : ParsedHeader) (whole begun : ℕ) (g : s .stage ≡ Stage.Body p whole begun) where
+    in-body : (m : Model) → Stands s m → InBody m (parsed p) whole begun
+    in-body m st = staged s (Stage.Body p whole begun) m g st
+
+    pub body-frames : (n : ℕ) → (n ≡ whole) ⊎ (n ≡ 16) → n ≤ whole → Counts s n
+    body-frames n i l =
+        record {
+          does =
+              λ m st.
+              let b = in-body m st in
+              let k = at-most b (st .ceiling) in
+              let e : n ≡ whole = ⊎-elim (λ (q : n ≡ whole). q) (λ (q : n ≡ 16). omega arith) i in
+              e ∙ sym (done-in b);
+        }
+
+    pub body-fields : SeesFields s (FieldsSeen.Seen (p .«ext_fields»))
+    body-fields =
+        record { does = λ m st. sym (known-header (imageSettings (m .options .mode)) (m .bytes) (parsed p) (in-body m st .headerIs)) }
+
+  module _ (e : WbmpError) (f : FieldsSeen) (g : s .stage ≡ Stage.Refused e f) where
+    unread : (m : Model) → Stands s m → Unread m f
+    unread m st = staged s (Stage.Refused e f) m g st .1
+
+    pub refused-frames : Counts s 0
+    refused-frames = record { does = λ m st. sym (unread m st .none) }
+
+    pub refused-fields : SeesFields s f
+    refused-fields = record { does = λ m st. unread m st .fields }
+
+-- closing counts the frames that are done
+pub counted : (s : DecodeSession) (m : Model) (n : ℕ) → Stands s m → closing m (m .met) ≡ gives (frames n) → framesDone m ≡ n
+counted s m n st e = go (s .stage) (st .stage)
+  where
+    body : (p : ParsedHeader) (whole begun : ℕ) → InBody m (parsed p) whole begun → framesDone m ≡ n
+    body p zero begun b = let q = none-whole b (st .ceiling) refl in zero-one (cc)
+    body p (suc k) begun b =
+        let q = all-whole b (st .ceiling) (omega arith) in
+        let same : suc k ≡ n = cc in
+        done-in b ∙ same
+
+    go : (x : Stage) → StageOf x m → framesDone m ≡ n
+    go (Stage.Header r at kept) u =
+        let h = unread-end (imageSettings (m .options .mode)) (m .bytes) (u .1 .state) (u .1 .reached) in
+        let q = closes-by m (refuses (endCode (u .1 .state)) (endOffset (u .1 .state))) (u .0) (image-by m _ h) in
+        zero-one (cc)
+    go (Stage.Body p whole begun) b = body p whole begun b
+    go (Stage.Refused x f) u = let q = ap (closing m) (u .0) in zero-one (cc)
