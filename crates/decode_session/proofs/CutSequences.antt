@@ -37,9 +37,6 @@ module _ (format : PixelFormat) (width : ℕ) where
   body-extends at s t e =
       record { rest = bodyFrom format width (at + length s) (e .rest); whole-is = ap (bodyFrom format width at) (e .whole-is) ∙ body-append format width s (e .rest) at }
 
-extends-on : {f s t : List ℕ} → Extends s t → s ≡ f → Extends f t
-extends-on e p = record { rest = e .rest; whole-is = e .whole-is ∙ ap (λ (l : List ℕ). l ++ e .rest) p }
-
 pub sequence-none : (ceiling : ℕ) (d : Decoding) → sequence ceiling d [] ≡ []
 unfolding sequence readHeader readRest
 sequence-none ceiling d = refl

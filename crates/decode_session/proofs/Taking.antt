@@ -47,9 +47,6 @@ module _ {m : Model} {piece : List ℕ} {from room : ℕ} {h : Outline} {whole b
       ∙ ap (λ (k : ℕ). k + length (bodyFrom (m .options .format) (h .width) begun (take left (take i rest)))) (shown-length (en .inBody))
       ∙ ap (λ (k : ℕ). shownBytes (en .inBody) + k) (body-length (m .options .format) (h .width) (take left (take i rest)) begun)
 
-  long : (i : ℕ) → i ≤ length rest → (length (take left (take i rest)) ≤ left) × (length (take left (take i rest)) ≤ i)
-  long i l = (rw (length-take, length-take) (omega arith), rw (length-take, length-take) (omega arith))
-
   -- the planes that are left are written, or all that is taken
   all-left : r .whole ≡ most → r .begun ≡ 0 → r .written ≡ left
   all-left p q =
