@@ -28,6 +28,7 @@ pub mod WholeReading
 pub mod Lists
 pub mod CutCases
 pub mod Cuts
+pub mod Extends
 pub mod CutSequences
 pub mod CutOutputs
 pub mod CutBuffers
