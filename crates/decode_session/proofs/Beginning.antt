@@ -25,7 +25,7 @@ use Rattle.decode_session.specs.Stages.{metIn, Agrees, Enters, Planes, E
 use Rattle.decode_session.specs.declared.DecodeFed.{DecodeFed}
 use Rattle.decode_session.proofs.Headers.{header-later}
 use Rattle.decode_session.proofs.Replies.{parts}
-use Rattle.decode_session.proofs.Bounds.{ceiling-some}
+use Rattle.decode_session.proofs.StageFacts.{ceiling-some}
 use Rattle.decode_session.proofs.Meeting.{limit-over, admitted}
 
 -- the session that met a refusal agrees

@@ -1,9 +1,9 @@
 -- What closing answers in each stage.
 use Prim.Native.Nat.{ℕ, _+_, _-_, _*_, _/_, _≤_, _<_}
-use mathlib.Core.Path.{_≡_, refl, sym, ap, subst, _∙_}
+use mathlib.Core.Path.{_≡_, refl, sym, ap, _∙_}
 use mathlib.Core.Bool.{Bool, true, false}
 use mathlib.Core.Logic.{_⊎_, ⊎-elim}
-use native.Mathlib.Nat.{div-eq-of-lt-le, le-div-iff-mul-le}
+use native.Mathlib.Nat.{pos-of-ne-zero, div-eq-of-lt-le, le-div-iff-mul-le}
 use native.Mathlib.Omega.{arith}
 use borrow.Author.Tests.{leb-true, lt-ltb, le-ltb}
 use lib.Dec.{leb, ltb}
@@ -12,7 +12,7 @@ use Rattle.error.specs.Choice.{if}
 use Rattle.error.specs.Answer.{Answer, gives, refuses, bind, map}
 use Rattle.error.specs.declared.WbmpError.{WbmpError}
 use Rattle.laws.proofs.Tests.{if-true, if-false}
-use Rattle.header.specs.Read.{Outline, parsed}
+use Rattle.header.specs.Read.{Outline}
 use Rattle.header.specs.Represents.{Ended}
 use Rattle.header.specs.declared.ParsedHeader.{ParsedHeader}
 use Rattle.header.specs.declared.reader.HeaderReader.{HeaderReader}
@@ -20,12 +20,12 @@ use Rattle.decoder.specs.Body.{extraFrames, planeOf, framesIn}
 use Rattle.decoder.specs.Image.{imageSettings, headerOf, testBody, readImage}
 use Rattle.decoder.proofs.Counted.{few}
 use Rattle.decode_session.specs.Model.{nothing, Model, Told, frames, closing}
-use Rattle.decode_session.specs.Session.{InBody, StageOf, Bounded}
+use Rattle.decode_session.specs.Session.{InBody, Bounded}
 use Rattle.decode_session.specs.Stages.{Finishes}
 use Rattle.decode_session.specs.declared.Stage.{Stage}
 use Rattle.decode_session.specs.declared.DecodeClose.{DecodeClose}
 use Rattle.decode_session.proofs.Headers.{unread}
-use Rattle.decode_session.proofs.Bounds.{ceiling-some, ceiling-few}
+use Rattle.decode_session.proofs.StageFacts.{staged, in-body, ceiling-some, ceiling-few}
 
 -- closing by the image's answer
 closes-by : (m : Model) (x : Answer Outline) → m .met ≡ nothing → readImage (m .options) (m .bytes) ≡ x
@@ -102,32 +102,26 @@ module _ (s : Stage) where
       record {
         does =
             λ m c st.
-            let u = subst (λ (x : Stage). StageOf x m) g st in
+            let u = staged m g st in
             let o = imageSettings (m .options .mode) in
             sym (closes-by m (refuses (e .code) (e .offset)) (u .0)
             (image-by m (refuses (e .code) (e .offset)) (unread o (m .bytes) (u .1 .state) (u .1 .reached) ∙ sym (d .does o (u .1 .state) (u .1 .represents)))));
       }
 
   module _ (p : ParsedHeader) (whole begun : ℕ) (g : s ≡ Stage.Body p whole begun) where
-    in-body : (m : Model) → StageOf s m → InBody m (parsed p) whole begun
-    in-body m st = subst (λ (x : Stage). StageOf x m) g st
-
     pub finish-short : whole ≡ 0 → Finishes s (DecodeClose.Refused (record { code = 20; offset = p .«data_offset» }))
-    finish-short z = record { does = λ m c st. sym (none-whole (in-body m st) c z) }
+    finish-short z = record { does = λ m c st. sym (none-whole (in-body m g st) c z) }
 
     pub finish-body : (n : ℕ) → (whole ≡ 0 → ⊥) → (n ≡ whole) ⊎ (n ≡ 16) → n ≤ whole → Finishes s (DecodeClose.Frames n)
     finish-body n z i l =
         record {
           does =
               λ m c st.
-              let b = in-body m st in
+              let b = in-body m g st in
               let k = at-most b c in
               let e : n ≡ whole = ⊎-elim (λ (q : n ≡ whole). q) (λ (q : n ≡ 16). omega arith) i in
-              ap (λ (k : ℕ). gives (frames k)) e ∙ sym (all-whole b c (positive z));
+              ap (λ (k : ℕ). gives (frames k)) e ∙ sym (all-whole b c (pos-of-ne-zero z));
         }
-      where
-        positive : (whole ≡ 0 → ⊥) → 0 < whole
-        positive f = omega arith
 
   pub finish-refused : (e : WbmpError) → s ≡ Stage.Refused e → Finishes s (DecodeClose.Refused e)
-  finish-refused e g = record { does = λ m c st. sym (ap (closing m) (subst (λ (x : Stage). StageOf x m) g st)) }
+  finish-refused e g = record { does = λ m c st. sym (ap (closing m) (staged m g st)) }

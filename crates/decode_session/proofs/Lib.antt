@@ -12,7 +12,7 @@ pub mod Shown
 pub mod Advancing
 pub mod Clearing
 pub mod Formats
-pub mod Bounds
+pub mod StageFacts
 pub mod Taking
 pub mod Meeting
 pub mod Replies
