@@ -2,7 +2,7 @@
 use Prim.Native.Nat.{ℕ, zero, suc, _+_, _-_, _*_, _%_, _≤_, _<_, min}
 use mathlib.Core.Path.{_≡_, refl, sym, ap, _∙_}
 use mathlib.Core.Bool.{Bool, true, false}
-use mathlib.Core.List.{List, [], _∷_, _++_}
+use mathlib.Core.List.{List, _++_}
 use native.Mathlib.Nat.{mul-comm, mul-assoc, mul-add-mod-self-right, mul-add-mod-self-left, mod-eq-of-lt, add-zero, zero-add, zero-mul, mul-le-mul-right}
 use native.Mathlib.Omega.{arith}
 use borrow.Author.Tests.{eqb-true, eqb-false, leb-true, leb-false}
@@ -24,9 +24,8 @@ use Rattle.options.specs.Limits.{Decoding}
 use Rattle.decoder.specs.Body.{planeOf, planeAt, planes}
 use Rattle.decoder.specs.Image.{headerOf}
 use Rattle.decoder.proofs.Planed.{one-less}
-use Rattle.decode_session.specs.Sequence.{padded, bodyByte, bodyFrom, sequenceOf, sequence}
-use Rattle.decode_session.proofs.BodyBytes.{body-length, body-append, body-at, body-mod}
-use Rattle.decode_session.proofs.Formats.{copied}
+use Rattle.decode_session.specs.Sequence.{padded, bodyFrom, sequenceOf, sequence}
+use Rattle.decode_session.proofs.BodyBytes.{body-length, body-append, body-at, body-mod, body-take, body-black}
 
 -- byte j of row y
 row-padded : (w y j b : ℕ) → j < rowBytes w → padded w (y * rowBytes w + j) b ≡ clearLow (paddingAt w j) b
@@ -49,7 +48,7 @@ row-padded w y j b h =
 plane-is : (f : PixelFormat) (w h : ℕ) (plane : List ℕ) → length plane ≡ planeBytes w h
     → convertFormat MonoBlack f w h (rowBytes w) plane ≡ bodyFrom f w 0 plane
 unfolding convertFormat
-plane-is MonoBlack w h plane n = copied w plane 0
+plane-is MonoBlack w h plane n = body-black w plane 0
 plane-is MonoWhite w h plane n =
     sym (all-at-once w h plane (omega arith) n)
     ∙ ext-getD 0 (clearRows w h (invert plane)) (bodyFrom MonoWhite w 0 plane)
@@ -98,12 +97,6 @@ planes-are f bytes h (suc k) l =
         let e : 0 + k * (r * h .height) ≡ r * (k * h .height) + 0 =
         zero-add (k * (r * h .height)) ∙ sym (mul-assoc k r (h .height)) ∙ ap (λ (i : ℕ). i * h .height) (mul-comm k r) ∙ mul-assoc r k (h .height) ∙ sym (add-zero _) in
         ap (λ (i : ℕ). i % r) e ∙ mul-add-mod-self-left r (k * h .height) 0
-
-body-take : (f : PixelFormat) (w n : ℕ) (xs : List ℕ) (at : ℕ) → take n (bodyFrom f w at xs) ≡ bodyFrom f w at (take n xs)
-unfolding bodyFrom
-body-take f w zero xs at = refl
-body-take f w (suc n) [] at = refl
-body-take f w (suc n) (x ∷ xs) at = ap (λ (l : List ℕ). bodyByte f w at x ∷ l) (body-take f w n xs (at + 1))
 
 -- up to the ceiling, the first planes of what is put out are those of the file
 pub sequence-planes : (ceiling : ℕ) (d : Decoding) (bytes : List ℕ) (h : Outline) (k : ℕ) → headerOf (d .mode) bytes ≡ gives h → k ≤ ceiling
