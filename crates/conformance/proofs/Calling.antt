@@ -9,16 +9,16 @@ use lib.IntN.{ℤ}
 use lib.ListN.{length, take, drop}
 use lib.Seq.{take-append-seam}
 use Rattle.error.specs.Choice.{if}
-use Rattle.error.specs.Answer.{Answer, gives, refuses, bind, written}
+use Rattle.error.specs.Answer.{Answer, gives, refuses, written}
 use Rattle.error.specs.Emits.{Emits}
 use Rattle.laws.proofs.Tests.{if-true, zero-one}
 use Rattle.options.specs.Limits.{Decoding}
-use Rattle.options.proofs.Ceilings.{passes}
 use Rattle.decode_session.specs.Model.{feed, opening, opened}
 use Rattle.decode_session.specs.Session.{fedMeaning, Opens, Feeds}
 use Rattle.decode_session.specs.Trace.{fed, none}
 use Rattle.decode_session.specs.declared.DecodeOpened.{DecodeOpened}
 use Rattle.decode_session.specs.declared.DecodeFed.{DecodeFed}
+use Rattle.decode_session.proofs.Opening.{opening-is}
 use Rattle.encode_session.specs.Model as Making
 use Rattle.encode_session.specs.Session as MakingSession
 use Rattle.encode_session.specs.Trace as MakingTrace
@@ -37,7 +37,7 @@ listed-once d lent piece out out′ ext′ o r p f long =
       result = o;
       opens = p;
       accepted =
-          p .answer ∙ ap (λ (a : Answer Decoding). bind a (λ _. if (leb 4118 (length lent)) (gives tt) (refuses 28 0))) (passes d)
+          p .answer ∙ opening-is d (length lent)
           ∙ if-true (leb 4118 (length lent)) (gives tt) (refuses 28 0) (le-leb 4118 (length lent) long);
       trace = fed f none;
     }
