@@ -7,9 +7,10 @@ use native.Mathlib.Nat.{mul-le-mul-right, mul-div-cancel, mul-le-mul}
 use native.Mathlib.Omega.{arith}
 use borrow.Author.Tests.{leb-true, leb-false, le-leb, le-ltb}
 use lib.Dec.{leb}
-use lib.ListN.{length, take, drop, length-drop}
-use lib.Seq.{drop-drop, length-take-le}
+use lib.ListN.{length, take, drop}
+use lib.Seq.{drop-drop}
 use Rattle.error.specs.Answer.{Answer, gives, bind, map}
+use Rattle.laws.proofs.Lists.{length-part}
 use Rattle.laws.proofs.Octets.{Octets}
 use Rattle.laws.proofs.Tests.{if-true}
 use Rattle.ext.specs.Kinds.{Fields}
@@ -121,7 +122,7 @@ module _ (most : ℕ) (d : Decoding) (strict : Bool) (width height : ℕ) (field
 
   -- the bytes of plane k
   source-size : (k : ℕ) → k < count → length (planeIn width height body k) ≡ plane
-  source-size k l = length-take-le plane (drop (k * plane) body) (rw length-drop (omega (arith, up-to plane k count l, whole)))
+  source-size k l = length-part plane (k * plane) body (omega (arith, up-to plane k count l, whole))
 
   source-bytes : Octets body → (k : ℕ) → k < count → Octets (planeIn width height body k)
   source-bytes o k l =

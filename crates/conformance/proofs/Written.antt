@@ -4,9 +4,9 @@ use mathlib.Core.Path.{_≡_, refl, ap, _∙_, subst}
 use mathlib.Core.List.{List, [], _∷_, _++_}
 use native.Mathlib.Nat.{div-mul-le-self}
 use native.Mathlib.Omega.{arith}
-use lib.ListN.{length, getD, drop, set, length-append, length-drop}
-use lib.Seq.{length-take-le}
+use lib.ListN.{length, getD, set}
 use Rattle.error.specs.Answer.{gives}
+use Rattle.laws.proofs.Lists.{length-part}
 use Rattle.laws.proofs.Octets.{Octets, octets-nil, octets-cons, octets-append}
 use Rattle.ext.specs.Kinds.{Fields, none}
 use Rattle.header.specs.Write.{presented}
@@ -96,7 +96,7 @@ module _ (ceiling : ℕ) (o : EncodeOptions) (format : PixelFormat) (width heigh
         let n = neededBytes width height stride in
         let g = p .tests .plane in
         let e : length (lentPlane width height stride planes k) ≡ n =
-        length-take-le n (drop (k * n) planes) (rw length-drop (omega (arith, lent-there k l))) in
+        length-part n (k * n) planes (lent-there k l) in
         accepted width height stride _ (g .wide) (g .high) (g .row) (p .tests .small) (omega arith)
 
     pub lent-octets : Octets planes → (k : ℕ) → k < count → Octets (lentPlane width height stride planes k)

@@ -5,12 +5,12 @@ use mathlib.Core.List.{List, _++_}
 use mathlib.Core.Logic.{inl}
 use native.Mathlib.Nat.{mul-pos}
 use native.Mathlib.Omega.{arith}
-use lib.ListN.{length, take, drop, length-append}
-use lib.Seq.{length-take-le}
+use lib.ListN.{length, take, drop}
 use Rattle.error.specs.Answer.{gives, checked}
 use Rattle.error.specs.declared.Checked.{Checked}
 use Rattle.error.specs.declared.Checked.the-variants.{Accepted}
 use Rattle.error.specs.declared.WbmpError.{WbmpError}
+use Rattle.laws.proofs.Lists.{length-append-take, append-take-drop}
 use Rattle.header.specs.Read.{Outline, parsed}
 use Rattle.header.specs.declared.ParsedHeader.{ParsedHeader}
 use Rattle.image.specs.Geometry.{rowBytes}
@@ -24,7 +24,6 @@ use Rattle.decode_session.specs.Session.{Bounded}
 use Rattle.decode_session.specs.Stages.{metIn, Agrees, Enters, Planes, Ended, Begins}
 use Rattle.decode_session.specs.declared.DecodeFed.{DecodeFed}
 use Rattle.decode_session.proofs.Headers.{header-later}
-use Rattle.decode_session.proofs.Replies.{parts}
 use Rattle.decode_session.proofs.StageFacts.{ceiling-some}
 use Rattle.decode_session.proofs.Meeting.{limit-over, admitted}
 
@@ -41,11 +40,11 @@ refused-agrees o m piece out ext e c q met =
 module _ (m : Model) (piece : List ℕ) (from : ℕ) (h : Outline) (e : Ended m piece from h) where
   pub header-all : headerOf (m .options .mode) (m .bytes ++ piece) ≡ gives h
   header-all =
-      ap (headerOf (m .options .mode)) (sym (parts (m .bytes) piece from))
+      ap (headerOf (m .options .mode)) (sym (append-take-drop (m .bytes) piece from))
       ∙ header-later (imageSettings (m .options .mode)) (m .bytes ++ take from piece) h (e .header) (drop from piece)
 
   bytes-length : length (m .bytes ++ take from piece) ≡ length (m .bytes) + from
-  bytes-length = length-append (m .bytes) (take from piece) ∙ ap (λ (k : ℕ). length (m .bytes) + k) (length-take-le from piece (e .within))
+  bytes-length = length-append-take (m .bytes) piece from (e .within)
 
   plane-some : 0 < planeOf h
   plane-some =

@@ -8,9 +8,10 @@ use native.Mathlib.Omega.{arith}
 use borrow.Author.Tests.{eqb-true, eqb-false, leb-true, leb-false}
 use lib.Dec.{eqb, leb}
 use lib.ListN.{length, getD, take, drop, length-drop}
-use lib.Seq.{take-all, take-add, take-take, drop-drop, length-take-le, ext-getD}
+use lib.Seq.{take-all, take-add, take-take, drop-drop, ext-getD}
 use Rattle.error.specs.Choice.{if}
 use Rattle.error.specs.Answer.{Answer, gives}
+use Rattle.laws.proofs.Lists.{length-part}
 use Rattle.header.specs.Read.{Outline}
 use Rattle.image.specs.Geometry.{rowBytes, planeBytes, paddingBits}
 use Rattle.image.specs.Parts.{clearRows}
@@ -81,8 +82,8 @@ planes-are f bytes h (suc k) l =
     let body = drop (h .body) bytes in
     let n = k * planeOf h in
     let e : n + planeOf h ≡ suc k * planeOf h = omega arith in
-    let size : length (take n body) ≡ n = length-take-le n body (rw length-drop (omega (arith, b .0))) in
-    let part : length (take (planeOf h) (drop (h .body + n) bytes)) ≡ planeOf h = length-take-le (planeOf h) (drop (h .body + n) bytes) (rw length-drop (omega (arith, b .1))) in
+    let size : length (take n body) ≡ n = length-part n (h .body) bytes (b .0) in
+    let part : length (take (planeOf h) (drop (h .body + n) bytes)) ≡ planeOf h = length-part (planeOf h) (h .body + n) bytes (b .1) in
     ap (λ (l : List ℕ). l ++ planeAt f bytes h k) (planes-are f bytes h k (b .0))
     ∙ ap (λ (l : List ℕ). bodyFrom f (h .width) 0 (take n body) ++ l)
     (plane-is f (h .width) (h .height) (take (planeOf h) (drop (h .body + n) bytes)) part

@@ -7,7 +7,8 @@ use native.Mathlib.Numerals.{add-one}
 use native.Mathlib.Omega.{arith}
 use borrow.Rule.Slice.PartMut.{midOf, putMid}
 use lib.ListN.{length, take, drop, length-append, length-drop}
-use lib.Seq.{sets, length-sets, length-take-le, take-all}
+use lib.Seq.{sets, length-sets, take-all}
+use Rattle.laws.proofs.Lists.{length-part}
 use Rattle.laws.proofs.Runs.{sets-append, sets-front, sets-part}
 use Rattle.header.specs.Read.{Outline}
 use Rattle.image.specs.Geometry.{rowBytes}
@@ -17,16 +18,13 @@ use Rattle.image.specs.declared.PixelFormat.the-variants.{MonoBlack}
 use Rattle.image.proofs.Converted.{format-length}
 use Rattle.decoder.specs.Body.{planeOf, sourcePlane, planeAt, planes}
 
-part-length : (n a : ℕ) (s : List ℕ) → a + n ≤ length s → length (take n (drop a s)) ≡ n
-part-length n a s b = length-take-le n (drop a s) (rw length-drop (omega arith))
-
 -- the stretch that is lent has room for a plane
 pub lent-room : (from plane to : ℕ) (bytes out : List ℕ) → from + plane ≤ length bytes → to + plane ≤ length out
     → length (take (from + plane - from) (drop from bytes)) ≤ length (midOf to (length out - to) out)
 lent-room from plane to bytes out a b =
     let e : from + plane - from ≡ plane = omega arith in
     let d : midOf to (length out - to) out ≡ drop to out = take-all (length out - to) (drop to out) (rw (length-drop to out) (omega arith)) in
-    rw (e, part-length plane from bytes a, d, length-drop to out) (omega arith)
+    rw (e, length-part plane from bytes a, d, length-drop to out) (omega arith)
 
 -- one plane more
 more : (k n : ℕ) → suc k * n ≡ k * n + n
@@ -40,7 +38,7 @@ module _ (f : PixelFormat) (bytes : List ℕ) (h : Outline) where
   unfolding planeAt
   plane-length k b =
       format-length MonoBlack f (h .width) (h .height) (rowBytes (h .width)) (sourcePlane bytes h k)
-      ∙ part-length (planeOf h) (h .body + k * planeOf h) bytes b
+      ∙ length-part (planeOf h) (h .body + k * planeOf h) bytes b
 
   pub planes-length : (k : ℕ) → h .body + k * planeOf h ≤ length bytes → length (planes f bytes h k) ≡ k * planeOf h
   unfolding planes
@@ -100,7 +98,7 @@ module _ {f : PixelFormat} {bytes : List ℕ} {h : Outline} {out₀ : List ℕ} 
       let v = planeAt f bytes h k in
       let b : h .body + k * planeOf h + planeOf h ≤ length bytes = rw (c .plane-is) at (next-in l .0) in
       let n : length v ≡ planeOf h = plane-length f bytes h k b in
-      let m : length source ≡ length v = ap length s ∙ part-length (planeOf h) (h .body + k * planeOf h) bytes b ∙ sym n in
+      let m : length source ≡ length v = ap length s ∙ length-part (planeOf h) (h .body + k * planeOf h) bytes b ∙ sym n in
       let fits : to + length v ≤ length out = omega (arith, next-in l .1, c .plane-is) in
       let d : midOf to (length out - to) out ≡ drop to out = take-all (length out - to) (drop to out) (rw (length-drop to out) (omega arith)) in
       let new-is : new ≡ v ++ drop (length v) (drop to out) =
