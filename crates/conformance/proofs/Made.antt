@@ -1,5 +1,5 @@
 -- What is made is read back, and sniffing says exact of it without fields and with sizes up to 16,384.
-use Prim.Native.Nat.{ℕ, _-_, _*_, _≤_, _<_}
+use Prim.Native.Nat.{ℕ, _*_, _≤_, _<_}
 use mathlib.Core.Path.{_≡_, ap, _∙_}
 use mathlib.Core.Bool.{true}
 use mathlib.Core.List.{List, _++_}
@@ -7,6 +7,7 @@ use native.Mathlib.Nat.{mul-le-mul-right}
 use native.Mathlib.Omega.{arith}
 use lib.ListN.{length, take, drop, length-drop}
 use Rattle.error.specs.Answer.{gives}
+use Rattle.laws.proofs.Answers.{bind-gives}
 use Rattle.ext.specs.Kinds.{Fields, none}
 use Rattle.header.specs.Write.{presented, extHeader}
 use Rattle.header.specs.declared.ExtPresence.{ExtPresence}
@@ -21,7 +22,6 @@ use Rattle.quantize.specs.Engine.{setting}
 use Rattle.quantize.specs.Finished.{finished}
 use Rattle.quantize.proofs.Joining.{scans-long, scans-more}
 use Rattle.quantize.proofs.Wholes.{plane-long}
-use Rattle.decoder.proofs.Shaped.{bind-gives}
 use Rattle.encoder.specs.File.{fileOf}
 use Rattle.encoder.specs.Make.{checkScans, scanBytes, fileOfScans}
 use Rattle.encoder.proofs.Scanned.{Passed as Passes, passed as scans-passed}
@@ -42,8 +42,9 @@ module _ (ceiling : ℕ) (o : EncodeOptions) (width height count : ℕ) (gray te
 
   pub passed : fileOfScans ceiling o width height count gray text lengths work ≡ gives bytes → Passed
   unfolding fileOfScans
-  passed = bind-gives (checkScans ceiling (o .quantize) width height count (length gray) work) _ bytes
-      (λ _ p e. record { tests = scans-passed ceiling (o .quantize) width height count (length gray) work p; file = e })
+  passed e =
+      let p = bind-gives (checkScans ceiling (o .quantize) width height count (length gray) work) _ bytes e in
+      record { tests = scans-passed ceiling (o .quantize) width height count (length gray) work (p .1); file = p .2 }
 
 -- the planes of so many scans
 module _ (rule : Quantize) (width height : ℕ) (gray : List ℕ) (wide : 0 < width) (high : 0 < height) (count : ℕ)

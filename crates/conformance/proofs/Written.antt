@@ -6,6 +6,7 @@ use native.Mathlib.Nat.{div-mul-le-self}
 use native.Mathlib.Omega.{arith}
 use lib.ListN.{length, getD, set}
 use Rattle.error.specs.Answer.{gives}
+use Rattle.laws.proofs.Answers.{bind-gives}
 use Rattle.laws.proofs.Lists.{length-part}
 use Rattle.laws.proofs.Octets.{Octets, octets-nil, octets-cons, octets-append}
 use Rattle.ext.specs.Kinds.{Fields, none}
@@ -23,7 +24,6 @@ use Rattle.image.proofs.WireDots.{wire-dots}
 use Rattle.image.proofs.Wiring.{source-there}
 use Rattle.options.specs.Limits.{Decoding}
 use Rattle.options.specs.declared.EncodeOptions.{EncodeOptions}
-use Rattle.decoder.proofs.Shaped.{bind-gives}
 use Rattle.encoder.specs.File.{fileOf}
 use Rattle.encoder.specs.Write.{checkPlanes, lentPlane, wirePlanes, fileOfPlanes}
 use Rattle.encoder.proofs.Tested.{Tested, tested}
@@ -83,8 +83,9 @@ module _ (ceiling : ℕ) (o : EncodeOptions) (format : PixelFormat) (width heigh
 
   pub passed : fileOfPlanes ceiling o format width height count stride planes text lengths ≡ gives bytes → Passed
   unfolding fileOfPlanes
-  passed = bind-gives (checkPlanes ceiling width height count stride (length planes)) _ bytes
-      (λ _ p e. record { tests = tested ceiling width height count stride (length planes) p; file = e })
+  passed e =
+      let p = bind-gives (checkPlanes ceiling width height count stride (length planes)) _ bytes e in
+      record { tests = tested ceiling width height count stride (length planes) (p .1); file = p .2 }
 
   module _ (p : Passed) where
     -- plane k is lent whole

@@ -21,7 +21,7 @@ use Rattle.decoder.specs.Body.{extraFrames, planeOf, framesIn, planes}
 use Rattle.decoder.specs.Image.{testBody, readImage}
 use Rattle.decoder.specs.Frames.{fitted, decoded, shown}
 use Rattle.decoder.proofs.Counted.{few, frames-fit, least}
-use Rattle.decoder.proofs.Fitted.{plane-there}
+use Rattle.decoder.proofs.Fitted.{image-parts}
 use Rattle.decoder.proofs.After.{longer, image-kept, planes-kept, refusal-kept}
 
 div-grows : (n x y : ℕ) → x ≤ y → x / n ≤ y / n
@@ -71,7 +71,7 @@ module _ (s ρ : List ℕ) (ceiling : ℕ) (d : Decoding) (h : Outline) (read : 
   unfolding decoded shown
   same-frames e room =
       let again : readImage d (s ++ ρ) ≡ gives h = image-kept s ρ d (ap settled read) ∙ read in
-      let there = plane-there d s h read in
+      let there = image-parts d s h read .1 in
       let fit = frames-fit (ceiling - 1) (planeOf h) (length s - h .body) (omega arith) in
       let inside : h .body + framesIn ceiling (length s) h * planeOf h ≤ length s = omega arith in (
         ap (λ (a : Answer Outline). bind a (λ h. fitted room h (framesIn ceiling (length (s ++ ρ)) h))) again
@@ -95,7 +95,7 @@ module _ (s ρ : List ℕ) (ceiling : ℕ) (d : Decoding) (h : Outline) (read : 
   -- a rest that completes no further plane
   pub no-plane-more : length (s ++ ρ) < h .body + (1 + framesIn ceiling (length s) h) * planeOf h → (room : ℕ) → Unaffected room
   no-plane-more l =
-      let there = plane-there d s h read in
+      let there = image-parts d s h read .1 in
       let m = longer s ρ in
       same-frames
       (ap (λ (k : ℕ). 1 + k) (no-more (ceiling - 1) (planeOf h) (length s - h .body) (length (s ++ ρ) - h .body) further (omega arith)))
