@@ -10,6 +10,7 @@ use lib.Seq.{take-all, take-append-seam}
 use Rattle.error.specs.Answer.{Answer, gives, map}
 use Rattle.error.specs.Emits.{Emits}
 use Rattle.laws.proofs.Answers.{bind-gives, unless}
+use Rattle.laws.proofs.Emitted.{emitted-is}
 use Rattle.header.specs.Write.{presented}
 use Rattle.options.specs.Limits.{Decoding, ceilingOf}
 use Rattle.options.proofs.Ceilings.{sixteen}
@@ -25,7 +26,6 @@ use Rattle.encode_session.proofs.Theorems.{lists, bytes-joined, closed-whole}
 use Rattle.decode_session.specs.Model.{nothing}
 use Rattle.decode_session.proofs.Cuts.{unmet, whole}
 use Rattle.conformance.specs.Lists.{MakingList, Card, samplesOf, wasClosed, Condition3}
-use Rattle.conformance.proofs.Calling.{emitted-is}
 use Rattle.conformance.proofs.Made.{made-is}
 use Rattle.conformance.proofs.Taken.{samples-taken, closed-machine}
 use Rattle.conformance.proofs.CutShown.{admitted, some-read, replied, shows}
