@@ -1,14 +1,14 @@
 -- What is written is read back.
 use Prim.Native.Nat.{ℕ, zero, suc, _+_, _-_, _*_, _^_, _≤_, _<_}
 use mathlib.Core.Path.{_≡_, refl, ap, _∙_, subst}
-use mathlib.Core.List.{List, [], _∷_, _++_}
+use mathlib.Core.List.{List, _++_}
 use native.Mathlib.Nat.{div-mul-le-self}
 use native.Mathlib.Omega.{arith}
-use lib.ListN.{length, getD, set}
+use lib.ListN.{length, getD}
 use Rattle.error.specs.Answer.{gives}
 use Rattle.laws.proofs.Answers.{bind-gives}
 use Rattle.laws.proofs.Lists.{length-part}
-use Rattle.laws.proofs.Octets.{Octets, octets-nil, octets-cons, octets-append}
+use Rattle.laws.proofs.Octets.{Octets, octets-nil, octets-set, octets-append}
 use Rattle.ext.specs.Kinds.{Fields, none}
 use Rattle.header.specs.Write.{presented}
 use Rattle.header.specs.declared.ExtPresence.{ExtPresence}
@@ -34,11 +34,6 @@ use Rattle.conformance.proofs.Files.{filed, fitting, plain}
 use Rattle.conformance.proofs.ReadBack.{file-back, renamed}
 
 -- the bytes of wire bits are bytes
-octets-set : (l : List ℕ) (i b : ℕ) → b < 256 → Octets l → Octets (set l i b)
-octets-set [] i b h o = octets-nil
-octets-set (x ∷ l) zero b h o = octets-cons b l h (λ i. o (suc i))
-octets-set (x ∷ l) (suc i) b h o = octets-cons x (set l i b) (o 0) (octets-set l i b h (λ j. o (suc j)))
-
 octets-clear : (w : ℕ) (row : List ℕ) → Octets row → Octets (clearPadding w row)
 unfolding clearPadding
 octets-clear w row o =
