@@ -8,6 +8,7 @@ use native.Mathlib.Omega.{arith}
 use lib.ListN.{length, take, drop, length-drop}
 use Rattle.error.specs.Answer.{gives}
 use Rattle.laws.proofs.Answers.{bind-gives}
+use Rattle.laws.proofs.Products.{up-to}
 use Rattle.ext.specs.Kinds.{Fields, none}
 use Rattle.header.specs.Write.{presented, extHeader}
 use Rattle.header.specs.declared.ExtPresence.{ExtPresence}
@@ -28,7 +29,7 @@ use Rattle.encoder.proofs.Scanned.{Passed as Passes, passed as scans-passed}
 use Rattle.api.specs.Sniff.{isClear, sniffed}
 use Rattle.api.specs.declared.Sniffed.the-variants.{Exact}
 use Rattle.conformance.specs.ReadBack.{Taken, Admitted, planeIn, lentScan, scanWhite, ReadsBack}
-use Rattle.conformance.proofs.Joined.{up-to, piece-back}
+use Rattle.conformance.proofs.Joined.{piece-back}
 use Rattle.conformance.proofs.Files.{filed, fitting, plain}
 use Rattle.conformance.proofs.ReadBack.{file-back, renamed}
 use Rattle.conformance.proofs.ScanDots.{finished-octets, finished-last, scan-dots}

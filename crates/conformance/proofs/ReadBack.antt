@@ -13,6 +13,7 @@ use Rattle.error.specs.Answer.{Answer, gives, bind, map}
 use Rattle.laws.proofs.Lists.{length-part}
 use Rattle.laws.proofs.Octets.{Octets}
 use Rattle.laws.proofs.Tests.{if-true}
+use Rattle.laws.proofs.Products.{up-to, one-of}
 use Rattle.ext.specs.Kinds.{Fields}
 use Rattle.header.specs.Read.{Header, Outline, outline, readHeader}
 use Rattle.header.proofs.RoundTrip.{Fitting}
@@ -29,7 +30,7 @@ use Rattle.decoder.specs.Frames.{imageOf, fitted, decoded, shown}
 use Rattle.decoder.proofs.Counted.{few, many}
 use Rattle.decoder.proofs.Planed.{planes-length}
 use Rattle.conformance.specs.ReadBack.{Admitted, planeIn, ReadsBack}
-use Rattle.conformance.proofs.Joined.{up-to, piece-back}
+use Rattle.conformance.proofs.Joined.{piece-back}
 use Rattle.conformance.proofs.Files.{Filed, head, header-read, behind, size-is}
 use Rattle.conformance.proofs.ReadDots.{read-dots}
 
@@ -79,7 +80,7 @@ module _ (most : ℕ) (d : Decoding) (strict : Bool) (width height : ℕ) (field
   left = omega (arith, all-there)
 
   one-there : plane ≤ count * plane
-  one-there = let m : 1 * plane ≤ count * plane = mul-le-mul-right plane c in omega arith
+  one-there = one-of plane count c
 
   pub image-read : readImage d bytes ≡ gives (outline header)
   unfolding readImage testBody checkLimits

@@ -6,9 +6,9 @@ use native.Mathlib.Nat.{mul-comm, mod-lt, div-add-mod', div-lt-iff-lt-mul}
 use native.Mathlib.Omega.{arith}
 use lib.ListN.{getD, drop}
 use lib.Seq.{getD-take, getD-drop}
+use Rattle.laws.proofs.Products.{up-to}
 use Rattle.image.specs.Geometry.{rowBytes, planeBytes}
 use Rattle.conformance.specs.ReadBack.{planeIn}
-use Rattle.conformance.proofs.Joined.{up-to}
 
 regrouped : (k h y r j : ℕ) → (k * h + y) * r + j ≡ k * (r * h) + (y * r + j)
 regrouped k h y r j = omega arith

@@ -12,6 +12,7 @@ use lib.Pow.{shl-shr}
 use lib.Seq.{getD-at}
 use Rattle.error.specs.Choice.{if}
 use Rattle.laws.proofs.Octets.{Octets}
+use Rattle.laws.proofs.Products.{up-to}
 use Rattle.image.specs.Dots.{bitAt as bitOf, isWhite}
 use Rattle.image.specs.Geometry.{rowBytes, paddingBits}
 use Rattle.image.specs.Rows.{clearLow}
@@ -26,7 +27,6 @@ use Rattle.quantize.proofs.Grown.{length-upto}
 use Rattle.quantize.proofs.Packing.{bit-in, bit-past, byte-at}
 use Rattle.quantize.proofs.Places.{div-at, mod-at}
 use Rattle.conformance.specs.ReadBack.{scanWhite}
-use Rattle.conformance.proofs.Joined.{up-to}
 
 upto-at : (f : ℕ → ℕ) (n j : ℕ) → j < n → getD (upto n f) j 0 ≡ f j
 unfolding upto

@@ -9,6 +9,7 @@ use Rattle.error.specs.Answer.{gives}
 use Rattle.laws.proofs.Answers.{bind-gives}
 use Rattle.laws.proofs.Lists.{length-part}
 use Rattle.laws.proofs.Octets.{Octets, octets-nil, octets-set, octets-append}
+use Rattle.laws.proofs.Products.{up-to}
 use Rattle.ext.specs.Kinds.{Fields, none}
 use Rattle.header.specs.Write.{presented}
 use Rattle.header.specs.declared.ExtPresence.{ExtPresence}
@@ -29,7 +30,7 @@ use Rattle.encoder.specs.Write.{checkPlanes, lentPlane, wirePlanes, fileOfPlane
 use Rattle.encoder.proofs.Tested.{Tested, tested}
 use Rattle.encoder.proofs.Planed.{planes-length}
 use Rattle.conformance.specs.ReadBack.{Taken, Admitted, planeIn, ReadsBack}
-use Rattle.conformance.proofs.Joined.{up-to, piece-back}
+use Rattle.conformance.proofs.Joined.{piece-back}
 use Rattle.conformance.proofs.Files.{filed, fitting, plain}
 use Rattle.conformance.proofs.ReadBack.{file-back, renamed}
 

@@ -2,7 +2,7 @@
 use Prim.Native.Nat.{ℕ, zero, suc, _+_, _-_, _*_, _≤_, _<_}
 use mathlib.Core.Path.{_≡_, refl, sym, ap, _∙_}
 use mathlib.Core.List.{List, _++_}
-use native.Mathlib.Nat.{mul-le-mul-right}
+use native.Mathlib.Nat.{suc-mul, mul-le-mul-right}
 use native.Mathlib.Numerals.{add-one}
 use native.Mathlib.Omega.{arith}
 use borrow.Rule.Slice.PartMut.{midOf, putMid}
@@ -10,6 +10,7 @@ use lib.ListN.{length, take, drop, length-append, length-drop}
 use lib.Seq.{sets, length-sets, take-all}
 use Rattle.laws.proofs.Lists.{length-part}
 use Rattle.laws.proofs.Runs.{sets-append, sets-front, sets-part}
+use Rattle.laws.proofs.Products.{up-to}
 use Rattle.header.specs.Read.{Outline}
 use Rattle.image.specs.Geometry.{rowBytes}
 use Rattle.image.specs.Rows.{convertFormat}
@@ -27,11 +28,8 @@ lent-room from plane to bytes out a b =
     rw (e, length-part plane from bytes a, d, length-drop to out) (omega arith)
 
 -- one plane more
-more : (k n : ℕ) → suc k * n ≡ k * n + n
-more k n = omega arith
-
 pub one-less : (a k n size : ℕ) → a + suc k * n ≤ size → (a + k * n ≤ size) × (a + k * n + n ≤ size)
-one-less a k n size h = let e = more k n in (omega arith, omega arith)
+one-less a k n size h = let e = suc-mul k n in (omega arith, omega arith)
 
 module _ (f : PixelFormat) (bytes : List ℕ) (h : Outline) where
   pub plane-length : (k : ℕ) → h .body + k * planeOf h + planeOf h ≤ length bytes → length (planeAt f bytes h k) ≡ planeOf h
@@ -48,7 +46,7 @@ module _ (f : PixelFormat) (bytes : List ℕ) (h : Outline) where
       length-append (planes f bytes h k) (planeAt f bytes h k)
       ∙ ap (λ (n : ℕ). n + length (planeAt f bytes h k)) (planes-length k (l .0))
       ∙ ap (λ (n : ℕ). k * planeOf h + n) (plane-length k (l .1))
-      ∙ sym (more k (planeOf h))
+      ∙ sym (suc-mul k (planeOf h))
 
 -- the planes before k are written
 pub record Planing (f : PixelFormat) (bytes : List ℕ) (h : Outline) (out₀ : List ℕ) (plane frames : ℕ) (out : List ℕ) (k : ℕ) : Type 0 where
@@ -72,8 +70,7 @@ module _ {f : PixelFormat} {bytes : List ℕ} {h : Outline} {out₀ : List ℕ} 
   -- plane k is in the file and in the output
   pub next-in : k < frames → (h .body + k * plane + plane ≤ length bytes) × (k * plane + plane ≤ length out)
   next-in l =
-      let p : suc k * plane ≤ frames * plane = mul-le-mul-right plane l in
-      let e = more k plane in
+      let p = up-to plane k frames l in
       let q = kept-length in
       (omega (arith, c .inside), omega (arith, c .room))
 

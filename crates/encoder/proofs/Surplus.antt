@@ -2,6 +2,7 @@
 use Prim.Native.Nat.{ℕ, zero, suc, _+_, _*_, _≤_}
 use mathlib.Core.Path.{_≡_, refl, sym, ap, _∙_}
 use mathlib.Core.List.{List, _++_}
+use native.Mathlib.Nat.{suc-mul}
 use native.Mathlib.Omega.{arith}
 use borrow.Author.Tests.{le-ltb}
 use lib.ListN.{length, take, drop, length-append, length-drop}
@@ -16,7 +17,6 @@ use Rattle.options.specs.declared.EncodeOptions.{EncodeOptions}
 use Rattle.encoder.specs.File.{fileOf}
 use Rattle.encoder.specs.Write.{checkPlanes, lentPlane, wirePlanes, fileOfPlanes}
 use Rattle.encoder.proofs.Counted.{accepted}
-use Rattle.encoder.proofs.Planed.{more}
 use Rattle.encoder.proofs.Tested.{afterGeometry, tested}
 
 module _ (w h s : ℕ) where
@@ -40,7 +40,7 @@ module _ (w h s : ℕ) where
     unfolding wirePlanes
     planes-kept zero b = refl
     planes-kept (suc n) b =
-        let e = more n (neededBytes w h s) in
+        let e = suc-mul n (neededBytes w h s) in
         ap (λ (p : List ℕ). p ++ wireBits f w h s (lentPlane w h s (planes ++ ρ) n)) (planes-kept n (omega arith))
         ∙ ap (λ (p : List ℕ). wirePlanes f w h s planes n ++ wireBits f w h s p) (lent-kept n (omega arith))
 
