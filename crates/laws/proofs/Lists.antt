@@ -6,7 +6,7 @@ use native.Mathlib.Nat.{zero-add}
 use native.Mathlib.Numerals.{add-one}
 use native.Mathlib.Omega.{arith}
 use lib.ListN.{length, getD, take, drop, length-append, length-drop, take-append-drop}
-use lib.Seq.{slice, length-take-le, take-nil, drop-cons, drop-drop}
+use lib.Seq.{slice, length-take-le, take-nil, drop-cons, drop-drop, take-append-le, drop-append-le}
 
 pub drop-at : (s : List ℕ) (at : ℕ) → at < length s → drop at s ≡ getD s at 0 ∷ drop (at + 1) s
 drop-at s at h = rw (add-one, drop-cons s at 0 h)
@@ -24,6 +24,10 @@ take-slice (suc a) i (x ∷ s) =
 -- a part that is all there
 pub length-part : (n a : ℕ) (s : List ℕ) → a + n ≤ length s → length (take n (drop a s)) ≡ n
 length-part n a s h = length-take-le n (drop a s) (rw length-drop (omega arith))
+
+pub part-append : (n a : ℕ) (s ρ : List ℕ) → a + n ≤ length s → take n (drop a (s ++ ρ)) ≡ take n (drop a s)
+part-append n a s ρ h =
+    ap (take n) (drop-append-le a s ρ (omega arith)) ∙ take-append-le n (drop a s) ρ (rw length-drop (omega arith))
 
 -- the first elements, by their own length
 pub take-length-take : (n : ℕ) (s : List ℕ) → take (length (take n s)) s ≡ take n s
