@@ -3,7 +3,7 @@ use Prim.Native.Nat.{ℕ, zero, suc, _+_, _-_, _*_, _/_, _≤_, _<_, min}
 use mathlib.Core.Path.{_≡_, refl, sym, ap, _∙_, subst}
 use mathlib.Core.Bool.{Bool, true, false}
 use mathlib.Core.List.{List, _++_}
-use native.Mathlib.Nat.{mul-le-mul-right, mul-div-cancel, mul-le-mul}
+use native.Mathlib.Nat.{mul-le-mul-right, mul-div-cancel}
 use native.Mathlib.Omega.{arith}
 use borrow.Author.Tests.{leb-true, leb-false, le-leb, le-ltb}
 use lib.Dec.{leb}
@@ -21,6 +21,7 @@ use Rattle.image.specs.Geometry.{rowBytes, planeBytes}
 use Rattle.image.specs.Dots.{isWhite}
 use Rattle.image.specs.Rows.{convertFormat}
 use Rattle.image.specs.declared.PixelFormat.the-variants.{MonoBlack}
+use Rattle.image.proofs.PlaneSizes.{plane-some}
 use Rattle.image.proofs.Masked.{bytes-source}
 use Rattle.image.proofs.Wiring.{source-there}
 use Rattle.options.specs.Limits.{Decoding, checkLimits}
@@ -50,11 +51,6 @@ planes-counted most (suc n) plane size p c r e = go (leb n (most - 1)) refl
     go false l =
         let k = leb-false n (most - 1) l in
         ap (λ (k : ℕ). 1 + k) (sym (many (most - 1) plane size (omega (arith, whole)))) ∙ omega arith
-
-pub plane-some : (w h : ℕ) → 0 < w → 0 < h → 0 < planeBytes w h
-plane-some w h p q =
-    let m : 1 * 1 ≤ rowBytes w * h = mul-le-mul {n₁ = 1} {m₁ = 1} {n₂ = rowBytes w} {m₂ = h} (omega arith) (omega arith) in
-    omega arith
 
 module _ (most : ℕ) (d : Decoding) (strict : Bool) (width height : ℕ) (fields : Fields) (count : ℕ) (body bytes : List ℕ)
     (f : Filed strict width height fields body bytes) (c : 1 ≤ count) (r : 1 ≤ most) (wb : width < 4294967296) (hb : height < 4294967296)

@@ -20,6 +20,7 @@ use Rattle.image.specs.Geometry.{rowBytes, planeBytes, paddingBits}
 use Rattle.image.specs.Rows.{clearLow, sourceRow, toNative}
 use Rattle.image.specs.declared.PixelFormat.{PixelFormat}
 use Rattle.image.specs.declared.PixelFormat.the-variants.{MonoWhite}
+use Rattle.image.proofs.PlaneSizes.{plane-some}
 use Rattle.image.proofs.Cleared.{paddingAt}
 use Rattle.image.proofs.WireDots.{wire-byte}
 use Rattle.options.specs.declared.EncodeOptions.{EncodeOptions}
@@ -29,7 +30,6 @@ use Rattle.encoder.proofs.Planed.{planes-length}
 use Rattle.api.specs.Sniff.{isClear, areClear, sniffLength, sniffBody, sniffHeader, sniffed}
 use Rattle.api.specs.declared.Sniffed.the-variants.{Exact}
 use Rattle.conformance.proofs.Files.{Filed, filed, header-read, behind}
-use Rattle.conformance.proofs.ReadBack.{plane-some}
 use Rattle.conformance.proofs.Rows.{plane-byte, by-planes}
 use Rattle.conformance.proofs.Written.{body-plane, passed}
 use Rattle.conformance.proofs.WrittenCards.{nineByTwo, writer, bare, bare-written}

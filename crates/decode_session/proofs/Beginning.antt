@@ -3,7 +3,6 @@ use Prim.Native.Nat.{ℕ, _+_, _<_}
 use mathlib.Core.Path.{_≡_, refl, sym, ap, subst, _∙_}
 use mathlib.Core.List.{List, _++_}
 use mathlib.Core.Logic.{inl}
-use native.Mathlib.Nat.{mul-pos}
 use native.Mathlib.Omega.{arith}
 use lib.ListN.{length, take, drop}
 use Rattle.error.specs.Answer.{gives, checked}
@@ -13,7 +12,7 @@ use Rattle.error.specs.declared.WbmpError.{WbmpError}
 use Rattle.laws.proofs.Lists.{length-append-take, append-take-drop}
 use Rattle.header.specs.Read.{Outline, parsed}
 use Rattle.header.specs.declared.ParsedHeader.{ParsedHeader}
-use Rattle.image.specs.Geometry.{rowBytes}
+use Rattle.image.proofs.PlaneSizes as planes
 use Rattle.options.specs.Limits.{Decoding, decoding, checkLimits}
 use Rattle.options.specs.declared.DecodeOptions.{DecodeOptions}
 use Rattle.decoder.specs.Body.{planeOf}
@@ -49,10 +48,7 @@ module _ (m : Model) (piece : List ℕ) (from : ℕ) (h : Outline) (e : Ended m 
   plane-some : 0 < planeOf h
   plane-some =
       let shape = outline-shape (imageSettings (m .options .mode)) (m .bytes ++ take from piece) h (e .header) in
-      mul-pos (row-some (h .width) (shape .0)) (shape .1)
-    where
-      row-some : (w : ℕ) → 0 < w → 0 < rowBytes w
-      row-some w l = omega arith
+      planes.plane-some (h .width) (h .height) (shape .0) (shape .1)
 
   enters : Bounded (m .ceiling) (m .options) → checkLimits (m .options) (h .width) (h .height) (planeOf h) (h .body) ≡ gives tt → Enters m piece from h 0 0
   enters c l =

@@ -3,7 +3,7 @@ use Prim.Native.Nat.{ℕ, zero, suc, _+_, _-_, _*_, _%_, _≤_, _<_, min}
 use mathlib.Core.Path.{_≡_, refl, sym, ap, _∙_}
 use mathlib.Core.Bool.{Bool, true, false}
 use mathlib.Core.List.{List, _++_}
-use native.Mathlib.Nat.{mul-comm, mul-assoc, mul-add-mod-self-right, mul-add-mod-self-left, mod-eq-of-lt, add-zero, zero-add, zero-mul, mul-le-mul-right}
+use native.Mathlib.Nat.{mul-comm, mul-add-mod-self-right, mod-eq-of-lt, zero-add, zero-mul, mul-le-mul-right}
 use native.Mathlib.Omega.{arith}
 use borrow.Author.Tests.{eqb-true, eqb-false, leb-true, leb-false}
 use lib.Dec.{eqb, leb}
@@ -20,6 +20,7 @@ use Rattle.image.specs.declared.PixelFormat.{PixelFormat}
 use Rattle.image.specs.declared.PixelFormat.the-variants.{MonoBlack, MonoWhite}
 use Rattle.image.proofs.Cleared.{paddingAt}
 use Rattle.image.proofs.Inverted.{invert-length, invert-at}
+use Rattle.image.proofs.PlaneSizes.{byte-inside, plane-mod}
 use Rattle.image.proofs.AtOnce.{clear-length, clear-at, rows-same, all-at-once}
 use Rattle.options.specs.Limits.{Decoding}
 use Rattle.decoder.specs.Body.{planeOf, planeAt, planes}
@@ -58,10 +59,7 @@ plane-is MonoWhite w h plane n =
     (omega (arith, clear-length w h (invert plane), invert-length plane, n, mul-comm (rowBytes w) h)))
   where
     inside : (y j : ℕ) → y < h → j < rowBytes w → y * rowBytes w + j < length plane
-    inside y j l k =
-        let p : suc y * rowBytes w ≤ h * rowBytes w = mul-le-mul-right (rowBytes w) l in
-        let e : suc y * rowBytes w ≡ y * rowBytes w + rowBytes w = omega arith in
-        omega (arith, n, mul-comm (rowBytes w) h)
+    inside y j l k = omega (arith, byte-inside w h y j l k, n)
 
     same : (y j : ℕ) → y < h → j < rowBytes w → 0 < rowBytes w
         → getD (clearRows w h (invert plane)) (y * rowBytes w + j) 0 ≡ getD (bodyFrom MonoWhite w 0 plane) (y * rowBytes w + j) 0
@@ -94,10 +92,8 @@ planes-are f bytes h (suc k) l =
   where
     whole-rows : (k : ℕ) → (0 + k * planeOf h) % rowBytes (h .width) ≡ 0 % rowBytes (h .width)
     whole-rows k =
-        let r = rowBytes (h .width) in
-        let e : 0 + k * (r * h .height) ≡ r * (k * h .height) + 0 =
-        zero-add (k * (r * h .height)) ∙ sym (mul-assoc k r (h .height)) ∙ ap (λ (i : ℕ). i * h .height) (mul-comm k r) ∙ mul-assoc r k (h .height) ∙ sym (add-zero _) in
-        ap (λ (i : ℕ). i % r) e ∙ mul-add-mod-self-left r (k * h .height) 0
+        let e : 0 + k * planeOf h ≡ k * planeOf h + 0 = omega arith in
+        ap (λ (i : ℕ). i % rowBytes (h .width)) e ∙ plane-mod (h .width) (h .height) k 0
 
 -- up to the ceiling, the first planes of what is put out are those of the file
 pub sequence-planes : (ceiling : ℕ) (d : Decoding) (bytes : List ℕ) (h : Outline) (k : ℕ) → headerOf (d .mode) bytes ≡ gives h → k ≤ ceiling

@@ -3,13 +3,14 @@ use Prim.Native.Nat.{ℕ, zero, suc, _+_, _-_, _*_, _/_, _≤_, _<_}
 use mathlib.Core.Path.{_≡_, refl, sym, ap, _∙_}
 use mathlib.Core.Bool.{Bool, true, false}
 use mathlib.Core.List.{List, [], _∷_, _++_}
-use native.Mathlib.Nat.{div-zero, mul-zero, div-mul-le-self, le-div-iff-mul-le, div-lt-iff-lt-mul}
+use native.Mathlib.Nat.{div-zero, div-mul-le-self, le-div-iff-mul-le, div-lt-iff-lt-mul}
 use native.Mathlib.Omega.{arith}
 use borrow.Author.Tests.{leb-true}
 use lib.Dec.{leb}
 use lib.ListN.{length, replicate}
 use Rattle.error.specs.Choice.{if}
 use Rattle.error.specs.Answer.{Answer, gives, refuses, bind, map}
+use Rattle.laws.proofs.Products.{some-size}
 use Rattle.mbi.specs.Read.{readRest, readByte}
 use Rattle.ext.specs.Kinds.{absent}
 use Rattle.ext.specs.Read.{readFields}
@@ -29,10 +30,6 @@ div-grows zero x y h = let p = div-zero x in let q = div-zero y in omega arith
 div-grows (suc n) x y h =
     let p = div-mul-le-self x (suc n) in
     le-div-iff-mul-le {k = suc n} (omega arith) .1 (omega arith)
-
-some-factor : (a b n : ℕ) → a < b * n → 0 < n
-some-factor a b zero h = let e = mul-zero b in omega arith
-some-factor a b (suc n) h = omega arith
 
 capped : (most plane body : ℕ) → most ≤ (body - plane) / plane → extraFrames most plane body ≡ most
 capped most plane body h = go (leb ((body - plane) / plane) most) refl
@@ -57,7 +54,7 @@ module _ (most plane body body′ : ℕ) (more : body ≤ body′) where
     where
       go : (n : ℕ) → n ≤ most → n ≤ (body - plane) / plane → body′ < (1 + (1 + n)) * plane → extraFrames most plane body′ ≡ n
       go n p q l =
-          let z : 0 < plane = some-factor body′ (1 + (1 + n)) plane l in
+          let z : 0 < plane = some-size body′ (1 + (1 + n)) plane l in
           let e : (1 + (1 + n)) * plane ≡ (1 + n) * plane + plane = omega arith in
           let f : (1 + n) * plane ≡ n * plane + plane = omega arith in
           let u : (body′ - plane) / plane < 1 + n = div-lt-iff-lt-mul {k = plane} z .1 (omega arith) in

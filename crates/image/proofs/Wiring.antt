@@ -13,6 +13,7 @@ use lib.Seq.{take-at, drop-drop, drop-append-add}
 use Rattle.error.specs.Choice.{if}
 use Rattle.laws.proofs.Lists.{length-part}
 use Rattle.laws.proofs.Octets.{Octets}
+use Rattle.laws.proofs.Products.{up-to}
 use Rattle.image.specs.Geometry.{rowBytes, planeBytes, paddingMask, layoutOf}
 use Rattle.image.specs.Parts.{maskLast}
 use Rattle.image.specs.Rows.{clearPadding, rowAt, isPresent, sourceRow, toNative, wireRow, wireBits}
@@ -84,9 +85,7 @@ module _ {plane : List ℕ} {w h s : ℕ} {f : PixelFormat} {out₀ : List ℕ} 
 
   pub next-fits : y < h → at + row ≤ length out
   next-fits k =
-      let q : suc y * rowBytes w ≤ h * rowBytes w = mul-le-mul-right (rowBytes w) (omega arith) in
-      let m : suc y * rowBytes w ≡ y * rowBytes w + rowBytes w = omega arith in
-      omega (arith, kept-length, c .place, c .room, c .row-is)
+      omega (arith, up-to (rowBytes w) y h k, kept-length, c .place, c .room, c .row-is)
 
   -- what stands after the next row
   back : length (wireBits f w y s plane) ≡ at → drop (at + row) (wireBits f w y s plane ++ drop at out₀) ≡ drop (at + row) out₀
