@@ -1,12 +1,11 @@
 -- What closing answers in each stage.
 use Prim.Native.Nat.{ℕ, _+_, _-_, _*_, _/_, _≤_, _<_}
-use mathlib.Core.Path.{_≡_, refl, sym, ap, _∙_}
-use mathlib.Core.Bool.{Bool, true, false}
+use mathlib.Core.Path.{_≡_, sym, ap, _∙_}
 use mathlib.Core.Logic.{_⊎_, ⊎-elim}
 use native.Mathlib.Nat.{pos-of-ne-zero, div-eq-of-lt-le, le-div-iff-mul-le}
 use native.Mathlib.Omega.{arith}
-use borrow.Author.Tests.{leb-true, lt-ltb, le-ltb}
-use lib.Dec.{leb, ltb}
+use borrow.Author.Tests.{lt-ltb, le-ltb}
+use lib.Dec.{ltb}
 use lib.ListN.{length}
 use Rattle.error.specs.Choice.{if}
 use Rattle.error.specs.Answer.{Answer, gives, refuses, bind, map}
@@ -18,7 +17,7 @@ use Rattle.header.specs.declared.ParsedHeader.{ParsedHeader}
 use Rattle.header.specs.declared.reader.HeaderReader.{HeaderReader}
 use Rattle.decoder.specs.Body.{extraFrames, planeOf, framesIn}
 use Rattle.decoder.specs.Image.{imageSettings, headerOf, testBody, readImage}
-use Rattle.decoder.proofs.Counted.{few}
+use Rattle.decoder.proofs.Counted.{few, many}
 use Rattle.decode_session.specs.Model.{nothing, Model, Told, frames, closing}
 use Rattle.decode_session.specs.Session.{InBody, Bounded}
 use Rattle.decode_session.specs.Stages.{Finishes}
@@ -78,14 +77,10 @@ module _ {m : Model} {h : Outline} {whole begun : ℕ} (b : InBody m h whole beg
             sym (few (m .ceiling - 1) (planeOf h) size (omega (arith, v .0))) ∙ q
 
         behind : (whole ≡ m .ceiling) × ((begun ≡ 0) × (h .body + whole * planeOf h ≤ length (m .bytes))) → extraFrames (m .ceiling - 1) (planeOf h) size ≡ whole - 1
-        behind v = go (leb ((size - planeOf h) / planeOf h) (m .ceiling - 1)) refl
+        behind v = sym (many (m .ceiling - 1) (planeOf h) size (omega (arith, most, v .0))) ∙ omega (arith, v .0)
           where
             most : whole - 1 ≤ (size - planeOf h) / planeOf h
             most = le-div-iff-mul-le {k = planeOf h} (omega (arith, b .below)) .1 (omega (arith, enough))
-
-            go : (t : Bool) → leb ((size - planeOf h) / planeOf h) (m .ceiling - 1) ≡ t → if t ((size - planeOf h) / planeOf h) (m .ceiling - 1) ≡ whole - 1
-            go true e = let k = leb-true ((size - planeOf h) / planeOf h) (m .ceiling - 1) e in omega (arith, most, v .0)
-            go false e = omega (arith, v .0)
 
     pub all-whole : closing m (m .met) ≡ gives (frames whole)
     all-whole =

@@ -1,14 +1,11 @@
 -- Reading is unaffected by bytes after the last frame of the ceiling, and by a rest that completes no further plane.
 use Prim.Native.Nat.{ℕ, zero, suc, _+_, _-_, _*_, _/_, _≤_, _<_}
 use mathlib.Core.Path.{_≡_, refl, sym, ap, _∙_}
-use mathlib.Core.Bool.{Bool, true, false}
 use mathlib.Core.List.{List, [], _∷_, _++_}
 use native.Mathlib.Nat.{div-zero, div-mul-le-self, le-div-iff-mul-le, div-lt-iff-lt-mul}
 use native.Mathlib.Omega.{arith}
-use borrow.Author.Tests.{leb-true}
 use lib.Dec.{leb}
 use lib.ListN.{length, replicate}
-use Rattle.error.specs.Choice.{if}
 use Rattle.error.specs.Answer.{Answer, gives, refuses, bind, map}
 use Rattle.laws.proofs.Products.{some-size}
 use Rattle.mbi.specs.Read.{readRest, readByte}
@@ -21,7 +18,7 @@ use Rattle.options.specs.Settings.{defaults}
 use Rattle.decoder.specs.Body.{extraFrames, planeOf, framesIn, planes}
 use Rattle.decoder.specs.Image.{testBody, readImage}
 use Rattle.decoder.specs.Frames.{fitted, decoded, shown}
-use Rattle.decoder.proofs.Counted.{few, frames-fit, least}
+use Rattle.decoder.proofs.Counted.{few, many, frames-fit, least}
 use Rattle.decoder.proofs.Fitted.{image-parts}
 use Rattle.decoder.proofs.After.{longer, image-kept, planes-kept, refusal-kept}
 
@@ -30,13 +27,6 @@ div-grows zero x y h = let p = div-zero x in let q = div-zero y in omega arith
 div-grows (suc n) x y h =
     let p = div-mul-le-self x (suc n) in
     le-div-iff-mul-le {k = suc n} (omega arith) .1 (omega arith)
-
-capped : (most plane body : ℕ) → most ≤ (body - plane) / plane → extraFrames most plane body ≡ most
-capped most plane body h = go (leb ((body - plane) / plane) most) refl
-  where
-    go : (t : Bool) → leb ((body - plane) / plane) most ≡ t → if t ((body - plane) / plane) most ≡ most
-    go true e = let k = leb-true ((body - plane) / plane) most e in omega arith
-    go false e = refl
 
 -- the counts of two bodies of which the second is no shorter
 module _ (most plane body body′ : ℕ) (more : body ≤ body′) where
@@ -47,7 +37,7 @@ module _ (most plane body body′ : ℕ) (more : body ≤ body′) where
   bounds = least most plane body (leb ((body - plane) / plane) most) refl
 
   pub full : extraFrames most plane body ≡ most → extraFrames most plane body′ ≡ extraFrames most plane body
-  full e = capped most plane body′ (omega (arith, bounds .1, grows)) ∙ sym e
+  full e = sym (many most plane body′ (omega (arith, bounds .1, grows))) ∙ sym e
 
   pub no-more : body′ < (1 + (1 + extraFrames most plane body)) * plane → extraFrames most plane body′ ≡ extraFrames most plane body
   no-more h = go (extraFrames most plane body) (bounds .0) (bounds .1) h
