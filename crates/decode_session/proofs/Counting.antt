@@ -8,7 +8,7 @@ use borrow.Author.Tests.{lt-ltb, le-ltb}
 use lib.Dec.{ltb}
 use lib.ListN.{length}
 use Rattle.error.specs.Choice.{if}
-use Rattle.error.specs.Answer.{Answer, gives, refuses, bind, map}
+use Rattle.error.specs.Answer.{Answer, gives, refuses, map}
 use Rattle.error.specs.declared.WbmpError.{WbmpError}
 use Rattle.laws.proofs.Tests.{if-true, if-false}
 use Rattle.header.specs.Read.{Outline}
@@ -16,7 +16,8 @@ use Rattle.header.specs.Represents.{Ended}
 use Rattle.header.specs.declared.ParsedHeader.{ParsedHeader}
 use Rattle.header.specs.declared.reader.HeaderReader.{HeaderReader}
 use Rattle.decoder.specs.Body.{extraFrames, planeOf, framesIn}
-use Rattle.decoder.specs.Image.{imageSettings, headerOf, testBody, readImage}
+use Rattle.decoder.specs.Image.{imageSettings, readImage}
+use Rattle.decoder.proofs.Headed.{image-by, image-limited}
 use Rattle.decoder.proofs.Counted.{few, many}
 use Rattle.decode_session.specs.Model.{nothing, Model, Told, frames, closing}
 use Rattle.decode_session.specs.Session.{InBody, Bounded}
@@ -32,20 +33,12 @@ closes-by : (m : Model) (x : Answer Outline) → m .met ≡ nothing → readImag
 closes-by m x n e =
     ap (closing m) n ∙ ap (λ (x : Answer Outline). map {B = Told} frames (map (framesIn (m .ceiling) (length (m .bytes))) x)) e
 
-image-by : (m : Model) (x : Answer Outline) → headerOf (m .options .mode) (m .bytes) ≡ x
-    → readImage (m .options) (m .bytes) ≡ bind x (testBody (m .options) (length (m .bytes)))
-unfolding readImage
-image-by m x e = ap (λ (x : Answer Outline). bind x (testBody (m .options) (length (m .bytes)))) e
-
 module _ {m : Model} {h : Outline} {whole begun : ℕ} (b : InBody m h whole begun) (ceiling : Bounded (m .ceiling) (m .options)) where
   abbrev size : ℕ
   size = length (m .bytes) - h .body
 
   image-is : readImage (m .options) (m .bytes) ≡ if (ltb size (planeOf h)) (refuses 20 (h .body)) (gives h)
-  unfolding testBody
-  image-is =
-      image-by m (gives h) (b .headerIs)
-      ∙ ap (λ (x : Answer (Unit {0})). bind x (λ _. if (ltb size (planeOf h)) (refuses 20 (h .body)) (gives h))) (b .admitted)
+  image-is = image-limited (m .options) (m .bytes) h (gives tt) (b .headerIs) (b .admitted)
 
   -- no whole plane is there
   short-size : whole ≡ 0 → size < planeOf h
@@ -100,7 +93,7 @@ module _ (s : Stage) where
             let u = staged m g st in
             let o = imageSettings (m .options .mode) in
             sym (closes-by m (refuses (e .code) (e .offset)) (u .0)
-            (image-by m (refuses (e .code) (e .offset)) (unread o (m .bytes) (u .1 .state) (u .1 .reached) ∙ sym (d .does o (u .1 .state) (u .1 .represents)))));
+            (image-by (m .options) (m .bytes) (refuses (e .code) (e .offset)) (unread o (m .bytes) (u .1 .state) (u .1 .reached) ∙ sym (d .does o (u .1 .state) (u .1 .represents)))));
       }
 
   module _ (p : ParsedHeader) (whole begun : ℕ) (g : s ≡ Stage.Body p whole begun) where
