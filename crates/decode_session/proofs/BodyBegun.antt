@@ -24,7 +24,7 @@ use Rattle.decode_session.specs.Stages.{metIn, Agrees, Enters, Planes, E
 use Rattle.decode_session.specs.declared.DecodeFed.{DecodeFed}
 use Rattle.decode_session.proofs.Headers.{header-later}
 use Rattle.decode_session.proofs.StageFacts.{ceiling-some}
-use Rattle.decode_session.proofs.Meeting.{limit-over, admitted}
+use Rattle.decode_session.proofs.RefusalsMet.{limit-over, admitted}
 
 -- the session that met a refusal agrees
 pub refused-agrees : (o : DecodeOptions) (m : Model) (piece out ext : List ℕ) (e : WbmpError) → Bounded (m .ceiling) (m .options) → decoding o ≡ m .options

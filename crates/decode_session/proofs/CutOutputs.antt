@@ -17,7 +17,7 @@ use Rattle.decode_session.specs.Extension.{fieldBytes}
 use Rattle.decode_session.specs.Model.{nothing, refusal, Model, Call, feed, close, Told, frames, Reply, takes, grown, written, stored, outcome, replies}
 use Rattle.decode_session.specs.Trace.{bytesOf, joined, tookOf, isMet, Cut, part, taken}
 use Rattle.decode_session.specs.Trace as Traces
-use Rattle.decode_session.proofs.Fitting.{most-small}
+use Rattle.decode_session.proofs.MostTaken.{most-small}
 use Rattle.decode_session.proofs.CutCases.{by-case}
 use Rattle.decode_session.proofs.Cuts.{next-part, midway, met-whole}
 use Rattle.decode_session.proofs.CutSequences.{sequence-extends}

@@ -18,7 +18,7 @@ use Rattle.decoder.proofs.After.{image-kept}
 use Rattle.decode_session.specs.Model.{Met, nothing, refusal, Model, Call, feed, close, Told, frames, Reply, Outcome, takes, grown, fedBy, unaltered, outcome, replies}
 use Rattle.decode_session.specs.Trace.{tookOf, isMet, Cut, part, taken}
 use Rattle.decode_session.specs.Trace as Traces
-use Rattle.decode_session.proofs.Fitting.{most-small}
+use Rattle.decode_session.proofs.MostTaken.{most-small}
 use Rattle.decode_session.proofs.CutCases.{by-case}
 
 -- the next of a list's parts behind its first ones

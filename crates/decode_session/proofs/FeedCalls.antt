@@ -19,8 +19,8 @@ use Rattle.decode_session.specs.declared.DecodeFed.{DecodeFed}
 use Rattle.decode_session.proofs.Headers.{header-later}
 use Rattle.decode_session.proofs.StageFacts.{staged, in-body}
 use Rattle.decode_session.proofs.FieldBytes.{fields-kept}
-use Rattle.decode_session.proofs.Shown.{shown-length}
-use Rattle.decode_session.proofs.Meeting.{admitted}
+use Rattle.decode_session.proofs.BodyShown.{shown-length}
+use Rattle.decode_session.proofs.RefusalsMet.{admitted}
 use Rattle.decode_session.proofs.Replies.{stored-none, reading, closed, met-earlier, short, Fits, agreed}
 
 -- a refusal that alters nothing

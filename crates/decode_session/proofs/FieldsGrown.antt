@@ -23,7 +23,7 @@ use Rattle.header.proofs.Keeps.{SoundStep, sound-step, sound-steps, sound-start
 use Rattle.header.proofs.Taken.{taken, Moves, moves-step, taken-steps}
 use Rattle.decode_session.specs.Extension.{fieldBytes}
 use Rattle.decode_session.proofs.Zones.{Zone, before, inside, behind, zone, isInside, inside-is, Next, early, enters, skips, runs, leaves, late, Stops, Moved, zone-step}
-use Rattle.decode_session.proofs.Rest.{spanned, rest, rest-start, rest-steps, rest-step, rest-end, stopped, after, zoneBytes}
+use Rattle.decode_session.proofs.FieldsBytewise.{spanned, rest, rest-start, rest-steps, rest-step, rest-end, stopped, after, zoneBytes}
 
 -- a zone whose fields start, and end where they have, in the bytes taken
 abbrev pub Fits : ℕ → Zone → Type 0

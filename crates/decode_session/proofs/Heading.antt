@@ -28,10 +28,10 @@ use Rattle.decode_session.specs.declared.DecodeFed.{DecodeFed}
 use Rattle.decode_session.specs.declared.head.HeadFed.{HeadFed}
 use Rattle.decode_session.specs.declared.head.HeadEnd.{HeadEnd}
 use Rattle.decode_session.proofs.Headers.{header-cut, unread-end, reached-bound}
-use Rattle.decode_session.proofs.Fitting.{most-is}
-use Rattle.decode_session.proofs.Meeting.{header-refused, header-short}
+use Rattle.decode_session.proofs.MostTaken.{most-is}
+use Rattle.decode_session.proofs.RefusalsMet.{header-refused, header-short}
 use Rattle.decode_session.proofs.Replies.{replied, stored-as, reading, agreed}
-use Rattle.decode_session.proofs.Beginning.{refused-agrees}
+use Rattle.decode_session.proofs.BodyBegun.{refused-agrees}
 
 -- a file whose header goes on shows nothing
 pub nothing-shown : (m : Model) (s : List ℕ) (r : HeaderReader) (at kept : ℕ) → Reached (imageSettings (m .options .mode)) s r at kept

@@ -15,8 +15,8 @@ use Rattle.decode_session.specs.Model.{Model, takes, grown, written}
 use Rattle.decode_session.specs.Stages.{Enters}
 use Rattle.decode_session.specs.declared.body.BodyFed.{BodyFed}
 use Rattle.decode_session.proofs.BodyBytes.{body-length}
-use Rattle.decode_session.proofs.Fitting.{shownWith, most-is}
-use Rattle.decode_session.proofs.Shown.{shownBytes, allBytes, shown-length, shown-grows}
+use Rattle.decode_session.proofs.MostTaken.{shownWith, most-is}
+use Rattle.decode_session.proofs.BodyShown.{shownBytes, allBytes, shown-length, shown-grows}
 
 module _ {m : Model} {piece : List ℕ} {from room : ℕ} {h : Outline} {whole begun most : ℕ} {r : BodyFed}
     (ceiling : m .ceiling ≡ most) (within : from ≤ length piece) (en : Enters m piece from h whole begun)

@@ -25,7 +25,7 @@ use Rattle.decode_session.specs.declared.body.BodyFed.{BodyFed}
 use Rattle.decode_session.proofs.Headers.{header-later}
 use Rattle.decode_session.proofs.FieldBytes.{fields-kept}
 use Rattle.decode_session.proofs.Replies.{replied, stored-as}
-use Rattle.decode_session.proofs.Taking.{advanced, below-left, takes-is, grown-is, written-is, written-length}
+use Rattle.decode_session.proofs.PieceTaken.{advanced, below-left, takes-is, grown-is, written-is, written-length}
 
 module _ (o : DecodeOptions) (p : ParsedHeader) (most whole begun from : ℕ) (piece out out′ : List ℕ) (within : from ≤ length piece) (r : BodyFed)
     (b : Bodies (o .format) (p .width) (p .height) most whole begun (drop from piece) out r out′) where
