@@ -75,5 +75,6 @@ module _ (width : ℕ) (body : List ℕ) where
     where
       go : (t : Bool) → eqb y n ≡ t → (y < n → false ≡ areClear width body n) → false ≡ (areClear width body n && isClear width body n)
       go true e ih =
-          sym (ap (λ (t : Bool). areClear width body n && t) (ap (isClear width body) (sym (eqb-true y n e)) ∙ q) ∙ and-false (areClear width body n))
+          sym (ap (λ (t : Bool). areClear width body n && t) (ap (isClear width body) (sym (eqb-true y n e)) ∙ q)
+          ∙ and-false (areClear width body n))
       go false e ih = let d = eqb-false y n e in ap (λ (t : Bool). t && isClear width body n) (ih (lt-of-le-ne (omega arith) d))

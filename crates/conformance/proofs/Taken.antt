@@ -19,7 +19,8 @@ Adds m c x = m .samples ++ takenBy c (x .reply .answer) ≡ x .next .samples
 adds-feed : (m : Model) (xs out : List ℕ) (work : ℕ) → Adds m (feed xs out work) (fedBy m xs out)
 unfolding taken
 adds-feed m xs out work =
-    ap (λ (s : List ℕ). m .samples ++ s) (take-length-take (takes (settingOf (m .opening)) (length (m .samples)) (length xs) (length out)) xs)
+    ap (λ (s : List ℕ). m .samples ++ s)
+    (take-length-take (takes (settingOf (m .opening)) (length (m .samples)) (length xs) (length out)) xs)
 
 adds : (m : Model) (c : Call) → Adds m c (outcome m c)
 adds m (feed xs out work) = by-feed m xs out work (Adds m (feed xs out work)) (append-nil (m .samples)) (append-nil (m .samples)) (adds-feed m xs out work)

@@ -31,4 +31,5 @@ pub seams : (a b c : List ℕ) → Extends a b → Extends b c → drop (length 
 seams a b c p q =
     sym (drop-append-seam a (drop (length a) b ++ drop (length b) c))
     ∙ ap (drop (length a))
-    (sym (append-assoc a (drop (length a) b) (drop (length b) c)) ∙ ap (λ (l : List ℕ). l ++ drop (length b) c) (sym (behind p)) ∙ sym (behind q))
+    (sym (append-assoc a (drop (length a) b) (drop (length b) c))
+    ∙ ap (λ (l : List ℕ). l ++ drop (length b) c) (sym (behind p)) ∙ sym (behind q))

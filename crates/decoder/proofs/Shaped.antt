@@ -29,7 +29,8 @@ module _ (o : Settings) (s : List ℕ) (h : Header) where
       let t = unless (eqb (w .0) 0 || eqb (n .0 .0) 0) 8 (n .0 .1) _ h (n .2) in
       let z = neither (eqb (w .0) 0) (eqb (n .0 .0) 0) (t .0) in
       let q = t .1 in
-      let same : record { width = w .0; height = n .0 .0; fix = fix; fields = f .0; start = start; sizes = f .1; body = n .0 .1 } ≡ h = cc in
+      let same : record { width = w .0; height = n .0 .0; fix = fix; fields = f .0; start = start; sizes = f .1; body = n .0 .1 } ≡ h =
+      cc in
       subst (Shaped s) same
       (record {
         wide = pos-of-ne-zero (eqb-false (w .0) 0 (z .0));

@@ -37,7 +37,8 @@ module _ (w h s : ℕ) where
     planes-kept (suc n) b =
         let e = suc-mul n (neededBytes w h s) in
         ap (λ (p : List ℕ). p ++ wireBits f w h s (lentPlane w h s (planes ++ ρ) n)) (planes-kept n (omega arith))
-        ∙ ap (λ (p : List ℕ). wirePlanes f w h s planes n ++ wireBits f w h s p) (part-append (neededBytes w h s) (n * neededBytes w h s) planes ρ (omega arith))
+        ∙ ap (λ (p : List ℕ). wirePlanes f w h s planes n ++ wireBits f w h s p)
+        (part-append (neededBytes w h s) (n * neededBytes w h s) planes ρ (omega arith))
 
     pub surplus-ignored : (ceiling : ℕ) (o : EncodeOptions) (n : ℕ) (text lengths : List ℕ) → checkPlanes ceiling w h n s (length planes) ≡ gives tt
         → fileOfPlanes ceiling o f w h n s (planes ++ ρ) text lengths ≡ fileOfPlanes ceiling o f w h n s planes text lengths

@@ -37,7 +37,8 @@ returns-2 c =
 returns-3 : tie.Need-returns-3
 returns-3 c =
     let a = c .before .before .before .before .args in
-    many (a .most) (a .total-bytes) (a .input-len - a .data-offset) (le-of-lt (subst (λ (k : ℕ). a .most < k) (quotient (c .before)) (c .if2 .left)))
+    many (a .most) (a .total-bytes) (a .input-len - a .data-offset)
+    (le-of-lt (subst (λ (k : ℕ). a .most < k) (quotient (c .before)) (c .if2 .left)))
 
 pub animated-frame-count-spec : {M : Type 1} → statement M
 animated-frame-count-spec =
