@@ -11,6 +11,7 @@ use lib.Arith.{lt-of-le-ne}
 use lib.Bits.{bitAnd}
 use lib.Dec.{eqb}
 use lib.ListN.{getD}
+use Rattle.laws.proofs.Tests.{and-false}
 use Rattle.image.specs.Geometry.{rowBytes, paddingBits, paddingMask}
 use Rattle.image.specs.Rows.{clearLow}
 use Rattle.image.proofs.Masked.{mask-low}
@@ -72,11 +73,8 @@ module _ (width : ℕ) (body : List ℕ) where
   unfolding areClear
   found y (suc n) q l = go (eqb y n) refl (found y n q)
     where
-      not-all : (t : Bool) → (t && false) ≡ false
-      not-all true = refl
-      not-all false = refl
-
       go : (t : Bool) → eqb y n ≡ t → (y < n → false ≡ areClear width body n) → false ≡ (areClear width body n && isClear width body n)
       go true e ih =
-          sym (ap (λ (t : Bool). areClear width body n && t) (ap (isClear width body) (sym (eqb-true y n e)) ∙ q) ∙ not-all (areClear width body n))
+          sym (ap (λ (t : Bool). areClear width body n && t) (ap (isClear width body) (sym (eqb-true y n e)) ∙ q)
+          ∙ and-false (areClear width body n))
       go false e ih = let d = eqb-false y n e in ap (λ (t : Bool). t && isClear width body n) (ih (lt-of-le-ne (omega arith) d))

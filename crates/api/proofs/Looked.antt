@@ -3,10 +3,10 @@ use Prim.Native.Nat.{ℕ, _*_, _/_, _≤_, _<_}
 use mathlib.Core.Path.{_≡_, sym, ap, _∙_, subst}
 use mathlib.Core.Bool.{true, false}
 use mathlib.Core.List.{List}
-use native.Mathlib.Nat.{mul-le-mul}
 use native.Mathlib.Omega.{arith}
 use borrow.Author.Tests.{le-leb, lt-leb}
 use lib.ListN.{length}
+use Rattle.image.proofs.PlaneSizes as planes
 use Rattle.image.specs.Geometry.{rowBytes, paddingMask, layoutOf}
 use Rattle.image.specs.declared.PlaneLayout.{PlaneLayout}
 use Rattle.api.specs.Sniff.{areClear, sniffLength, sniffBody}
@@ -25,8 +25,7 @@ module _ (w h : ℕ) (body : List ℕ) (l : PlaneLayout) (laid : l ≡ layoutOf 
   pub plane-some : 0 < w → 0 < h → 0 < l .«total_bytes»
   plane-some p q =
       let e : l .«total_bytes» ≡ rowBytes w * h = ap (λ (l : PlaneLayout). l .«total_bytes») laid in
-      let m : 1 * 1 ≤ rowBytes w * h = mul-le-mul {n₁ = 1} {m₁ = 1} {n₂ = rowBytes w} {m₂ = h} (omega arith) (omega arith) in
-      subst (λ (n : ℕ). 0 < n) (sym e) (omega arith)
+      subst (λ (n : ℕ). 0 < n) (sym e) (planes.plane-some w h p q)
 
   pub no-row : length body < l .stride → sniffBody w h body ≡ Neither
   unfolding sniffBody

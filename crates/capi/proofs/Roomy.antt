@@ -12,7 +12,7 @@ use Rattle.options.specs.Limits.{Decoding}
 use Rattle.decoder.specs.Body.{planeOf, framesIn}
 use Rattle.decoder.specs.Image.{readImage}
 use Rattle.decoder.specs.Frames.{Image, imageOf, fitted, decoded}
-use Rattle.decoder.proofs.Fitted.{plane-there, frames-there}
+use Rattle.decoder.proofs.Fitted.{image-parts, frames-there}
 
 pub roomy : (more : ℕ) (d : Decoding) (bytes : List ℕ) (room : ℕ) → length bytes ≤ room
     → decoded (1 + more) d bytes room ≡ map (λ h. imageOf h (framesIn (1 + more) (length bytes) h)) (readImage d bytes)
@@ -22,7 +22,7 @@ roomy more d bytes room l = go (readImage d bytes) refl
     go : (x : Answer Outline) → readImage d bytes ≡ x
         → bind x (λ h. fitted room h (framesIn (1 + more) (length bytes) h)) ≡ map (λ h. imageOf h (framesIn (1 + more) (length bytes) h)) x
     go (gives h) e =
-        let t = frames-there more bytes h (framesIn (1 + more) (length bytes) h) refl (plane-there d bytes h e) in
+        let t = frames-there more bytes h (framesIn (1 + more) (length bytes) h) refl (image-parts d bytes h e .1) in
         if-true _ _ _ (le-leb (framesIn (1 + more) (length bytes) h * planeOf h) room (omega (arith, t)))
     go (refuses code offset) e = refl
 

@@ -1,16 +1,14 @@
 -- Lists of calls that code makes.
 use Prim.Native.Nat.{ℕ, _^_, _<_}
-use mathlib.Core.Path.{_≡_, refl, sym, ap, _∙_, subst}
-use mathlib.Core.Bool.{Bool, true, false}
+use mathlib.Core.Path.{_≡_, sym, ap, _∙_, subst}
 use mathlib.Core.List.{List, [], _∷_, _++_}
 use lib.Dec.{leb}
 use lib.IntN.{ℤ}
 use lib.ListN.{length, take, drop}
 use lib.Seq.{take-append-seam}
-use Rattle.error.specs.Choice.{if}
 use Rattle.error.specs.Answer.{Answer, gives, refuses, written}
 use Rattle.error.specs.Emits.{Emits}
-use Rattle.laws.proofs.Tests.{zero-one}
+use Rattle.laws.proofs.Emitted.{emitted-is}
 use Rattle.options.specs.Limits.{Decoding}
 use Rattle.decode_session.specs.Model as Reading
 use Rattle.decode_session.specs.Session as ReadingSession
@@ -51,17 +49,6 @@ reads-card d piece out ext out′ ext′ o f c seen p q r s =
             sym (ap (λ (x : Reading.Reply). x .extension) (a .0)),
           );
     }
-
--- what a writer wrote
-pub emitted-is : (a : Answer (List ℕ)) (n : ℕ) (old new : List ℕ) → Emits a (gives n) old new
-    → (bytes : List ℕ) × (a ≡ gives bytes) × (n ≡ length bytes) × (new ≡ bytes ++ drop (length bytes) old)
-emitted-is (refuses code place) n old new e = let z = e .answer in zero-one (cc)
-emitted-is (gives bytes) n old new e = go (leb (length bytes) (length old)) (e .answer) (e .bytes)
-  where
-    go : (t : Bool) → gives n ≡ if t (gives (length bytes)) (refuses 25 0) → new ≡ if t (bytes ++ drop (length bytes) old) old
-        → (b : List ℕ) × (gives bytes ≡ gives b) × (n ≡ length b) × (new ≡ b ++ drop (length b) old)
-    go true p q = (bytes, refl, (cc), q)
-    go false p q = zero-one (cc)
 
 -- calls behind an accepted opening
 pub made-list : (a : Making.Opening) (work : List ℤ) (old new : List ℕ) (o : EncodeOpened) (last : EncodeSession) (cs : List Making.Call) (rs : List Making.Reply)

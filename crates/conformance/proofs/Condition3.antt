@@ -1,17 +1,16 @@
 -- Condition 3 of the tender.
 use Prim.Native.Nat.{ℕ, _*_, _≤_}
-use mathlib.Core.Path.{_≡_, refl, sym, ap, _∙_, subst}
-use mathlib.Core.Bool.{Bool, true, false, _||_}
+use mathlib.Core.Path.{_≡_, sym, ap, _∙_, subst}
+use mathlib.Core.Bool.{true, _||_}
 use mathlib.Core.List.{List, _++_}
 use native.Mathlib.Omega.{arith}
 use lib.Dec.{eqb}
 use lib.ListN.{length, take, drop}
 use lib.Seq.{take-all, take-append-seam}
-use Rattle.error.specs.Choice.{if}
-use Rattle.error.specs.Answer.{Answer, gives, refuses, map, bind}
+use Rattle.error.specs.Answer.{Answer, gives, map}
 use Rattle.error.specs.Emits.{Emits}
-use Rattle.laws.proofs.Tests.{zero-one}
-use Rattle.ext.specs.Kinds.{Fields}
+use Rattle.laws.proofs.Answers.{bind-gives, unless}
+use Rattle.laws.proofs.Emitted.{emitted-is}
 use Rattle.header.specs.Write.{presented}
 use Rattle.options.specs.Limits.{Decoding, ceilingOf}
 use Rattle.quantize.specs.Engine.{setting}
@@ -26,20 +25,12 @@ use Rattle.encode_session.proofs.Theorems.{lists, bytes-joined, closed-whole}
 use Rattle.decode_session.specs.Model.{nothing}
 use Rattle.decode_session.proofs.Cuts.{unmet, whole}
 use Rattle.conformance.specs.Lists.{MakingList, Card, samplesOf, wasClosed, Condition3}
-use Rattle.conformance.proofs.Calling.{emitted-is}
 use Rattle.conformance.proofs.Made.{made-is}
 use Rattle.conformance.proofs.Taken.{samples-taken, closed-machine}
 use Rattle.conformance.proofs.CutShown.{admitted, some-read, replied, shows}
 use Rattle.conformance.proofs.CutRead.{begins}
 
 -- ---- making
-
--- a header that is given has fields
-fields-of : (t : Bool) (x : Answer Fields) (g : Fields → Answer (List ℕ)) (bytes : List ℕ) → if t (refuses 8 0) (bind x g) ≡ gives bytes
-    → (f : Fields) × (x ≡ gives f)
-fields-of true x g bytes e = zero-one (cc)
-fields-of false (gives f) g bytes e = (f, refl)
-fields-of false (refuses code place) g bytes e = zero-one (cc)
 
 module _ {a : Making.Opening} {header : List ℕ} {cs : List Making.Call} {rs : List Making.Reply} (l : MakingList a header cs rs) where
   header-written : (Making.header a (length (l .work)) ≡ gives header) × (l .new ≡ header ++ drop (length header) (l .old))
@@ -91,7 +82,8 @@ module _ {a : Making.Opening} {header : List ℕ} {cs : List Making.Call} {rs : 
   card-closed e =
       let f = closed-whole (l .opens) (length header) (l .accepted) (l .trace) (closed-machine (Making.opened a) cs (ap wasClosed (sym replied-as) ∙ e)) in
       let all = ap length scans-are ∙ f .all in
-      let g = fields-of (eqb (a .width) 0 || eqb (a .height) 0) (presented (a .options .ext) (a .text) (a .lengths)) _ header (tests .headed) in
+      let t = unless (eqb (a .width) 0 || eqb (a .height) 0) 8 0 _ header (tests .headed) in
+      let g = bind-gives (presented (a .options .ext) (a .text) (a .lengths)) _ header (t .1) in
       let w = 2 * a .width in (
         f .count,
         record {

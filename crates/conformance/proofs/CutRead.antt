@@ -1,22 +1,19 @@
 -- Any file that whole reading accepts, read under a cut: the outputs begin with what whole reading writes.
 use Prim.Native.Nat.{ℕ, _+_, _-_, _*_, _≤_}
 use mathlib.Core.Path.{_≡_, refl, sym, ap, _∙_}
-use mathlib.Core.Bool.{Bool, true, false}
+use mathlib.Core.Bool.{false}
 use mathlib.Core.List.{List}
 use native.Mathlib.Omega.{arith}
-use borrow.Author.Tests.{ltb-false}
-use lib.Dec.{ltb}
 use lib.ListN.{length, take}
-use Rattle.error.specs.Choice.{if}
-use Rattle.error.specs.Answer.{Answer, gives, refuses, map, bind}
+use Rattle.error.specs.Answer.{Answer, gives, refuses, map}
 use Rattle.laws.proofs.Tests.{zero-one}
 use Rattle.header.specs.Read.{Outline}
-use Rattle.options.specs.Limits.{Decoding, ceilingOf, checkLimits}
+use Rattle.options.specs.Limits.{Decoding, ceilingOf}
 use Rattle.decoder.specs.Body.{planeOf, framesIn, planes}
-use Rattle.decoder.specs.Image.{imageSettings, headerOf, testBody, readImage}
+use Rattle.decoder.specs.Image.{readImage}
 use Rattle.decoder.specs.Frames.{shown}
 use Rattle.decoder.proofs.Counted.{at-most, frames-fit}
-use Rattle.decoder.proofs.Shaped.{outline-shape}
+use Rattle.decoder.proofs.Fitted.{image-parts}
 use Rattle.decoder.proofs.Planed.{planes-length}
 use Rattle.decode_session.specs.Model.{Call, Told, Reply}
 use Rattle.decode_session.specs.Trace.{Cut, joined}
@@ -24,27 +21,6 @@ use Rattle.decode_session.specs.declared.DecodeSession.{DecodeSession}
 use Rattle.decode_session.proofs.WholeReading.{sequence-planes}
 use Rattle.conformance.specs.Lists.{ReadingList}
 use Rattle.conformance.proofs.CutShown.{some-read, joined-is}
-
--- the header and the first plane of a file that is read
-read-parts : (d : Decoding) (bytes : List ℕ) (h : Outline) → readImage d bytes ≡ gives h
-    → (headerOf (d .mode) bytes ≡ gives h) × (planeOf h ≤ length bytes - h .body)
-unfolding readImage testBody
-read-parts d bytes h e = go (headerOf (d .mode) bytes) refl e
-  where
-    by : (g : Outline) (t : Bool) → ltb (length bytes - g .body) (planeOf g) ≡ t → if t (refuses 20 (g .body)) (gives g) ≡ gives h
-        → (gives g ≡ gives h) × (planeOf h ≤ length bytes - h .body)
-    by g true p q = zero-one (cc)
-    by g false p q = let s : g ≡ h = cc in (q, rw (sym s) (ltb-false (length bytes - g .body) (planeOf g) p))
-
-    in-limits : (g : Outline) (c : Answer (Unit {0})) → bind c (λ _. if (ltb (length bytes - g .body) (planeOf g)) (refuses 20 (g .body)) (gives g)) ≡ gives h
-        → (gives g ≡ gives h) × (planeOf h ≤ length bytes - h .body)
-    in-limits g (gives tt) q = by g (ltb (length bytes - g .body) (planeOf g)) refl q
-    in-limits g (refuses code place) q = zero-one (cc)
-
-    go : (x : Answer Outline) → headerOf (d .mode) bytes ≡ x → bind x (testBody d (length bytes)) ≡ gives h
-        → (headerOf (d .mode) bytes ≡ gives h) × (planeOf h ≤ length bytes - h .body)
-    go (gives g) p q = let r = in-limits g (checkLimits d (g .width) (g .height) (planeOf g) (g .body)) q in (p ∙ r .0, r .1)
-    go (refuses code place) p q = zero-one (cc)
 
 pub begins : {d : Decoding} {file : List ℕ} {cs : List Call} {rs : List Reply} {last : DecodeSession} {extension : List ℕ} {closing : Answer Told}
     → ReadingList d cs rs last extension → Cut file 0 false cs rs closing → (out : List ℕ) → shown (ceilingOf d) d file ≡ gives out → take (length out) (joined rs) ≡ out
@@ -54,12 +30,11 @@ begins {d} {file} {rs = rs} l cut out e = go (readImage d file) refl e
     go : (x : Answer Outline) → readImage d file ≡ x → map (λ h. planes (d .format) file h (framesIn (ceilingOf d) (length file) h)) x ≡ gives out → take (length out) (joined rs) ≡ out
     go (refuses code place) p q = zero-one (cc)
     go (gives h) p q =
-        let r = read-parts d file h p in
-        let shape = outline-shape (imageSettings (d .mode)) file h (r .0) in
+        let r = image-parts d file h p in
         let n = framesIn (ceilingOf d) (length file) h in
         let few = at-most (ceilingOf d - 1) (planeOf h) (length file - h .body) in
-        let fit = frames-fit (ceilingOf d - 1) (planeOf h) (length file - h .body) (r .1) in
-        let there : h .body + n * planeOf h ≤ length file = omega (arith, fit, shape .2) in
+        let fit = frames-fit (ceilingOf d - 1) (planeOf h) (length file - h .body) (omega (arith, r .1)) in
+        let there : h .body + n * planeOf h ≤ length file = omega (arith, fit, r .1) in
         let is : planes (d .format) file h n ≡ out = cc in
         let size : length out ≡ n * planeOf h = ap length (sym is) ∙ planes-length (d .format) file h n there in
         ap (λ (k : ℕ). take k (joined rs)) size

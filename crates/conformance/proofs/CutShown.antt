@@ -10,7 +10,7 @@ use lib.ListN.{length, take, drop}
 use lib.Seq.{sets, take-length}
 use Rattle.error.specs.Choice.{if}
 use Rattle.error.specs.Answer.{Answer, gives, refuses, map}
-use Rattle.laws.proofs.Tests.{zero-one}
+use Rattle.laws.proofs.Answers.{bind-gives, when}
 use Rattle.mbi.specs.Bytes.{mbiBytes, groups}
 use Rattle.ext.specs.Kinds.{Fields, none, bitfield, reserved, pairs, spanOf}
 use Rattle.ext.specs.Ceiling.{Readable}
@@ -27,7 +27,6 @@ use Rattle.quantize.specs.Finished.{finished}
 use Rattle.decoder.specs.Body.{framesIn, planes}
 use Rattle.decoder.specs.Image.{imageSettings, headerOf, readImage}
 use Rattle.decoder.specs.Frames.{shown}
-use Rattle.decoder.proofs.Shaped.{bind-gives}
 use Rattle.encoder.specs.Make.{scanBytes, fileOfScans}
 use Rattle.encode_session.specs.Model as Making
 use Rattle.decode_session.specs.Extension.{fieldBytes}
@@ -50,17 +49,11 @@ use Rattle.conformance.proofs.ReadBack.{all-there, image-read, frames-a
 use Rattle.conformance.proofs.Made.{Passed, passed, body-size, made-back}
 use Rattle.conformance.proofs.FieldsLeft.{Left, left-none, left-more, left-shows}
 
--- an accepted opening was lent enough
-enough : (n : ℕ) → _≡_ {A = Answer (Unit {0})} (if (leb 4118 n) (gives tt) (refuses 28 0)) (gives tt) → 4118 ≤ n
-enough n e = go (leb 4118 n) refl e
-  where
-    go : (t : Bool) → leb 4118 n ≡ t → _≡_ {A = Answer (Unit {0})} (if t (gives tt) (refuses 28 0)) (gives tt) → 4118 ≤ n
-    go true p q = leb-true 4118 n p
-    go false p q = zero-one (cc)
-
--- and its settings passed their test
+-- the settings of an accepted opening passed their test, and it was lent enough
 opening-says : (d : Decoding) (n : ℕ) → opening d n ≡ gives tt → (1 ≤ ceilingOf d) × (4118 ≤ n)
-opening-says d n = bind-gives (settled d) (λ _. if (leb 4118 n) (gives tt) (refuses 28 0)) tt (λ e p q. (tested d e p .some, enough n q))
+opening-says d n e =
+    let b = bind-gives (settled d) (λ _. if (leb 4118 n) (gives tt) (refuses 28 0)) tt e in
+    (tested d (b .0) (b .1) .some, leb-true 4118 n (when (leb 4118 n) 28 0 (gives tt) tt (b .2) .0))
 
 -- the plain machine accepts what is accepted
 module _ {d : Decoding} {cs : List Call} {rs : List Reply} {last : DecodeSession} {extension : List ℕ} (l : ReadingList d cs rs last extension) where

@@ -1,20 +1,22 @@
 -- What a file that is written or made consists of.
-use Prim.Native.Nat.{ℕ, _+_, _≤_, _<_}
+use Prim.Native.Nat.{ℕ, _+_, _<_}
 use mathlib.Core.Path.{_≡_, refl, sym, ap, _∙_, subst}
 use mathlib.Core.Bool.{Bool, true, false, _||_}
 use mathlib.Core.List.{List, [], _∷_, _++_}
 use mathlib.Core.Logic.{_⊎_, inl, inr}
+use native.Mathlib.Nat.{pos-of-ne-zero}
 use native.Mathlib.Omega.{arith}
+use borrow.Author.Tests.{eqb-false}
 use lib.Dec.{eqb}
 use lib.ListN.{length, drop, length-append}
 use lib.Seq.{drop-at}
 use Rattle.error.specs.Choice.{if}
-use Rattle.error.specs.Answer.{Answer, gives, refuses}
-use Rattle.laws.proofs.Tests.{zero-one}
+use Rattle.error.specs.Answer.{gives, refuses}
+use Rattle.laws.proofs.Answers.{bind-gives, map-gives, unless}
+use Rattle.laws.proofs.Tests.{neither, zero-one}
 use Rattle.mbi.specs.Bytes.{mbiBytes, groups}
 use Rattle.ext.specs.Kinds.{Fields, none, bitfield, reserved, pairs}
 use Rattle.ext.specs.Write.{fieldsBytes, lentFields, cutPairs, sum}
-use Rattle.ext.proofs.Answers.{map-gives}
 use Rattle.ext.specs.declared.ExtFieldType.the-variants.{Bitfield00, Reserved01, Reserved10, ParameterPairs11}
 use Rattle.header.specs.Settings.{Settings}
 use Rattle.header.specs.Read.{Header, readHeader}
@@ -25,7 +27,6 @@ use Rattle.header.proofs.RoundTrip.{shown, Fitting, header-back}
 use Rattle.options.specs.Limits.{Mode, lenient, strict}
 use Rattle.options.specs.declared.EncodeOptions.{EncodeOptions}
 use Rattle.decoder.specs.Image.{imageSettings}
-use Rattle.decoder.proofs.Shaped.{bind-gives, unless, positive, neither}
 use Rattle.encoder.specs.File.{fileOf}
 use Rattle.conformance.specs.ReadBack.{Taken}
 
@@ -42,18 +43,19 @@ pub filed : (o : EncodeOptions) (width height : ℕ) (text lengths body bytes : 
     → Filed (o .strict) width height fields body bytes
 filed o width height text lengths body bytes fields lent e =
     let m = map-gives (λ (header : List ℕ). header ++ body) (extHeader (o .strict) width height (o .ext) text lengths) bytes e in
-    unless (eqb width 0 || eqb height 0) 8 0 _ (m .0) (λ t.
-    let z = neither (eqb width 0) (eqb height 0) t in
-    bind-gives (presented (o .ext) text lengths) (fieldsHeader (o .strict) width height) (m .0) (λ f p q.
-    let same : f ≡ fields = cc in
-    let n = map-gives (λ (fb : List ℕ). headerBytes (fixByte f) fb width height) (fieldsBytes (o .strict) f) (m .0) q in
+    let t = unless (eqb width 0 || eqb height 0) 8 0 _ (m .0) (m .1) in
+    let z = neither (eqb width 0) (eqb height 0) (t .0) in
+    let f = bind-gives (presented (o .ext) text lengths) (fieldsHeader (o .strict) width height) (m .0) (t .1) in
+    let p = f .1 in
+    let same : f .0 ≡ fields = cc in
+    let n = map-gives (λ (fb : List ℕ). headerBytes (fixByte (f .0)) fb width height) (fieldsBytes (o .strict) (f .0)) (m .0) (f .2) in
     record {
       fieldBytes = n .0;
-      wide = positive width (z .0);
-      high = positive height (z .1);
-      fieldsGive = rw (← same) (n .1);
+      wide = pos-of-ne-zero (eqb-false width 0 (z .0));
+      high = pos-of-ne-zero (eqb-false height 0 (z .1));
+      fieldsGive = subst (λ (g : Fields). fieldsBytes (o .strict) g ≡ gives (n .0)) same (n .1);
       bytesAre = sym (m .2) ∙ ap (λ (l : List ℕ). l ++ body) (sym (n .2)) ∙ ap (λ (g : Fields). headerBytes (fixByte g) (n .0) width height ++ body) same;
-    })) (m .1)
+    }
 
 -- the header is read, and the body stands behind it
 header-length : (fix : ℕ) (fields : List ℕ) (w h : ℕ)

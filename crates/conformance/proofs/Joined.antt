@@ -3,19 +3,12 @@ use Prim.Native.Nat.{ℕ, zero, suc, _+_, _*_, _≤_, _<_}
 use mathlib.Core.Path.{_≡_, refl, sym, ap, _∙_}
 use mathlib.Core.Bool.{Bool, true, false}
 use mathlib.Core.List.{List, _++_}
-use native.Mathlib.Nat.{mul-le-mul-right}
 use native.Mathlib.Omega.{arith}
 use borrow.Author.Tests.{ltb-true, ltb-false}
 use lib.Dec.{ltb}
 use lib.ListN.{length, take, drop, length-append, length-drop}
 use lib.Seq.{take-append-le, drop-append-le, drop-at, take-all}
-
--- the first k + 1 of n are among them
-pub up-to : (size k n : ℕ) → k < n → k * size + size ≤ n * size
-up-to size k n l =
-    let p : suc k * size ≤ n * size = mul-le-mul-right size l in
-    let q : suc k * size ≡ k * size + size = omega arith in
-    omega arith
+use Rattle.laws.proofs.Products.{up-to}
 
 module _ (size most : ℕ) (piece joined : ℕ → List ℕ) (long : (k : ℕ) → k ≤ most → length (joined k) ≡ k * size)
     (next : (k : ℕ) → k < most → joined (suc k) ≡ joined k ++ piece k) where

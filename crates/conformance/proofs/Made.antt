@@ -1,5 +1,5 @@
 -- What is made is read back, and sniffing says exact of it without fields and with sizes up to 16,384.
-use Prim.Native.Nat.{ℕ, _-_, _*_, _≤_, _<_}
+use Prim.Native.Nat.{ℕ, _*_, _≤_, _<_}
 use mathlib.Core.Path.{_≡_, ap, _∙_}
 use mathlib.Core.Bool.{true}
 use mathlib.Core.List.{List, _++_}
@@ -7,6 +7,8 @@ use native.Mathlib.Nat.{mul-le-mul-right}
 use native.Mathlib.Omega.{arith}
 use lib.ListN.{length, take, drop, length-drop}
 use Rattle.error.specs.Answer.{gives}
+use Rattle.laws.proofs.Answers.{bind-gives}
+use Rattle.laws.proofs.Products.{up-to}
 use Rattle.ext.specs.Kinds.{Fields, none}
 use Rattle.header.specs.Write.{presented, extHeader}
 use Rattle.header.specs.declared.ExtPresence.{ExtPresence}
@@ -21,14 +23,13 @@ use Rattle.quantize.specs.Engine.{setting}
 use Rattle.quantize.specs.Finished.{finished}
 use Rattle.quantize.proofs.Joining.{scans-long, scans-more}
 use Rattle.quantize.proofs.Wholes.{plane-long}
-use Rattle.decoder.proofs.Shaped.{bind-gives}
 use Rattle.encoder.specs.File.{fileOf}
 use Rattle.encoder.specs.Make.{checkScans, scanBytes, fileOfScans}
 use Rattle.encoder.proofs.Scanned.{Passed as Passes, passed as scans-passed}
 use Rattle.api.specs.Sniff.{isClear, sniffed}
 use Rattle.api.specs.declared.Sniffed.the-variants.{Exact}
 use Rattle.conformance.specs.ReadBack.{Taken, Admitted, planeIn, lentScan, scanWhite, ReadsBack}
-use Rattle.conformance.proofs.Joined.{up-to, piece-back}
+use Rattle.conformance.proofs.Joined.{piece-back}
 use Rattle.conformance.proofs.Files.{filed, fitting, plain}
 use Rattle.conformance.proofs.ReadBack.{file-back, renamed}
 use Rattle.conformance.proofs.ScanDots.{finished-octets, finished-last, scan-dots}
@@ -42,8 +43,9 @@ module _ (ceiling : ℕ) (o : EncodeOptions) (width height count : ℕ) (gray te
 
   pub passed : fileOfScans ceiling o width height count gray text lengths work ≡ gives bytes → Passed
   unfolding fileOfScans
-  passed = bind-gives (checkScans ceiling (o .quantize) width height count (length gray) work) _ bytes
-      (λ _ p e. record { tests = scans-passed ceiling (o .quantize) width height count (length gray) work p; file = e })
+  passed e =
+      let p = bind-gives (checkScans ceiling (o .quantize) width height count (length gray) work) _ bytes e in
+      record { tests = scans-passed ceiling (o .quantize) width height count (length gray) work (p .1); file = p .2 }
 
 -- the planes of so many scans
 module _ (rule : Quantize) (width height : ℕ) (gray : List ℕ) (wide : 0 < width) (high : 0 < height) (count : ℕ)

@@ -3,15 +3,17 @@ use Prim.Native.Nat.{ℕ, zero, suc, _+_, _-_, _*_, _/_, _≤_, _<_, min}
 use mathlib.Core.Path.{_≡_, refl, sym, ap, _∙_, subst}
 use mathlib.Core.Bool.{Bool, true, false}
 use mathlib.Core.List.{List, _++_}
-use native.Mathlib.Nat.{mul-le-mul-right, mul-div-cancel, mul-le-mul}
+use native.Mathlib.Nat.{mul-le-mul-right, mul-div-cancel}
 use native.Mathlib.Omega.{arith}
 use borrow.Author.Tests.{leb-true, leb-false, le-leb, le-ltb}
 use lib.Dec.{leb}
-use lib.ListN.{length, take, drop, length-drop}
-use lib.Seq.{drop-drop, length-take-le}
+use lib.ListN.{length, take, drop}
+use lib.Seq.{drop-drop}
 use Rattle.error.specs.Answer.{Answer, gives, bind, map}
+use Rattle.laws.proofs.Lists.{length-part}
 use Rattle.laws.proofs.Octets.{Octets}
 use Rattle.laws.proofs.Tests.{if-true}
+use Rattle.laws.proofs.Products.{up-to, one-of}
 use Rattle.ext.specs.Kinds.{Fields}
 use Rattle.header.specs.Read.{Header, Outline, outline, readHeader}
 use Rattle.header.proofs.RoundTrip.{Fitting}
@@ -19,6 +21,7 @@ use Rattle.image.specs.Geometry.{rowBytes, planeBytes}
 use Rattle.image.specs.Dots.{isWhite}
 use Rattle.image.specs.Rows.{convertFormat}
 use Rattle.image.specs.declared.PixelFormat.the-variants.{MonoBlack}
+use Rattle.image.proofs.PlaneSizes.{plane-some}
 use Rattle.image.proofs.Masked.{bytes-source}
 use Rattle.image.proofs.Wiring.{source-there}
 use Rattle.options.specs.Limits.{Decoding, checkLimits}
@@ -28,7 +31,7 @@ use Rattle.decoder.specs.Frames.{imageOf, fitted, decoded, shown}
 use Rattle.decoder.proofs.Counted.{few, many}
 use Rattle.decoder.proofs.Planed.{planes-length}
 use Rattle.conformance.specs.ReadBack.{Admitted, planeIn, ReadsBack}
-use Rattle.conformance.proofs.Joined.{up-to, piece-back}
+use Rattle.conformance.proofs.Joined.{piece-back}
 use Rattle.conformance.proofs.Files.{Filed, head, header-read, behind, size-is}
 use Rattle.conformance.proofs.ReadDots.{read-dots}
 
@@ -48,11 +51,6 @@ planes-counted most (suc n) plane size p c r e = go (leb n (most - 1)) refl
     go false l =
         let k = leb-false n (most - 1) l in
         ap (λ (k : ℕ). 1 + k) (sym (many (most - 1) plane size (omega (arith, whole)))) ∙ omega arith
-
-pub plane-some : (w h : ℕ) → 0 < w → 0 < h → 0 < planeBytes w h
-plane-some w h p q =
-    let m : 1 * 1 ≤ rowBytes w * h = mul-le-mul {n₁ = 1} {m₁ = 1} {n₂ = rowBytes w} {m₂ = h} (omega arith) (omega arith) in
-    omega arith
 
 module _ (most : ℕ) (d : Decoding) (strict : Bool) (width height : ℕ) (fields : Fields) (count : ℕ) (body bytes : List ℕ)
     (f : Filed strict width height fields body bytes) (c : 1 ≤ count) (r : 1 ≤ most) (wb : width < 4294967296) (hb : height < 4294967296)
@@ -78,7 +76,7 @@ module _ (most : ℕ) (d : Decoding) (strict : Bool) (width height : ℕ) (field
   left = omega (arith, all-there)
 
   one-there : plane ≤ count * plane
-  one-there = let m : 1 * plane ≤ count * plane = mul-le-mul-right plane c in omega arith
+  one-there = one-of plane count c
 
   pub image-read : readImage d bytes ≡ gives (outline header)
   unfolding readImage testBody checkLimits
@@ -121,7 +119,7 @@ module _ (most : ℕ) (d : Decoding) (strict : Bool) (width height : ℕ) (field
 
   -- the bytes of plane k
   source-size : (k : ℕ) → k < count → length (planeIn width height body k) ≡ plane
-  source-size k l = length-take-le plane (drop (k * plane) body) (rw length-drop (omega (arith, up-to plane k count l, whole)))
+  source-size k l = length-part plane (k * plane) body (omega (arith, up-to plane k count l, whole))
 
   source-bytes : Octets body → (k : ℕ) → k < count → Octets (planeIn width height body k)
   source-bytes o k l =

@@ -2,13 +2,13 @@
 use Prim.Native.Nat.{ℕ, _+_, _*_, _/_, _%_, _<_}
 use mathlib.Core.Path.{_≡_, sym, ap, _∙_, subst}
 use mathlib.Core.List.{List}
-use native.Mathlib.Nat.{mul-comm, mod-lt, div-add-mod', div-lt-iff-lt-mul}
+use native.Mathlib.Nat.{mod-lt, div-add-mod', div-lt-iff-lt-mul}
 use native.Mathlib.Omega.{arith}
 use lib.ListN.{getD, drop}
 use lib.Seq.{getD-take, getD-drop}
 use Rattle.image.specs.Geometry.{rowBytes, planeBytes}
+use Rattle.image.proofs.PlaneSizes.{byte-inside}
 use Rattle.conformance.specs.ReadBack.{planeIn}
-use Rattle.conformance.proofs.Joined.{up-to}
 
 regrouped : (k h y r j : ℕ) → (k * h + y) * r + j ≡ k * (r * h) + (y * r + j)
 regrouped k h y r j = omega arith
@@ -18,9 +18,7 @@ pub plane-byte : (width height : ℕ) (body : List ℕ) (k y j : ℕ) → y < he
     → getD (planeIn width height body k) (y * rowBytes width + j) 0 ≡ getD body ((k * height + y) * rowBytes width + j) 0
 plane-byte width height body k y j l i =
     let r = rowBytes width in
-    let m = up-to r y height l in
-    let q = mul-comm height r in
-    getD-take (planeBytes width height) (drop (k * planeBytes width height) body) (y * r + j) 0 (omega arith)
+    getD-take (planeBytes width height) (drop (k * planeBytes width height) body) (y * r + j) 0 (byte-inside width height y j l i)
     ∙ getD-drop (k * planeBytes width height) body (y * r + j) 0
     ∙ ap (λ (i : ℕ). getD body i 0) (sym (regrouped k height y r j))
 

@@ -2,44 +2,30 @@
 use Prim.Native.Nat.{ℕ, zero, suc, _+_, _-_, _*_, _/_, _%_, _^_, _≤_, _<_}
 use mathlib.Core.Path.{_≡_, refl, sym, ap, _∙_, subst}
 use mathlib.Core.Bool.{Bool, true, false, _&&_}
-use mathlib.Core.List.{List, [], _∷_, _++_}
+use mathlib.Core.List.{List}
 use native.Mathlib.Nat.{pow-suc, mul-comm, div-div-eq-div-mul, div-eq-of-lt, mod-eq-of-lt}
 use native.Mathlib.Omega.{arith}
 use borrow.Author.Tests.{ltb-true, ltb-false}
 use lib.Dec.{ltb, eqb}
-use lib.ListN.{length, getD, List·getD-append, List·getD-eq-default}
+use lib.ListN.{length, getD, List·getD-eq-default}
 use lib.Pow.{shl-shr}
-use lib.Seq.{getD-at}
 use Rattle.error.specs.Choice.{if}
 use Rattle.laws.proofs.Octets.{Octets}
+use Rattle.laws.proofs.Products.{up-to}
 use Rattle.image.specs.Dots.{bitAt as bitOf, isWhite}
 use Rattle.image.specs.Geometry.{rowBytes, paddingBits}
 use Rattle.image.specs.Rows.{clearLow}
 use Rattle.image.specs.declared.PixelFormat.the-variants.{MonoBlack}
 use Rattle.options.specs.declared.Quantize.{Quantize}
-use Rattle.quantize.specs.Bits.{upto, bit, appended, digits}
+use Rattle.quantize.specs.Bits.{bit, appended, digits}
 use Rattle.quantize.specs.Rule.{dot}
 use Rattle.quantize.specs.Finished.{Setting, count, frame, dotOf, bitAt, byteAt, finished}
 use Rattle.quantize.specs.Engine.{meaning, setting}
 use Rattle.quantize.proofs.Appending.{bit-le, appended-lt, appended-add, digits-tail}
-use Rattle.quantize.proofs.Grown.{length-upto}
+use Rattle.quantize.proofs.Grown.{length-upto, upto-at}
 use Rattle.quantize.proofs.Packing.{bit-in, bit-past, byte-at}
 use Rattle.quantize.proofs.Places.{div-at, mod-at}
 use Rattle.conformance.specs.ReadBack.{scanWhite}
-use Rattle.conformance.proofs.Joined.{up-to}
-
-upto-at : (f : ℕ → ℕ) (n j : ℕ) → j < n → getD (upto n f) j 0 ≡ f j
-unfolding upto
-upto-at f zero j l = let z : ⊥ = omega arith in absurd z
-upto-at f (suc n) j l = go (ltb j n) refl (upto-at f n j)
-  where
-    go : (t : Bool) → ltb j n ≡ t → (j < n → getD (upto n f) j 0 ≡ f j) → getD (upto n f ++ (f n ∷ [])) j 0 ≡ f j
-    go true e ih =
-        let h = ltb-true j n e in
-        List·getD-append (upto n f) (f n ∷ []) 0 j (omega (arith, length-upto f n)) ∙ ih h
-    go false e ih =
-        let h : j ≡ n = omega (arith, ltb-false j n e) in
-        getD-at (upto n f) (f n) [] 0 j (length-upto f n ∙ sym h) ∙ ap f (sym h)
 
 -- the digits after the first are below them
 above : (begun : ℕ) (f : ℕ → ℕ) → ((i : ℕ) → f i ≤ 1) → (m : ℕ) → appended begun f m / 2 ^ m ≡ begun
@@ -85,7 +71,7 @@ module _ (s : Setting) (xs : List ℕ) where
   finished-byte : (r j : ℕ) → j < rowBytes w → r * rowBytes w + j < length (finished s xs)
       → getD (finished s xs) (r * rowBytes w + j) 0 ≡ digits (λ i. bitAt w d r (8 * j + i)) 8
   unfolding finished
-  finished-byte r j h l = upto-at (byteAt w d) _ (r * rowBytes w + j) (rw length-upto at l) ∙ byte-at w d r j h
+  finished-byte r j h l = upto-at (byteAt w d) 0 _ (r * rowBytes w + j) (rw length-upto at l) ∙ byte-at w d r j h
 
   pub finished-octets : Octets (finished s xs)
   unfolding finished byteAt
@@ -97,7 +83,7 @@ module _ (s : Setting) (xs : List ℕ) where
       go : (t : Bool) → ltb i n ≡ t → getD (finished s xs) i 0 < 256
       go true e =
           let b = appended-lt 0 (λ k. bitAt w d (i / rowBytes w) (8 * (i % rowBytes w) + k)) (λ k. bit-small (i / rowBytes w) (8 * (i % rowBytes w) + k)) 0 8 (omega arith) in
-          subst (λ (b : ℕ). b < 256) (sym (upto-at (byteAt w d) n i (ltb-true i n e))) b
+          subst (λ (b : ℕ). b < 256) (sym (upto-at (byteAt w d) 0 n i (ltb-true i n e))) b
       go false e =
           subst (λ (b : ℕ). b < 256) (sym (List·getD-eq-default (finished s xs) 0 (omega (arith, length-upto (byteAt w d) n, ltb-false i n e)))) (omega arith)
 

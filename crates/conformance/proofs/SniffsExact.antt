@@ -3,12 +3,13 @@ use Prim.Native.Nat.{ℕ, zero, suc, _+_, _-_, _*_, _/_, _^_, _≤_, _<_}
 use mathlib.Core.Path.{_≡_, refl, sym, ap, _∙_}
 use mathlib.Core.Bool.{Bool, true}
 use mathlib.Core.List.{List, []}
-use native.Mathlib.Nat.{mul-assoc, mul-comm, mul-div-cancel, mul-mod-left, mul-le-mul-right}
+use native.Mathlib.Nat.{mul-assoc, mul-comm, mul-div-cancel, mul-mod-left}
 use native.Mathlib.Omega.{arith}
 use borrow.Author.Tests.{le-leb, le-ltb, eq-eqb}
 use lib.ListN.{length, getD}
 use lib.Pow.{shl-shr}
 use Rattle.error.specs.Answer.{Answer, gives, map}
+use Rattle.laws.proofs.Products.{one-of}
 use Rattle.ext.specs.Kinds.{none}
 use Rattle.header.specs.Settings.{inner}
 use Rattle.header.specs.Read.{Header, outline}
@@ -19,6 +20,7 @@ use Rattle.image.specs.Geometry.{rowBytes, planeBytes, paddingBits}
 use Rattle.image.specs.Rows.{clearLow, sourceRow, toNative}
 use Rattle.image.specs.declared.PixelFormat.{PixelFormat}
 use Rattle.image.specs.declared.PixelFormat.the-variants.{MonoWhite}
+use Rattle.image.proofs.PlaneSizes.{plane-some}
 use Rattle.image.proofs.Cleared.{paddingAt}
 use Rattle.image.proofs.WireDots.{wire-byte}
 use Rattle.options.specs.declared.EncodeOptions.{EncodeOptions}
@@ -28,7 +30,6 @@ use Rattle.encoder.proofs.Planed.{planes-length}
 use Rattle.api.specs.Sniff.{isClear, areClear, sniffLength, sniffBody, sniffHeader, sniffed}
 use Rattle.api.specs.declared.Sniffed.the-variants.{Exact}
 use Rattle.conformance.proofs.Files.{Filed, filed, header-read, behind}
-use Rattle.conformance.proofs.ReadBack.{plane-some}
 use Rattle.conformance.proofs.Rows.{plane-byte, by-planes}
 use Rattle.conformance.proofs.Written.{body-plane, passed}
 use Rattle.conformance.proofs.WrittenCards.{nineByTwo, writer, bare, bare-written}
@@ -52,10 +53,10 @@ module _ (strict : Bool) (width height count : ℕ) (body bytes : List ℕ) (f :
   rows-are = whole ∙ ap (λ (n : ℕ). count * n) (mul-comm row height) ∙ sym (mul-assoc count height row)
 
   one-there : plane ≤ count * plane
-  one-there = let m : 1 * plane ≤ count * plane = mul-le-mul-right plane (c .some) in omega arith
+  one-there = one-of plane count (c .some)
 
   row-there : row ≤ plane
-  row-there = let m : 1 * row ≤ height * row = mul-le-mul-right row (f .high) in omega (arith, mul-comm height row)
+  row-there = omega (arith, one-of row height (f .high), mul-comm height row)
 
   length-exact : sniffLength plane (length body) ≡ Exact
   length-exact =

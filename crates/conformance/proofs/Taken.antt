@@ -4,11 +4,11 @@ use mathlib.Core.Path.{_≡_, refl, sym, ap, _∙_}
 use mathlib.Core.Bool.{Bool, true, false, _||_}
 use mathlib.Core.List.{List, [], _∷_, _++_, append-assoc, append-nil}
 use lib.ListN.{length}
+use Rattle.laws.proofs.Lists.{take-length-take}
 use Rattle.laws.proofs.Tests.{zero-one}
 use Rattle.quantize.specs.Finished.{takes}
 use Rattle.encode_session.specs.Model.{settingOf, Model, Call, feed, close, taken, Outcome, fedBy, outcome, replies, finally}
 use Rattle.encode_session.proofs.Answering.{feed-shut, close-shut, by-feed, by-close}
-use Rattle.decode_session.proofs.CutFields.{front-of}
 use Rattle.conformance.specs.Lists.{takenBy, samplesOf, isClosing, wasClosed}
 
 -- ---- one call
@@ -19,7 +19,8 @@ Adds m c x = m .samples ++ takenBy c (x .reply .answer) ≡ x .next .samples
 adds-feed : (m : Model) (xs out : List ℕ) (work : ℕ) → Adds m (feed xs out work) (fedBy m xs out)
 unfolding taken
 adds-feed m xs out work =
-    ap (λ (s : List ℕ). m .samples ++ s) (front-of (takes (settingOf (m .opening)) (length (m .samples)) (length xs) (length out)) xs)
+    ap (λ (s : List ℕ). m .samples ++ s)
+    (take-length-take (takes (settingOf (m .opening)) (length (m .samples)) (length xs) (length out)) xs)
 
 adds : (m : Model) (c : Call) → Adds m c (outcome m c)
 adds m (feed xs out work) = by-feed m xs out work (Adds m (feed xs out work)) (append-nil (m .samples)) (append-nil (m .samples)) (adds-feed m xs out work)

@@ -1,13 +1,15 @@
 -- What is written is read back.
 use Prim.Native.Nat.{ℕ, zero, suc, _+_, _-_, _*_, _^_, _≤_, _<_}
 use mathlib.Core.Path.{_≡_, refl, ap, _∙_, subst}
-use mathlib.Core.List.{List, [], _∷_, _++_}
+use mathlib.Core.List.{List, _++_}
 use native.Mathlib.Nat.{div-mul-le-self}
 use native.Mathlib.Omega.{arith}
-use lib.ListN.{length, getD, drop, set, length-append, length-drop}
-use lib.Seq.{length-take-le}
+use lib.ListN.{length, getD}
 use Rattle.error.specs.Answer.{gives}
-use Rattle.laws.proofs.Octets.{Octets, octets-nil, octets-cons, octets-append}
+use Rattle.laws.proofs.Answers.{bind-gives}
+use Rattle.laws.proofs.Lists.{length-part}
+use Rattle.laws.proofs.Octets.{Octets, octets-nil, octets-set, octets-append}
+use Rattle.laws.proofs.Products.{up-to}
 use Rattle.ext.specs.Kinds.{Fields, none}
 use Rattle.header.specs.Write.{presented}
 use Rattle.header.specs.declared.ExtPresence.{ExtPresence}
@@ -23,22 +25,16 @@ use Rattle.image.proofs.WireDots.{wire-dots}
 use Rattle.image.proofs.Wiring.{source-there}
 use Rattle.options.specs.Limits.{Decoding}
 use Rattle.options.specs.declared.EncodeOptions.{EncodeOptions}
-use Rattle.decoder.proofs.Shaped.{bind-gives}
 use Rattle.encoder.specs.File.{fileOf}
 use Rattle.encoder.specs.Write.{checkPlanes, lentPlane, wirePlanes, fileOfPlanes}
 use Rattle.encoder.proofs.Tested.{Tested, tested}
 use Rattle.encoder.proofs.Planed.{planes-length}
 use Rattle.conformance.specs.ReadBack.{Taken, Admitted, planeIn, ReadsBack}
-use Rattle.conformance.proofs.Joined.{up-to, piece-back}
+use Rattle.conformance.proofs.Joined.{piece-back}
 use Rattle.conformance.proofs.Files.{filed, fitting, plain}
 use Rattle.conformance.proofs.ReadBack.{file-back, renamed}
 
 -- the bytes of wire bits are bytes
-octets-set : (l : List ℕ) (i b : ℕ) → b < 256 → Octets l → Octets (set l i b)
-octets-set [] i b h o = octets-nil
-octets-set (x ∷ l) zero b h o = octets-cons b l h (λ i. o (suc i))
-octets-set (x ∷ l) (suc i) b h o = octets-cons x (set l i b) (o 0) (octets-set l i b h (λ j. o (suc j)))
-
 octets-clear : (w : ℕ) (row : List ℕ) → Octets row → Octets (clearPadding w row)
 unfolding clearPadding
 octets-clear w row o =
@@ -83,8 +79,9 @@ module _ (ceiling : ℕ) (o : EncodeOptions) (format : PixelFormat) (width heigh
 
   pub passed : fileOfPlanes ceiling o format width height count stride planes text lengths ≡ gives bytes → Passed
   unfolding fileOfPlanes
-  passed = bind-gives (checkPlanes ceiling width height count stride (length planes)) _ bytes
-      (λ _ p e. record { tests = tested ceiling width height count stride (length planes) p; file = e })
+  passed e =
+      let p = bind-gives (checkPlanes ceiling width height count stride (length planes)) _ bytes e in
+      record { tests = tested ceiling width height count stride (length planes) (p .1); file = p .2 }
 
   module _ (p : Passed) where
     -- plane k is lent whole
@@ -96,7 +93,7 @@ module _ (ceiling : ℕ) (o : EncodeOptions) (format : PixelFormat) (width heigh
         let n = neededBytes width height stride in
         let g = p .tests .plane in
         let e : length (lentPlane width height stride planes k) ≡ n =
-        length-take-le n (drop (k * n) planes) (rw length-drop (omega (arith, lent-there k l))) in
+        length-part n (k * n) planes (lent-there k l) in
         accepted width height stride _ (g .wide) (g .high) (g .row) (p .tests .small) (omega arith)
 
     pub lent-octets : Octets planes → (k : ℕ) → k < count → Octets (lentPlane width height stride planes k)

@@ -21,14 +21,15 @@ use Rattle.header.proofs.Ends.{endCode, endOffset}
 use Rattle.header.proofs.KnownFields.{known-so, known-header}
 use Rattle.decoder.specs.Body.{planeOf}
 use Rattle.decoder.specs.Image.{imageSettings}
+use Rattle.decoder.proofs.Headed.{image-by}
 use Rattle.decode_session.specs.Head.{Reached}
 use Rattle.decode_session.specs.Model.{Model, frames, closing}
 use Rattle.decode_session.specs.Session.{wholeIn, framesDone, InBody, Unread, StageOf, Stands, TellsClosed, Counts, SeesFields}
 use Rattle.decode_session.specs.declared.Stage.{Stage}
 use Rattle.decode_session.specs.declared.DecodeSession.{DecodeSession}
 use Rattle.decode_session.proofs.Headers.{unread-end}
-use Rattle.decode_session.proofs.Seeing.{staged}
-use Rattle.decode_session.proofs.Counting.{closes-by, image-by, none-whole, all-whole, at-most}
+use Rattle.decode_session.proofs.StageFacts.{staged, in-body}
+use Rattle.decode_session.proofs.CloseAnswers.{closes-by, none-whole, all-whole, at-most}
 
 -- no frame is done while a header is read
 none-done : (m : Model) (r : HeaderReader) (at kept : ℕ) → Reached (imageSettings (m .options .mode)) (m .bytes) r at kept
@@ -83,21 +84,18 @@ module _ (s : DecodeSession) where
 
   module _ (r : HeaderReader) (at kept : ℕ) (g : s .stage ≡ Stage.Header r at kept) where
     pub header-frames : Counts s 0
-    header-frames = record { does = λ m st. sym (none-done m r at kept (staged s (Stage.Header r at kept) m g st .1)) }
+    header-frames = record { does = λ m st. sym (none-done m r at kept (staged m g (st .stage) .1)) }
 
     pub header-fields : (f : FieldsSeen) → Knows r f → SeesFields s f
-    header-fields f k = record { does = λ m st. unread-so m r at kept f (staged s (Stage.Header r at kept) m g st .1) k .fields }
+    header-fields f k = record { does = λ m st. unread-so m r at kept f (staged m g (st .stage) .1) k .fields }
 
   module _ (p : ParsedHeader) (whole begun : ℕ) (g : s .stage ≡ Stage.Body p whole begun) where
-    in-body : (m : Model) → Stands s m → InBody m (parsed p) whole begun
-    in-body m st = staged s (Stage.Body p whole begun) m g st
-
     pub body-frames : (n : ℕ) → (n ≡ whole) ⊎ (n ≡ 16) → n ≤ whole → Counts s n
     body-frames n i l =
         record {
           does =
               λ m st.
-              let b = in-body m st in
+              let b = in-body m g (st .stage) in
               let k = at-most b (st .ceiling) in
               let e : n ≡ whole = ⊎-elim (λ (q : n ≡ whole). q) (λ (q : n ≡ 16). omega arith) i in
               e ∙ sym (done-in b);
@@ -105,11 +103,11 @@ module _ (s : DecodeSession) where
 
     pub body-fields : SeesFields s (FieldsSeen.Seen (p .«ext_fields»))
     body-fields =
-        record { does = λ m st. sym (known-header (imageSettings (m .options .mode)) (m .bytes) (parsed p) (in-body m st .headerIs)) }
+        record { does = λ m st. sym (known-header (imageSettings (m .options .mode)) (m .bytes) (parsed p) (in-body m g (st .stage) .headerIs)) }
 
   module _ (e : WbmpError) (f : FieldsSeen) (g : s .stage ≡ Stage.Refused e f) where
     unread : (m : Model) → Stands s m → Unread m f
-    unread m st = staged s (Stage.Refused e f) m g st .1
+    unread m st = staged m g (st .stage) .1
 
     pub refused-frames : Counts s 0
     refused-frames = record { does = λ m st. sym (unread m st .none) }
@@ -131,7 +129,7 @@ counted s m n st e = go (s .stage) (st .stage)
     go : (x : Stage) → StageOf x m → framesDone m ≡ n
     go (Stage.Header r at kept) u =
         let h = unread-end (imageSettings (m .options .mode)) (m .bytes) (u .1 .state) (u .1 .reached) in
-        let q = closes-by m (refuses (endCode (u .1 .state)) (endOffset (u .1 .state))) (u .0) (image-by m _ h) in
+        let q = closes-by m (refuses (endCode (u .1 .state)) (endOffset (u .1 .state))) (u .0) (image-by (m .options) (m .bytes) _ h) in
         zero-one (cc)
     go (Stage.Body p whole begun) b = body p whole begun b
     go (Stage.Refused x f) u = let q = ap (closing m) (u .0) in zero-one (cc)

@@ -5,7 +5,7 @@ use mathlib.Core.List.{List, [], _∷_, _++_}
 use native.Mathlib.Nat.{add-zero, mod-add-mod}
 use native.Mathlib.Omega.{arith}
 use lib.Dec.{eqb}
-use lib.ListN.{length, getD}
+use lib.ListN.{length, getD, take}
 use Rattle.error.specs.Choice.{if}
 use Rattle.image.specs.Geometry.{rowBytes, paddingBits}
 use Rattle.image.specs.Rows.{clearLow}
@@ -52,6 +52,18 @@ module _ (f : PixelFormat) (w : ℕ) where
       sym (mod-add-mod at (rowBytes w) 1) ∙ ap (λ (k : ℕ). (k + 1) % rowBytes w) e ∙ mod-add-mod at′ (rowBytes w) 1 in
       ap (λ (b : ℕ). b ∷ bodyFrom f w (at + 1) xs) (byte-mod f w at at′ x e)
       ∙ ap (λ (l : List ℕ). bodyByte f w at′ x ∷ l) (body-mod xs (at + 1) (at′ + 1) next)
+
+  pub body-take : (n : ℕ) (xs : List ℕ) (at : ℕ) → take n (bodyFrom f w at xs) ≡ bodyFrom f w at (take n xs)
+  unfolding bodyFrom
+  body-take zero xs at = refl
+  body-take (suc n) [] at = refl
+  body-take (suc n) (x ∷ xs) at = ap (λ (l : List ℕ). bodyByte f w at x ∷ l) (body-take n xs (at + 1))
+
+-- as a file has it
+pub body-black : (w : ℕ) (xs : List ℕ) (at : ℕ) → xs ≡ bodyFrom MonoBlack w at xs
+unfolding bodyFrom
+body-black w [] at = refl
+body-black w (x ∷ xs) at = ap (λ (l : List ℕ). x ∷ l) (body-black w xs (at + 1))
 
 -- document 01's P7: a body of nine by two in MonoWhite, whole and from its second byte on
 nine : bodyFrom MonoWhite 9 0 (255 ∷ 128 ∷ 0 ∷ 0 ∷ []) ≡ 0 ∷ 0 ∷ 255 ∷ 128 ∷ []

@@ -1,30 +1,15 @@
 -- What a feeding call comes to, case by case, on a machine that is open and has met nothing.
-use Prim.Native.Nat.{ℕ, zero, suc, _+_, _≤_}
+use Prim.Native.Nat.{ℕ}
 use mathlib.Core.Path.{_≡_, refl}
 use mathlib.Core.Bool.{Bool, true, false}
 use mathlib.Core.List.{List, _++_}
-use native.Mathlib.Omega.{arith}
 use lib.Dec.{leb}
-use lib.ListN.{length, take}
+use lib.ListN.{length}
 use Rattle.error.specs.Choice.{if}
 use Rattle.error.specs.Answer.{Answer, gives, refuses, isEnd}
 use Rattle.header.specs.Read.{Outline}
-use Rattle.options.specs.Limits.{Decoding}
 use Rattle.decoder.specs.Image.{readImage}
-use Rattle.decode_session.specs.Sequence.{sequence, most}
 use Rattle.decode_session.specs.Model.{nothing, refusal, Model, Outcome, metBy, meets, fedBy, unaltered, afterMet}
-
--- no more is taken than the piece has
-pub most-small : (ceiling : ℕ) (d : Decoding) (bytes piece : List ℕ) (room k : ℕ) → most ceiling d bytes piece room k ≤ k
-unfolding most
-most-small ceiling d bytes piece room zero = omega arith
-most-small ceiling d bytes piece room (suc k) =
-    go (leb (length (sequence ceiling d (bytes ++ take (suc k) piece))) (length (sequence ceiling d bytes) + room))
-    (most-small ceiling d bytes piece room k)
-  where
-    go : (t : Bool) → most ceiling d bytes piece room k ≤ k → if t (suc k) (most ceiling d bytes piece room k) ≤ suc k
-    go true h = omega arith
-    go false h = omega arith
 
 module _ (m : Model) (piece out ext : List ℕ) where
   by-answer : (P : Outcome → Type 0) → P (fedBy m piece out ext nothing)

@@ -10,6 +10,7 @@ use lib.ListN.{length, take, drop, length-append, length-take, take-append-drop}
 use lib.Seq.{slice, sets, sets-eq, length-sets, take-all, take-length, take-append-le, take-append-add, take-append-seam, take-take, length-take-le}
 use Rattle.error.specs.Choice.{if}
 use Rattle.error.specs.Answer.{Answer, gives, refuses, isEnd}
+use Rattle.laws.proofs.Lists.{take-length-take}
 use Rattle.laws.proofs.Tests.{zero-one}
 use Rattle.mbi.specs.Bytes.{mbiBytes, groups}
 use Rattle.mbi.specs.Read.{readMbi, readRest}
@@ -20,12 +21,6 @@ use Rattle.ext.proofs.Prefix.{settled, fields-prefix}
 use Rattle.ext.proofs.Bounds.{fields-bound}
 use Rattle.header.specs.Settings.{Settings}
 use Rattle.decode_session.specs.Extension.{fieldsEnd, fieldBytes}
-
--- the front of a list, by its own length
-pub front-of : (n : ℕ) (l : List ℕ) → take (length (take n l)) l ≡ take n l
-front-of zero l = refl
-front-of (suc n) [] = refl
-front-of (suc n) (x ∷ l) = ap (λ (r : List ℕ). x ∷ r) (front-of n l)
 
 -- a buffer that starts with a, once the rest of b, which starts with a too, is stored behind it
 stored-behind : (a b buffer : List ℕ) → take (length a) b ≡ a → length b ≤ length buffer → take (length a) buffer ≡ a
@@ -147,7 +142,7 @@ module _ (o : Settings) (fix : ℕ) (fields τ : List ℕ) (f : Fields) (passed 
       let a = take (at - 2) fields in
       let b = take (at + n - 2) fields in
       let p : take (at - 2) b ≡ a = take-take (at - 2) (at + n - 2) fields (omega arith) in
-      let q : take (length a) b ≡ a = ap (λ (l : List ℕ). take (length l) b) (sym p) ∙ front-of (at - 2) b ∙ p in
+      let q : take (length a) b ≡ a = ap (λ (l : List ℕ). take (length l) b) (sym p) ∙ take-length-take (at - 2) b ∙ p in
       let e = stored-behind a b ext q (omega (arith, h .long, length-take (at + n - 2) fields)) (h .front) in
       rw (kept at, kept (at + n)) (record { long = omega (arith, h .long, length-sets ext (length a) (drop (length a) b)); front = e })
 

@@ -2,10 +2,10 @@
 use Prim.Native.Nat.{ℕ, _+_, _≤_}
 use mathlib.Core.Path.{_≡_, refl, sym, ap, ap₂, _∙_, subst}
 use mathlib.Core.Bool.{Bool, true, false}
-use mathlib.Core.List.{List, [], _++_, append-assoc}
+use mathlib.Core.List.{List, [], _++_}
 use native.Mathlib.Omega.{arith}
 use lib.ListN.{length, take, drop, take-append-drop}
-use lib.Seq.{take-all, take-append-seam, drop-append-seam, drop-length, take-add, sets}
+use lib.Seq.{take-all, take-append-seam, drop-length, take-add, sets}
 use Rattle.error.specs.Answer.{Answer, gives, refuses, map}
 use Rattle.laws.proofs.Tests.{zero-one}
 use Rattle.header.specs.Read.{Outline}
@@ -17,9 +17,11 @@ use Rattle.decode_session.specs.Extension.{fieldBytes}
 use Rattle.decode_session.specs.Model.{nothing, refusal, Model, Call, feed, close, Told, frames, Reply, takes, grown, written, stored, outcome, replies}
 use Rattle.decode_session.specs.Trace.{bytesOf, joined, tookOf, isMet, Cut, part, taken}
 use Rattle.decode_session.specs.Trace as Traces
-use Rattle.decode_session.proofs.CutCases.{most-small, by-case}
+use Rattle.decode_session.proofs.MostTaken.{most-small}
+use Rattle.decode_session.proofs.CutCases.{by-case}
 use Rattle.decode_session.proofs.Cuts.{next-part, midway, met-whole}
-use Rattle.decode_session.proofs.CutSequences.{Extends, sequence-extends}
+use Rattle.decode_session.proofs.CutSequences.{sequence-extends}
+use Rattle.decode_session.proofs.Extends.{Extends, seams}
 
 module _ (ceiling : ℕ) (d : Decoding) (file : List ℕ) (h : Outline) (accepted : readImage d file ≡ gives h) where
   -- what is put out of the first bytes
@@ -35,15 +37,6 @@ module _ (ceiling : ℕ) (d : Decoding) (file : List ℕ) (h : Outline) (accepte
 
   to-end : (at : ℕ) → Extends (sent at) (sequence ceiling d file)
   to-end at = subst (λ (l : List ℕ). Extends (sent at) (sequence ceiling d l)) (take-append-drop at file) (sequence-extends ceiling d (take at file) (drop at file))
-
-  behind : {a b : List ℕ} → Extends a b → b ≡ a ++ drop (length a) b
-  behind {a} {b} e =
-      e .whole-is ∙ ap (λ (l : List ℕ). a ++ l) (sym (drop-append-seam a (e .rest)) ∙ ap (drop (length a)) (sym (e .whole-is)))
-
-  seams : (a b c : List ℕ) → Extends a b → Extends b c → drop (length a) b ++ drop (length b) c ≡ drop (length a) c
-  seams a b c p q =
-      sym (drop-append-seam a (drop (length a) b ++ drop (length b) c))
-      ∙ ap (drop (length a)) (sym (append-assoc a (drop (length a) b) (drop (length b) c)) ∙ ap (λ (l : List ℕ). l ++ drop (length b) c) (sym (behind p)) ∙ sym (behind q))
 
   -- a buffer with the extension bytes stored of the bytes from `at` to `to`
   abbrev pub storedTo : ℕ → ℕ → List ℕ → List ℕ

@@ -7,6 +7,7 @@ use native.Mathlib.Omega.{arith}
 use lib.ListN.{length, take, drop, length-take, length-drop, take-append-drop}
 use lib.Seq.{take-all, take-add, take-take}
 use Rattle.error.specs.Answer.{Answer, refuses, map, isEnd}
+use Rattle.laws.proofs.Lists.{append-take-drop}
 use Rattle.ext.proofs.Prefix.{settled}
 use Rattle.options.specs.Limits.{Decoding}
 use Rattle.header.specs.Read.{Outline}
@@ -17,7 +18,8 @@ use Rattle.decoder.proofs.After.{image-kept}
 use Rattle.decode_session.specs.Model.{Met, nothing, refusal, Model, Call, feed, close, Told, frames, Reply, Outcome, takes, grown, fedBy, unaltered, outcome, replies}
 use Rattle.decode_session.specs.Trace.{tookOf, isMet, Cut, part, taken}
 use Rattle.decode_session.specs.Trace as Traces
-use Rattle.decode_session.proofs.CutCases.{most-small, by-case}
+use Rattle.decode_session.proofs.MostTaken.{most-small}
+use Rattle.decode_session.proofs.CutCases.{by-case}
 
 -- the next of a list's parts behind its first ones
 pub next-part : (file : List ℕ) (at size n : ℕ) → at ≤ length file → n ≤ length (take size (drop at file))
@@ -44,15 +46,15 @@ module _ (ceiling : ℕ) (d : Decoding) (file : List ℕ) where
     pub holds : Meets (flag || isMet (o .reply .answer)) met′
     pub there : at + tookOf (o .reply .answer) ≤ length file
 
-  rest-of : (at size : ℕ) → (take at file ++ take size (drop at file)) ++ drop (at + size) file ≡ file
-  rest-of at size = ap (λ (l : List ℕ). l ++ drop (at + size) file) (sym (take-add at size file)) ∙ take-append-drop (at + size) file
+  rest-of : (at size : ℕ) → (take at file ++ take size (drop at file)) ++ drop size (drop at file) ≡ file
+  rest-of at size = append-take-drop (take at file) (drop at file) size ∙ take-append-drop at file
 
   -- a refusal of the bytes so far other than an early end is the whole file's
   pub met-whole : (at size code place : ℕ) → isEnd code ≡ false → readImage d (take at file ++ take size (drop at file)) ≡ refuses code place
       → readImage d file ≡ refuses code place
   met-whole at size code place f e =
       ap (readImage d) (sym (rest-of at size))
-      ∙ image-kept (take at file ++ take size (drop at file)) (drop (at + size) file) d (ap settled e ∙ ap not f)
+      ∙ image-kept (take at file ++ take size (drop at file)) (drop size (drop at file)) d (ap settled e ∙ ap not f)
       ∙ e
 
   module _ (at size : ℕ) (out ext : List ℕ) (l : at ≤ length file) where

@@ -11,16 +11,17 @@ use Rattle.header.specs.declared.ParsedHeader.{ParsedHeader}
 use Rattle.header.specs.declared.reader.HeaderReader.{HeaderReader}
 use Rattle.decoder.specs.Image.{imageSettings}
 use Rattle.decode_session.specs.Model.{Met, nothing, Model, feed, stored, fedBy, unaltered, outcome}
-use Rattle.decode_session.specs.Session.{InBody, StageOf, Stands, Feeds}
+use Rattle.decode_session.specs.Session.{InBody, Stands, Feeds}
 use Rattle.decode_session.specs.Stages.{Agrees, having, Enters, Planes}
 use Rattle.decode_session.specs.declared.Stage.{Stage}
 use Rattle.decode_session.specs.declared.DecodeFeed.{DecodeFeed}
 use Rattle.decode_session.specs.declared.DecodeSession.{DecodeSession}
 use Rattle.decode_session.specs.declared.DecodeFed.{DecodeFed}
 use Rattle.decode_session.proofs.Headers.{header-later}
+use Rattle.decode_session.proofs.StageFacts.{staged, in-body}
 use Rattle.decode_session.proofs.FieldBytes.{fields-kept}
-use Rattle.decode_session.proofs.Shown.{shown-length}
-use Rattle.decode_session.proofs.Meeting.{admitted}
+use Rattle.decode_session.proofs.BodyShown.{shown-length}
+use Rattle.decode_session.proofs.RefusalsMet.{admitted}
 use Rattle.decode_session.proofs.Replies.{stored-none, reading, closed, met-earlier, short, Fits, agreed}
 
 -- a refusal that alters nothing
@@ -45,7 +46,7 @@ module _ (s : DecodeSession) (piece out ext : List ℕ) (d : DecodeFed) (e : Wbm
       record {
         does =
             λ m st. unaltered-fits s m piece out ext e d st
-            (met-earlier m piece out ext (e .code) (e .offset) (sym (st .live) ∙ l) (subst (λ (x : Stage). StageOf x m) g (st .stage) .0)) is;
+            (met-earlier m piece out ext (e .code) (e .offset) (sym (st .live) ∙ l) (staged m g (st .stage) .0)) is;
       }
 
   feed-short : s .live ≡ true → e ≡ record { code = 28; offset = 0 } → length ext < 4118 → ((m : Model) → Stands s m → m .met ≡ nothing)
@@ -59,14 +60,11 @@ module _ (s : DecodeSession) (piece out ext : List ℕ) (d : DecodeFed) (e : Wbm
 
   pub short-in-header : s .live ≡ true → (r : HeaderReader) (at kept : ℕ) → s .stage ≡ Stage.Header r at kept
       → e ≡ record { code = 28; offset = 0 } → length ext < 4118 → Feeds s piece out ext d out ext
-  short-in-header l r at kept g n h = feed-short l n h (λ m st. subst (λ (x : Stage). StageOf x m) g (st .stage) .0)
+  short-in-header l r at kept g n h = feed-short l n h (λ m st. staged m g (st .stage) .0)
 
   pub short-in-body : s .live ≡ true → (p : ParsedHeader) (whole begun : ℕ) → s .stage ≡ Stage.Body p whole begun
       → e ≡ record { code = 28; offset = 0 } → length ext < 4118 → Feeds s piece out ext d out ext
-  short-in-body l p whole begun g n h = feed-short l n h (λ m st. in-body m st .nothingMet)
-    where
-      in-body : (m : Model) → Stands s m → InBody m (parsed p) whole begun
-      in-body m st = subst (λ (x : Stage). StageOf x m) g (st .stage)
+  short-in-body l p whole begun g n h = feed-short l n h (λ m st. in-body m g (st .stage) .nothingMet)
 
 module _ (s : DecodeSession) (piece out ext : List ℕ) (d : DecodeFed) (out′ ext′ : List ℕ) (l : s .live ≡ true) where
   pub feed-header : (x : Stage) → s .stage ≡ x → Feeds (record { options = s .options; stage = x; live = true }) piece out ext d out′ ext′
@@ -75,7 +73,7 @@ module _ (s : DecodeSession) (piece out ext : List ℕ) (d : DecodeFed) (out′ 
       record {
         does =
             λ m st. f .does m
-            (record { ceiling = st .ceiling; options = st .options; live = sym l ∙ st .live; stage = subst (λ (x : Stage). StageOf x m) g (st .stage) });
+            (record { ceiling = st .ceiling; options = st .options; live = sym l ∙ st .live; stage = staged m g (st .stage) });
       }
 
 -- none of the piece is needed to come to the body
@@ -93,12 +91,9 @@ pub feed-body : (s : DecodeSession) (piece out ext : List ℕ) (d : DecodeFed) (
     → Feeds s piece out ext d out′ ext
 feed-body s piece out ext d out′ l long p whole begun g f = record { does = fits }
   where
-    in-body : (m : Model) → Stands s m → InBody m (parsed p) whole begun
-    in-body m st = subst (λ (x : Stage). StageOf x m) g (st .stage)
-
     fits : (m : Model) → Stands s m → Fits m piece out ext d out′ ext
     fits m st =
-        let b = in-body m st in
+        let b = in-body m g (st .stage) in
         let o = imageSettings (m .options .mode) in
         agreed m piece out ext d out′ ext _ _ (reading m piece out ext (sym (st .live) ∙ l) (b .nothingMet) long)
         (stored-none m ext (m .bytes ++ piece) (fields-kept o (m .bytes) piece (parsed p) (b .headerIs)))

@@ -10,37 +10,31 @@ use lib.ListN.{length, getD, drop, length-append, List·getD-append}
 use lib.Seq.{slice, take-append-le}
 use Rattle.error.specs.Choice.{if}
 use Rattle.error.specs.Answer.{Answer, gives, refuses, bind, map}
+use Rattle.laws.proofs.Answers.{bind-gives, map-gives}
 use Rattle.laws.proofs.Tests.{zero-one}
 use Rattle.mbi.specs.Read.{readMbi}
-use Rattle.mbi.proofs.Prefix.{mbi-prefix}
 use Rattle.mbi.proofs.Within.{mbi-within}
 use Rattle.ext.specs.Kinds.{Fields, fieldsFollow, kindBits}
 use Rattle.ext.specs.Read.{readFields}
 use Rattle.ext.proofs.Prefix.{settled, fields-prefix}
 use Rattle.header.specs.Settings.{Settings}
 use Rattle.header.specs.Read.{Header, Outline, outline, readHeight, readSizes, readFix, readAfterFix, readHeader}
-use Rattle.decoder.proofs.Shaped.{bind-gives, map-gives}
+use Rattle.header.proofs.Prefix.{integer-prefix}
 use Rattle.decode_session.specs.Extension.{fieldsEnd, fieldBytesAt, afterType, fieldBytes}
 
 module _ (o : Settings) (s ρ : List ℕ) where
-  mbi-later : (at : ℕ) (v : ℕ × ℕ) → readMbi (o .shortest) s at ≡ gives v → readMbi (o .shortest) (s ++ ρ) at ≡ gives v
-  mbi-later at v e = mbi-prefix (o .shortest) s ρ at (λ p q. never p q) ∙ e
-    where
-      never : (p : ℕ) → readMbi (o .shortest) s at ≡ refuses 1 p → ⊥
-      never p q = zero-one (cc)
-
   -- the fields, once the sizes behind them are read
   fields-in : (fix at : ℕ) (g : Header) → bind (readFields (o .classes) true (kindBits fix) s at) (readSizes o s fix at) ≡ gives g
       → slice at (fieldsEnd (s ++ ρ) (readFields (o .classes) true (kindBits fix) (s ++ ρ) at)) (s ++ ρ)
       ≡ slice at (fieldsEnd s (readFields (o .classes) true (kindBits fix) s at)) s
-  fields-in fix at g =
-      bind-gives (readFields (o .classes) true (kindBits fix) s at) (readSizes o s fix at) g (λ f p.
-      bind-gives (readMbi (o .shortest) s (f .1)) (readHeight o s fix at f) g (λ w q _.
-      let read = mbi-within (o .shortest) s (f .1) (w .0) (w .1) q in
+  fields-in fix at g e =
+      let f = bind-gives (readFields (o .classes) true (kindBits fix) s at) (readSizes o s fix at) g e in
+      let w = bind-gives (readMbi (o .shortest) s (f .0 .1)) (readHeight o s fix at (f .0)) g (f .2) in
+      let read = mbi-within (o .shortest) s (f .0 .1) (w .0 .0) (w .0 .1) (w .1) in
       ap (λ (x : Answer (Fields × ℕ)). slice at (fieldsEnd (s ++ ρ) x) (s ++ ρ))
-      (fields-prefix (o .classes) true (kindBits fix) s ρ at (ap settled p) ∙ p)
-      ∙ ap (drop at) (take-append-le (f .1) s ρ (omega (arith, read .after, read .inside)))
-      ∙ ap (λ (x : Answer (Fields × ℕ)). slice at (fieldsEnd s x) s) (sym p)))
+      (fields-prefix (o .classes) true (kindBits fix) s ρ at (ap settled (f .1)) ∙ f .1)
+      ∙ ap (drop at) (take-append-le (f .0 .1) s ρ (omega (arith, read .after, read .inside)))
+      ∙ ap (λ (x : Answer (Fields × ℕ)). slice at (fieldsEnd s x) s) (sym (f .1))
 
   fix-in : (at : ℕ) (g : Header) → readFix o s at ≡ gives g → fieldBytesAt o (s ++ ρ) at ≡ fieldBytesAt o s at
   fix-in at g e = go (leb (length s) at) refl e
@@ -73,10 +67,11 @@ module _ (o : Settings) (s ρ : List ℕ) where
 
   pub fields-kept : (h : Outline) → map outline (readHeader o s) ≡ gives h → fieldBytes o (s ++ ρ) ≡ fieldBytes o s
   unfolding fieldBytes readHeader
-  fields-kept h =
-      map-gives (readHeader o s) h (λ g q _.
-      bind-gives (readMbi (o .shortest) s 0) _ g (λ v p r.
-      ap (afterType o (s ++ ρ)) (mbi-later 0 v p) ∙ typed g v (eqb (v .0) 0) r ∙ ap (afterType o s) (sym p)) q)
+  fields-kept h e =
+      let g = map-gives outline (readHeader o s) h e in
+      let v = bind-gives (readMbi (o .shortest) s 0) _ (g .0) (g .1) in
+      ap (afterType o (s ++ ρ)) (integer-prefix o s ρ 0 (ap settled (v .1)) ∙ v .1) ∙ typed (g .0) (v .0) (eqb (v .0 .0) 0) (v .2)
+      ∙ ap (afterType o s) (sym (v .1))
     where
       typed : (g : Header) (v : ℕ × ℕ) (t : Bool) → if t (readFix o s (v .1)) (refuses 5 (v .1)) ≡ gives g
           → if t (fieldBytesAt o (s ++ ρ) (v .1)) [] ≡ if t (fieldBytesAt o s (v .1)) []

@@ -1,7 +1,7 @@
 -- A stretch of a body in each format.
 use Prim.Native.Nat.{ℕ, _+_}
-use mathlib.Core.Path.{_≡_, refl, sym, ap, _∙_}
-use mathlib.Core.List.{List, [], _∷_, _++_, append-nil}
+use mathlib.Core.Path.{_≡_, sym, ap, _∙_}
+use mathlib.Core.List.{List, _++_, append-nil}
 use native.Mathlib.Omega.{arith}
 use borrow.Author.Tests.{le-leb}
 use lib.Dec.{leb}
@@ -16,7 +16,7 @@ use Rattle.image.specs.declared.PixelFormat.the-variants.{MonoBlack, MonoWhite}
 use Rattle.image.proofs.Inverted.{invert-length, invert-at}
 use Rattle.decode_session.specs.Sequence.{padded, bodyFrom}
 use Rattle.decode_session.specs.Body.{Cleared}
-use Rattle.decode_session.proofs.BodyBytes.{body-length, body-at}
+use Rattle.decode_session.proofs.BodyBytes.{body-length, body-at, body-black}
 
 -- inverted bytes whose padding is cleared
 pub white-is : (w at : ℕ) (xs mid new : List ℕ) → mid ≡ invert xs → Cleared w at mid new → new ≡ bodyFrom MonoWhite w at xs
@@ -29,11 +29,6 @@ white-is w at xs mid new e c =
     ∙ ap (padded w (at + j)) (invert-at xs j (omega arith))
     ∙ sym (body-at MonoWhite w xs at j (omega arith)))
 
-pub copied : (w : ℕ) (xs : List ℕ) (at : ℕ) → xs ≡ bodyFrom MonoBlack w at xs
-unfolding bodyFrom
-copied w [] at = refl
-copied w (x ∷ xs) at = ap (λ (l : List ℕ). x ∷ l) (copied w xs (at + 1))
-
 -- bytes that are only copied
 pub black-is : (w at : ℕ) (xs old new : List ℕ) (r : Answer ℕ) → length xs ≡ length old
     → Emits (gives (convertFormat MonoBlack MonoBlack w 0 (rowBytes w) xs)) r old new → new ≡ bodyFrom MonoBlack w at xs
@@ -44,4 +39,4 @@ black-is w at xs old new r n e =
     ∙ ap (λ (k : ℕ). xs ++ drop k old) n
     ∙ ap (λ (l : List ℕ). xs ++ l) (drop-length old)
     ∙ append-nil xs
-    ∙ copied w xs at
+    ∙ body-black w xs at

@@ -5,9 +5,10 @@ use mathlib.Core.Bool.{true}
 use mathlib.Core.List.{List, [], _++_}
 use native.Mathlib.Nat.{mod-eq-of-lt}
 use native.Mathlib.Omega.{arith}
-use lib.ListN.{length, take, drop, length-append}
-use lib.Seq.{sets, take-length, drop-nil, length-take-le}
+use lib.ListN.{length, take, drop}
+use lib.Seq.{sets, take-length, drop-nil}
 use Rattle.error.specs.declared.WbmpError.{WbmpError}
+use Rattle.laws.proofs.Lists.{length-append-take, append-take-drop}
 use Rattle.header.specs.Settings.{Settings}
 use Rattle.header.specs.Read.{parsed}
 use Rattle.header.specs.Known.{Knows}
@@ -29,10 +30,10 @@ use Rattle.decode_session.specs.declared.DecodeFed.{DecodeFed}
 use Rattle.decode_session.specs.declared.head.HeadFed.{HeadFed}
 use Rattle.decode_session.specs.declared.head.HeadEnd.{HeadEnd}
 use Rattle.decode_session.proofs.Headers.{header-cut, unread-end, reached-bound}
-use Rattle.decode_session.proofs.Fitting.{most-is}
-use Rattle.decode_session.proofs.Meeting.{header-refused, header-short}
-use Rattle.decode_session.proofs.Replies.{replied, parts, stored-as, reading, agreed}
-use Rattle.decode_session.proofs.Beginning.{refused-agrees}
+use Rattle.decode_session.proofs.MostTaken.{most-is}
+use Rattle.decode_session.proofs.RefusalsMet.{header-refused, header-short}
+use Rattle.decode_session.proofs.Replies.{replied, stored-as, reading, agreed}
+use Rattle.decode_session.proofs.BodyBegun.{refused-agrees}
 use Rattle.decode_session.proofs.Asked.{unread-so}
 
 -- a file whose header goes on shows nothing
@@ -130,14 +131,13 @@ module _ (o : DecodeOptions) (reader : HeaderReader) (at kept : ℕ) (piece out 
     ended : (h : ParsedHeader) → f .end ≡ HeadEnd.Done h → Ended m piece (f .taken) (parsed h)
     ended h e =
         let d = ends (HeadEnd.Done h) e in
-        let n : length (m .bytes ++ take (f .taken) piece) ≡ length (m .bytes) + f .taken =
-        length-append (m .bytes) (take (f .taken) piece) ∙ ap (λ (k : ℕ). length (m .bytes) + k) (length-take-le (f .taken) piece (heads .within)) in
+        let n = length-append-take (m .bytes) piece (f .taken) (heads .within) in
         let b : h .«data_offset» ≡ length (m .bytes) + f .taken = omega (arith, d .1, reached .atIs) in
         record {
           within = heads .within;
           header =
               header-cut settings (m .bytes ++ take (f .taken) piece) (drop (f .taken) piece) (parsed h)
-              (ap (headerOf (m .options .mode)) (parts (m .bytes) piece (f .taken)) ∙ d .0) (b ∙ sym n);
+              (ap (headerOf (m .options .mode)) (append-take-drop (m .bytes) piece (f .taken)) ∙ d .0) (b ∙ sym n);
           body = b;
           none = ap length (nothing-shown m (m .bytes) reader at kept reached);
         }

@@ -31,10 +31,11 @@ reached-none : (o : Settings) (r : HeaderReader) → Represents r o start → Re
 unfolding steps fieldBytes readRest
 reached-none o r h = record { state = start; represents = h; reached = refl; atIs = refl; keptIs = refl }
 
-module _ (o : DecodeOptions) (r : HeaderReader) (n : ℕ) (s : Settings) (p : Represents r s start) (q : s ≡ imageSettings (modeOf (o .mode))) where
-  behind-settings : opening (decoding o) n ≡ if (leb 4118 n) (gives tt) (refuses 28 0)
-  behind-settings = ap (λ (a : Answer Decoding). bind a (λ _. if (leb 4118 n) (gives tt) (refuses 28 0))) (passes (decoding o))
+-- the settings pass their test, so the buffer's decides
+pub opening-is : (d : Decoding) (n : ℕ) → opening d n ≡ if (leb 4118 n) (gives tt) (refuses 28 0)
+opening-is d n = ap (λ (a : Answer Decoding). bind a (λ _. if (leb 4118 n) (gives tt) (refuses 28 0))) (passes d)
 
+module _ (o : DecodeOptions) (r : HeaderReader) (n : ℕ) (s : Settings) (p : Represents r s start) (q : s ≡ imageSettings (modeOf (o .mode))) where
   bounded : Bounded (opened (decoding o) .ceiling) (decoding o)
   bounded = record { passed = passes (decoding o); is = refl }
 
@@ -45,7 +46,7 @@ module _ (o : DecodeOptions) (r : HeaderReader) (n : ℕ) (s : Settings) (p : Re
   pub opens : 4118 ≤ n
       → Opens (opening (decoding o) n) (record { session = record { options = o; stage = Stage.Header r 0 0; live = true }; answer = Accepted }) (opened (decoding o))
   opens h =
-      let e = behind-settings ∙ if-true (leb 4118 n) (gives tt) (refuses 28 0) (le-leb 4118 n h) in
+      let e = opening-is (decoding o) n ∙ if-true (leb 4118 n) (gives tt) (refuses 28 0) (le-leb 4118 n h) in
       record {
         answer = sym e;
         stands =
@@ -61,7 +62,7 @@ module _ (o : DecodeOptions) (r : HeaderReader) (n : ℕ) (s : Settings) (p : Re
   pub opens-not : n < 4118 → (e : WbmpError) → e ≡ record { code = 28; offset = 0 }
       → Opens (opening (decoding o) n) (record { session = record { options = o; stage = Stage.Header r 0 0; live = false }; answer = Checked.Refused e }) (opened (decoding o))
   opens-not h e z =
-      let k = behind-settings ∙ if-false (leb 4118 n) (gives tt) (refuses 28 0) (lt-leb 4118 n h) in
+      let k = opening-is (decoding o) n ∙ if-false (leb 4118 n) (gives tt) (refuses 28 0) (lt-leb 4118 n h) in
       record {
         answer = ap (λ (e : WbmpError). refuses (e .code) (e .offset)) z ∙ sym k;
         stands = λ w. let z = sym k ∙ w in zero-one (cc);

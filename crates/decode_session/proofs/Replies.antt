@@ -2,10 +2,10 @@
 use Prim.Native.Nat.{ℕ, _≤_, _<_}
 use mathlib.Core.Path.{_≡_, refl, sym, ap, subst, _∙_}
 use mathlib.Core.Bool.{true, false}
-use mathlib.Core.List.{List, _++_, append-assoc}
+use mathlib.Core.List.{List}
 use borrow.Author.Tests.{le-leb, lt-leb}
 use lib.Dec.{leb}
-use lib.ListN.{length, take, drop, take-append-drop}
+use lib.ListN.{length, drop}
 use lib.Seq.{sets, drop-length}
 use Rattle.error.specs.Answer.{Answer}
 use Rattle.laws.proofs.Tests.{if-true, if-false}
@@ -19,10 +19,6 @@ use Rattle.decode_session.specs.declared.DecodeFed.{DecodeFed}
 pub replied : {a a′ : Answer Told} {o o′ e e′ : List ℕ} → a ≡ a′ → o ≡ o′ → e ≡ e′
     → _≡_ {A = Reply} (record { answer = a; output = o; extension = e }) (record { answer = a′; output = o′; extension = e′ })
 replied p q r = cc
-
--- a piece by its first bytes and the others
-pub parts : (s piece : List ℕ) (from : ℕ) → (s ++ take from piece) ++ drop from piece ≡ s ++ piece
-parts s piece from = append-assoc s (take from piece) (drop from piece) ∙ ap (λ (l : List ℕ). s ++ l) (take-append-drop from piece)
 
 module _ (m : Model) (ext : List ℕ) where
   abbrev fields : List ℕ → List ℕ

@@ -1,30 +1,28 @@
 -- The header that a session shows.
 use Prim.Native.Nat.{ℕ}
-use mathlib.Core.Path.{_≡_, refl, sym, ap, subst, _∙_}
+use mathlib.Core.Path.{_≡_, refl, sym, ap, _∙_}
 use Rattle.error.specs.Answer.{Answer, gives, refuses}
 use Rattle.error.specs.declared.WbmpError.{WbmpError}
-use Rattle.header.specs.Read.{Outline, parsed}
+use Rattle.header.specs.Read.{Outline}
 use Rattle.header.specs.declared.FieldsSeen.{FieldsSeen}
 use Rattle.header.specs.declared.ParsedHeader.{ParsedHeader}
 use Rattle.header.specs.declared.reader.HeaderReader.{HeaderReader}
 use Rattle.decoder.specs.Image.{imageSettings, headerOf}
-use Rattle.decode_session.specs.Model.{Met, nothing, refusal, Model}
-use Rattle.decode_session.specs.Session.{unread, seenOf, InBody, StageOf, Stands, Sees}
+use Rattle.decode_session.specs.Model.{Met, nothing, refusal}
+use Rattle.decode_session.specs.Session.{unread, seenOf, Sees}
 use Rattle.decode_session.specs.declared.Stage.{Stage}
 use Rattle.decode_session.specs.declared.DecodeSession.{DecodeSession}
 use Rattle.decode_session.specs.declared.HeaderSeen.{HeaderSeen}
 use Rattle.decode_session.proofs.Headers.{unread-end}
+use Rattle.decode_session.proofs.StageFacts.{staged, in-body}
 
 module _ (s : DecodeSession) where
-  pub staged : (x : Stage) (m : Model) → s .stage ≡ x → Stands s m → StageOf x m
-  staged x m g st = subst (λ (x : Stage). StageOf x m) g (st .stage)
-
   pub sees-none : (r : HeaderReader) (at kept : ℕ) → s .stage ≡ Stage.Header r at kept → Sees s HeaderSeen.Unread
   sees-none r at kept g =
       record {
         does =
             λ m st.
-            let u = staged (Stage.Header r at kept) m g st in
+            let u = staged m g (st .stage) in
             let e = unread-end (imageSettings (m .options .mode)) (m .bytes) (u .1 .state) (u .1 .reached) in
             sym (ap (λ (x : Met). seenOf (headerOf (m .options .mode) (m .bytes)) x) (u .0) ∙ ap (λ (a : Answer Outline). seenOf a nothing) e);
       }
@@ -34,7 +32,7 @@ module _ (s : DecodeSession) where
       record {
         does =
             λ m st.
-            let b : InBody m (parsed p) whole begun = staged (Stage.Body p whole begun) m g st in
+            let b = in-body m g (st .stage) in
             sym (ap (λ (x : Met). seenOf (headerOf (m .options .mode) (m .bytes)) x) (b .nothingMet) ∙ ap (λ (a : Answer Outline). seenOf a nothing) (b .headerIs));
       }
 
@@ -43,7 +41,7 @@ module _ (s : DecodeSession) where
       record {
         does =
             λ m st. sym
-            (ap (λ (x : Met). seenOf (headerOf (m .options .mode) (m .bytes)) x) (staged (Stage.Refused e f) m g st .0)
+            (ap (λ (x : Met). seenOf (headerOf (m .options .mode) (m .bytes)) x) (staged m g (st .stage) .0)
             ∙ hidden (headerOf (m .options .mode) (m .bytes)));
       }
     where

@@ -2,15 +2,16 @@
 use Prim.Native.Nat.{ℕ, zero, suc, _+_, _-_, _*_, _%_, _≤_, _<_, min}
 use mathlib.Core.Path.{_≡_, refl, sym, ap, _∙_}
 use mathlib.Core.Bool.{Bool, true, false}
-use mathlib.Core.List.{List, [], _∷_, _++_}
-use native.Mathlib.Nat.{mul-comm, mul-assoc, mul-add-mod-self-right, mul-add-mod-self-left, mod-eq-of-lt, add-zero, zero-add, zero-mul, mul-le-mul-right}
+use mathlib.Core.List.{List, _++_}
+use native.Mathlib.Nat.{mul-comm, mul-add-mod-self-right, mod-eq-of-lt, zero-add, zero-mul, mul-le-mul-right}
 use native.Mathlib.Omega.{arith}
 use borrow.Author.Tests.{eqb-true, eqb-false, leb-true, leb-false}
 use lib.Dec.{eqb, leb}
 use lib.ListN.{length, getD, take, drop, length-drop}
-use lib.Seq.{take-all, take-add, take-take, drop-drop, length-take-le, ext-getD}
+use lib.Seq.{take-all, take-add, take-take, drop-drop, ext-getD}
 use Rattle.error.specs.Choice.{if}
 use Rattle.error.specs.Answer.{Answer, gives}
+use Rattle.laws.proofs.Lists.{length-part}
 use Rattle.header.specs.Read.{Outline}
 use Rattle.image.specs.Geometry.{rowBytes, planeBytes, paddingBits}
 use Rattle.image.specs.Parts.{clearRows}
@@ -19,14 +20,14 @@ use Rattle.image.specs.declared.PixelFormat.{PixelFormat}
 use Rattle.image.specs.declared.PixelFormat.the-variants.{MonoBlack, MonoWhite}
 use Rattle.image.proofs.Cleared.{paddingAt}
 use Rattle.image.proofs.Inverted.{invert-length, invert-at}
+use Rattle.image.proofs.PlaneSizes.{byte-inside, plane-mod}
 use Rattle.image.proofs.AtOnce.{clear-length, clear-at, rows-same, all-at-once}
 use Rattle.options.specs.Limits.{Decoding}
 use Rattle.decoder.specs.Body.{planeOf, planeAt, planes}
 use Rattle.decoder.specs.Image.{headerOf}
 use Rattle.decoder.proofs.Planed.{one-less}
-use Rattle.decode_session.specs.Sequence.{padded, bodyByte, bodyFrom, sequenceOf, sequence}
-use Rattle.decode_session.proofs.BodyBytes.{body-length, body-append, body-at, body-mod}
-use Rattle.decode_session.proofs.Formats.{copied}
+use Rattle.decode_session.specs.Sequence.{padded, bodyFrom, sequenceOf, sequence}
+use Rattle.decode_session.proofs.BodyBytes.{body-length, body-append, body-at, body-mod, body-take, body-black}
 
 -- byte j of row y
 row-padded : (w y j b : ℕ) → j < rowBytes w → padded w (y * rowBytes w + j) b ≡ clearLow (paddingAt w j) b
@@ -49,7 +50,7 @@ row-padded w y j b h =
 plane-is : (f : PixelFormat) (w h : ℕ) (plane : List ℕ) → length plane ≡ planeBytes w h
     → convertFormat MonoBlack f w h (rowBytes w) plane ≡ bodyFrom f w 0 plane
 unfolding convertFormat
-plane-is MonoBlack w h plane n = copied w plane 0
+plane-is MonoBlack w h plane n = body-black w plane 0
 plane-is MonoWhite w h plane n =
     sym (all-at-once w h plane (omega arith) n)
     ∙ ext-getD 0 (clearRows w h (invert plane)) (bodyFrom MonoWhite w 0 plane)
@@ -58,10 +59,7 @@ plane-is MonoWhite w h plane n =
     (omega (arith, clear-length w h (invert plane), invert-length plane, n, mul-comm (rowBytes w) h)))
   where
     inside : (y j : ℕ) → y < h → j < rowBytes w → y * rowBytes w + j < length plane
-    inside y j l k =
-        let p : suc y * rowBytes w ≤ h * rowBytes w = mul-le-mul-right (rowBytes w) l in
-        let e : suc y * rowBytes w ≡ y * rowBytes w + rowBytes w = omega arith in
-        omega (arith, n, mul-comm (rowBytes w) h)
+    inside y j l k = omega (arith, byte-inside w h y j l k, n)
 
     same : (y j : ℕ) → y < h → j < rowBytes w → 0 < rowBytes w
         → getD (clearRows w h (invert plane)) (y * rowBytes w + j) 0 ≡ getD (bodyFrom MonoWhite w 0 plane) (y * rowBytes w + j) 0
@@ -82,8 +80,8 @@ planes-are f bytes h (suc k) l =
     let body = drop (h .body) bytes in
     let n = k * planeOf h in
     let e : n + planeOf h ≡ suc k * planeOf h = omega arith in
-    let size : length (take n body) ≡ n = length-take-le n body (rw length-drop (omega (arith, b .0))) in
-    let part : length (take (planeOf h) (drop (h .body + n) bytes)) ≡ planeOf h = length-take-le (planeOf h) (drop (h .body + n) bytes) (rw length-drop (omega (arith, b .1))) in
+    let size : length (take n body) ≡ n = length-part n (h .body) bytes (b .0) in
+    let part : length (take (planeOf h) (drop (h .body + n) bytes)) ≡ planeOf h = length-part (planeOf h) (h .body + n) bytes (b .1) in
     ap (λ (l : List ℕ). l ++ planeAt f bytes h k) (planes-are f bytes h k (b .0))
     ∙ ap (λ (l : List ℕ). bodyFrom f (h .width) 0 (take n body) ++ l)
     (plane-is f (h .width) (h .height) (take (planeOf h) (drop (h .body + n) bytes)) part
@@ -94,16 +92,8 @@ planes-are f bytes h (suc k) l =
   where
     whole-rows : (k : ℕ) → (0 + k * planeOf h) % rowBytes (h .width) ≡ 0 % rowBytes (h .width)
     whole-rows k =
-        let r = rowBytes (h .width) in
-        let e : 0 + k * (r * h .height) ≡ r * (k * h .height) + 0 =
-        zero-add (k * (r * h .height)) ∙ sym (mul-assoc k r (h .height)) ∙ ap (λ (i : ℕ). i * h .height) (mul-comm k r) ∙ mul-assoc r k (h .height) ∙ sym (add-zero _) in
-        ap (λ (i : ℕ). i % r) e ∙ mul-add-mod-self-left r (k * h .height) 0
-
-body-take : (f : PixelFormat) (w n : ℕ) (xs : List ℕ) (at : ℕ) → take n (bodyFrom f w at xs) ≡ bodyFrom f w at (take n xs)
-unfolding bodyFrom
-body-take f w zero xs at = refl
-body-take f w (suc n) [] at = refl
-body-take f w (suc n) (x ∷ xs) at = ap (λ (l : List ℕ). bodyByte f w at x ∷ l) (body-take f w n xs (at + 1))
+        let e : 0 + k * planeOf h ≡ k * planeOf h + 0 = omega arith in
+        ap (λ (i : ℕ). i % rowBytes (h .width)) e ∙ plane-mod (h .width) (h .height) k 0
 
 -- up to the ceiling, the first planes of what is put out are those of the file
 pub sequence-planes : (ceiling : ℕ) (d : Decoding) (bytes : List ℕ) (h : Outline) (k : ℕ) → headerOf (d .mode) bytes ≡ gives h → k ≤ ceiling

@@ -6,10 +6,10 @@ use mathlib.Core.List.{List, _++_}
 use native.Mathlib.Omega.{arith}
 use borrow.Author.Tests.{ltb-false, le-ltb}
 use lib.Dec.{ltb, leb}
-use lib.ListN.{length, take, drop, length-append, length-drop}
-use lib.Seq.{take-append-le, drop-append-le}
+use lib.ListN.{length, length-append}
 use Rattle.error.specs.Choice.{if}
 use Rattle.error.specs.Answer.{Answer, gives, refuses, bind, map, isEnd}
+use Rattle.laws.proofs.Lists.{part-append}
 use Rattle.laws.proofs.Tests.{zero-one}
 use Rattle.ext.proofs.Prefix.{settled}
 use Rattle.header.specs.Read.{Header, Outline, outline, readHeader}
@@ -76,10 +76,6 @@ module _ (s ρ : List ℕ) where
           let met : settled (readImage d s) ≡ true = ap settled e ∙ ap (λ (k : ℕ). not (isEnd k)) same ∙ ap not f in
           ap (λ (a : Answer Outline). bind a (λ h. fitted room h (framesIn ceiling (length (s ++ ρ)) h))) (image-kept d met ∙ e) ∙ q
 
-  part-kept : (n a : ℕ) → a + n ≤ length s → take n (drop a (s ++ ρ)) ≡ take n (drop a s)
-  part-kept n a b =
-      ap (take n) (drop-append-le a s ρ (omega arith)) ∙ take-append-le n (drop a s) ρ (rw length-drop (omega arith))
-
   pub planes-kept : (f : PixelFormat) (h : Outline) (k : ℕ) → h .body + k * planeOf h ≤ length s → planes f (s ++ ρ) h k ≡ planes f s h k
   unfolding planes planeAt
   planes-kept f h zero b = refl
@@ -87,4 +83,4 @@ module _ (s ρ : List ℕ) where
       let l = one-less (h .body) k (planeOf h) (length s) b in
       ap (λ (p : List ℕ). p ++ planeAt f (s ++ ρ) h k) (planes-kept f h k (l .0))
       ∙ ap (λ (p : List ℕ). planes f s h k ++ convertFormat MonoBlack f (h .width) (h .height) (rowBytes (h .width)) p)
-      (part-kept (planeOf h) (h .body + k * planeOf h) (l .1))
+      (part-append (planeOf h) (h .body + k * planeOf h) s ρ (l .1))

@@ -1,13 +1,13 @@
 -- Counting the planes of a body.
-use Prim.Native.Nat.{ℕ, _+_, _-_, _*_, _/_, _≤_, _<_}
+use Prim.Native.Nat.{ℕ, _+_, _-_, _*_, _/_, _≤_}
 use mathlib.Core.Path.{_≡_, refl, sym, ap, _∙_}
 use mathlib.Core.Bool.{Bool, true, false}
 use native.Mathlib.Nat.{div-zero, div-mul-le-self, mul-le-mul-right}
 use native.Mathlib.Omega.{arith}
-use borrow.Author.Tests.{leb-true, leb-false, le-leb, lt-leb}
+use borrow.Author.Tests.{leb-true, leb-false, le-leb}
 use lib.Dec.{leb}
 use Rattle.error.specs.Choice.{if}
-use Rattle.laws.proofs.Tests.{if-true, if-false}
+use Rattle.laws.proofs.Tests.{if-true}
 use Rattle.header.specs.Read.{parsed}
 use Rattle.header.specs.declared.ParsedHeader.{ParsedHeader}
 use Rattle.image.specs.Geometry.{layoutOf}
@@ -27,8 +27,12 @@ module _ (most plane body : ℕ) where
   pub few : whole ≤ most → whole ≡ extraFrames most plane body
   few h = sym (if-true (leb whole most) whole most (le-leb whole most h))
 
-  pub many : most < whole → most ≡ extraFrames most plane body
-  many h = sym (if-false (leb whole most) whole most (lt-leb whole most h))
+  pub many : most ≤ whole → most ≡ extraFrames most plane body
+  many h = go (leb whole most) refl
+    where
+      go : (t : Bool) → leb whole most ≡ t → most ≡ if t whole most
+      go true e = let k = leb-true whole most e in omega arith
+      go false e = refl
 
   pub least : (t : Bool) → leb whole most ≡ t → (if t whole most ≤ most) × (if t whole most ≤ whole)
   least true e = (leb-true whole most e, omega arith)

@@ -8,6 +8,7 @@ use lib.Dec.{ltb}
 use lib.ListN.{length, drop}
 use Rattle.error.specs.Answer.{Answer, gives, refuses, bind, map}
 use Rattle.error.specs.Emits.{output}
+use Rattle.laws.proofs.Answers.{bind-gives, unless}
 use Rattle.laws.proofs.Tests.{if-true, if-false}
 use Rattle.header.specs.Read.{Outline}
 use Rattle.image.specs.declared.PixelFormat.{PixelFormat}
@@ -17,7 +18,7 @@ use Rattle.decoder.specs.Image.{imageSettings, headerOf, testBody, readI
 use Rattle.decoder.specs.Frames.{Image, fitted, decoded, shown, Decodes, Imaged, Framed}
 use Rattle.decoder.proofs.Counted.{frames-fit}
 use Rattle.decoder.proofs.Planed.{planes-length}
-use Rattle.decoder.proofs.Shaped.{bind-gives, unless, outline-shape}
+use Rattle.decoder.proofs.Shaped.{outline-shape}
 
 -- an image by its frames and the bytes written
 abbrev pub imageWith : Outline → ℕ → ℕ → Image
@@ -92,14 +93,16 @@ module _ (ceiling : ℕ) (d : Decoding) (bytes old : List ℕ) where
             ∙ sym (ap (λ (a : Answer Decoding). output (bind a (λ s. shown ceiling s bytes)) old) s);
       }
 
--- the first plane of an image that was read is there
-pub plane-there : (d : Decoding) (bytes : List ℕ) (h : Outline) → readImage d bytes ≡ gives h → h .body + planeOf h ≤ length bytes
+-- an image that was read has its header, and its first plane is there
+pub image-parts : (d : Decoding) (bytes : List ℕ) (h : Outline) → readImage d bytes ≡ gives h
+    → (headerOf (d .mode) bytes ≡ gives h) × (h .body + planeOf h ≤ length bytes)
 unfolding readImage testBody
-plane-there d bytes h =
-    bind-gives (headerOf (d .mode) bytes) _ h (λ g p.
-    bind-gives (checkLimits d (g .width) (g .height) (planeOf g) (g .body)) _ h (λ _ q.
-    unless (ltb (length bytes - g .body) (planeOf g)) 20 (g .body) _ h (λ t e.
-    let b = outline-shape (imageSettings (d .mode)) bytes g p .2 in
-    let k = ltb-false (length bytes - g .body) (planeOf g) t in
-    let w : g ≡ h = cc in
-    subst (λ (g : Outline). g .body + planeOf g ≤ length bytes) w (omega arith))))
+image-parts d bytes h e =
+    let g = bind-gives (headerOf (d .mode) bytes) _ h e in
+    let l = bind-gives (checkLimits d (g .0 .width) (g .0 .height) (planeOf (g .0)) (g .0 .body)) _ h (g .2) in
+    let t = unless (ltb (length bytes - g .0 .body) (planeOf (g .0))) 20 (g .0 .body) _ h (l .2) in
+    let b = outline-shape (imageSettings (d .mode)) bytes (g .0) (g .1) .2 in
+    let k = ltb-false (length bytes - g .0 .body) (planeOf (g .0)) (t .0) in
+    let q = t .1 in
+    let same : g .0 ≡ h = cc in
+    (g .1 ∙ q, subst (λ (g : Outline). g .body + planeOf g ≤ length bytes) same (omega arith))

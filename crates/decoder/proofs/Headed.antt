@@ -17,7 +17,7 @@ use Rattle.image.specs.Geometry.{layoutOf}
 use Rattle.image.specs.declared.PlaneLayout.{PlaneLayout}
 use Rattle.options.specs.Limits.{Decoding, checkLimits}
 use Rattle.decoder.specs.Body.{planeOf}
-use Rattle.decoder.specs.Image.{imageSettings, testBody, readImage}
+use Rattle.decoder.specs.Image.{imageSettings, headerOf, testBody, readImage}
 
 -- what is left to test behind the limits
 abbrev pub afterLimits : ℕ → Outline → Answer Outline
@@ -48,9 +48,17 @@ module _ (size : ℕ) (p : ParsedHeader) (l : PlaneLayout) (body : ℕ) (laid : 
       if-false _ _ _
       (le-ltb _ _ (subst (λ (n : ℕ). n ≤ size - p .«data_offset») plane-is (subst (λ (n : ℕ). l .«total_bytes» ≤ n) left h)))
 
+-- an image by its header's answer, and by that of the limits
+pub image-by : (d : Decoding) (s : List ℕ) (x : Answer Outline) → headerOf (d .mode) s ≡ x → readImage d s ≡ bind x (testBody d (length s))
+unfolding readImage
+image-by d s x e = ap (λ (a : Answer Outline). bind a (testBody d (length s))) e
+
+pub image-limited : (d : Decoding) (s : List ℕ) (h : Outline) (x : Answer (Unit {0})) → headerOf (d .mode) s ≡ gives h
+    → checkLimits d (h .width) (h .height) (planeOf h) (h .body) ≡ x → readImage d s ≡ bind x (λ _. afterLimits (length s) h)
+unfolding testBody
+image-limited d s h x e l =
+    image-by d s (gives h) e ∙ ap (λ (a : Answer (Unit {0})). bind a (λ _. afterLimits (length s) h)) l
+
 pub on-header : (d : Decoding) (s : List ℕ) (o : Settings) (r x : HeaderRead) → o ≡ imageSettings (d .mode)
     → meaning r ≡ map outline (readHeader o s) → r ≡ x → readImage d s ≡ bind (meaning x) (testBody d (length s))
-unfolding readImage
-on-header d s o r x p q e =
-    ap (λ (a : Answer Outline). bind a (testBody d (length s)))
-    (sym (sym (ap meaning e) ∙ q ∙ ap (λ (o : Settings). map outline (readHeader o s)) p))
+on-header d s o r x p q e = image-by d s (meaning x) (sym (sym (ap meaning e) ∙ q ∙ ap (λ (o : Settings). map outline (readHeader o s)) p))

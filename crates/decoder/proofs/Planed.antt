@@ -2,13 +2,15 @@
 use Prim.Native.Nat.{ℕ, zero, suc, _+_, _-_, _*_, _≤_, _<_}
 use mathlib.Core.Path.{_≡_, refl, sym, ap, _∙_}
 use mathlib.Core.List.{List, _++_}
-use native.Mathlib.Nat.{mul-le-mul-right}
+use native.Mathlib.Nat.{suc-mul, mul-le-mul-right}
 use native.Mathlib.Numerals.{add-one}
 use native.Mathlib.Omega.{arith}
 use borrow.Rule.Slice.PartMut.{midOf, putMid}
 use lib.ListN.{length, take, drop, length-append, length-drop}
-use lib.Seq.{sets, length-sets, length-take-le, take-all}
+use lib.Seq.{sets, length-sets, take-all}
+use Rattle.laws.proofs.Lists.{length-part}
 use Rattle.laws.proofs.Runs.{sets-append, sets-front, sets-part}
+use Rattle.laws.proofs.Products.{up-to}
 use Rattle.header.specs.Read.{Outline}
 use Rattle.image.specs.Geometry.{rowBytes}
 use Rattle.image.specs.Rows.{convertFormat}
@@ -17,30 +19,24 @@ use Rattle.image.specs.declared.PixelFormat.the-variants.{MonoBlack}
 use Rattle.image.proofs.Converted.{format-length}
 use Rattle.decoder.specs.Body.{planeOf, sourcePlane, planeAt, planes}
 
-part-length : (n a : ℕ) (s : List ℕ) → a + n ≤ length s → length (take n (drop a s)) ≡ n
-part-length n a s b = length-take-le n (drop a s) (rw length-drop (omega arith))
-
 -- the stretch that is lent has room for a plane
 pub lent-room : (from plane to : ℕ) (bytes out : List ℕ) → from + plane ≤ length bytes → to + plane ≤ length out
     → length (take (from + plane - from) (drop from bytes)) ≤ length (midOf to (length out - to) out)
 lent-room from plane to bytes out a b =
     let e : from + plane - from ≡ plane = omega arith in
     let d : midOf to (length out - to) out ≡ drop to out = take-all (length out - to) (drop to out) (rw (length-drop to out) (omega arith)) in
-    rw (e, part-length plane from bytes a, d, length-drop to out) (omega arith)
+    rw (e, length-part plane from bytes a, d, length-drop to out) (omega arith)
 
 -- one plane more
-more : (k n : ℕ) → suc k * n ≡ k * n + n
-more k n = omega arith
-
 pub one-less : (a k n size : ℕ) → a + suc k * n ≤ size → (a + k * n ≤ size) × (a + k * n + n ≤ size)
-one-less a k n size h = let e = more k n in (omega arith, omega arith)
+one-less a k n size h = let e = suc-mul k n in (omega arith, omega arith)
 
 module _ (f : PixelFormat) (bytes : List ℕ) (h : Outline) where
   pub plane-length : (k : ℕ) → h .body + k * planeOf h + planeOf h ≤ length bytes → length (planeAt f bytes h k) ≡ planeOf h
   unfolding planeAt
   plane-length k b =
       format-length MonoBlack f (h .width) (h .height) (rowBytes (h .width)) (sourcePlane bytes h k)
-      ∙ part-length (planeOf h) (h .body + k * planeOf h) bytes b
+      ∙ length-part (planeOf h) (h .body + k * planeOf h) bytes b
 
   pub planes-length : (k : ℕ) → h .body + k * planeOf h ≤ length bytes → length (planes f bytes h k) ≡ k * planeOf h
   unfolding planes
@@ -50,7 +46,7 @@ module _ (f : PixelFormat) (bytes : List ℕ) (h : Outline) where
       length-append (planes f bytes h k) (planeAt f bytes h k)
       ∙ ap (λ (n : ℕ). n + length (planeAt f bytes h k)) (planes-length k (l .0))
       ∙ ap (λ (n : ℕ). k * planeOf h + n) (plane-length k (l .1))
-      ∙ sym (more k (planeOf h))
+      ∙ sym (suc-mul k (planeOf h))
 
 -- the planes before k are written
 pub record Planing (f : PixelFormat) (bytes : List ℕ) (h : Outline) (out₀ : List ℕ) (plane frames : ℕ) (out : List ℕ) (k : ℕ) : Type 0 where
@@ -74,8 +70,7 @@ module _ {f : PixelFormat} {bytes : List ℕ} {h : Outline} {out₀ : List ℕ} 
   -- plane k is in the file and in the output
   pub next-in : k < frames → (h .body + k * plane + plane ≤ length bytes) × (k * plane + plane ≤ length out)
   next-in l =
-      let p : suc k * plane ≤ frames * plane = mul-le-mul-right plane l in
-      let e = more k plane in
+      let p = up-to plane k frames l in
       let q = kept-length in
       (omega (arith, c .inside), omega (arith, c .room))
 
@@ -100,7 +95,7 @@ module _ {f : PixelFormat} {bytes : List ℕ} {h : Outline} {out₀ : List ℕ} 
       let v = planeAt f bytes h k in
       let b : h .body + k * planeOf h + planeOf h ≤ length bytes = rw (c .plane-is) at (next-in l .0) in
       let n : length v ≡ planeOf h = plane-length f bytes h k b in
-      let m : length source ≡ length v = ap length s ∙ part-length (planeOf h) (h .body + k * planeOf h) bytes b ∙ sym n in
+      let m : length source ≡ length v = ap length s ∙ length-part (planeOf h) (h .body + k * planeOf h) bytes b ∙ sym n in
       let fits : to + length v ≤ length out = omega (arith, next-in l .1, c .plane-is) in
       let d : midOf to (length out - to) out ≡ drop to out = take-all (length out - to) (drop to out) (rw (length-drop to out) (omega arith)) in
       let new-is : new ≡ v ++ drop (length v) (drop to out) =

@@ -1,15 +1,13 @@
 -- Reading is unaffected by bytes after the last frame of the ceiling, and by a rest that completes no further plane.
 use Prim.Native.Nat.{ℕ, zero, suc, _+_, _-_, _*_, _/_, _≤_, _<_}
 use mathlib.Core.Path.{_≡_, refl, sym, ap, _∙_}
-use mathlib.Core.Bool.{Bool, true, false}
 use mathlib.Core.List.{List, [], _∷_, _++_}
-use native.Mathlib.Nat.{div-zero, mul-zero, div-mul-le-self, le-div-iff-mul-le, div-lt-iff-lt-mul}
+use native.Mathlib.Nat.{div-zero, div-mul-le-self, le-div-iff-mul-le, div-lt-iff-lt-mul}
 use native.Mathlib.Omega.{arith}
-use borrow.Author.Tests.{leb-true}
 use lib.Dec.{leb}
 use lib.ListN.{length, replicate}
-use Rattle.error.specs.Choice.{if}
 use Rattle.error.specs.Answer.{Answer, gives, refuses, bind, map}
+use Rattle.laws.proofs.Products.{some-size}
 use Rattle.mbi.specs.Read.{readRest, readByte}
 use Rattle.ext.specs.Kinds.{absent}
 use Rattle.ext.specs.Read.{readFields}
@@ -20,8 +18,8 @@ use Rattle.options.specs.Settings.{defaults}
 use Rattle.decoder.specs.Body.{extraFrames, planeOf, framesIn, planes}
 use Rattle.decoder.specs.Image.{testBody, readImage}
 use Rattle.decoder.specs.Frames.{fitted, decoded, shown}
-use Rattle.decoder.proofs.Counted.{few, frames-fit, least}
-use Rattle.decoder.proofs.Fitted.{plane-there}
+use Rattle.decoder.proofs.Counted.{few, many, frames-fit, least}
+use Rattle.decoder.proofs.Fitted.{image-parts}
 use Rattle.decoder.proofs.After.{longer, image-kept, planes-kept, refusal-kept}
 
 div-grows : (n x y : ℕ) → x ≤ y → x / n ≤ y / n
@@ -29,17 +27,6 @@ div-grows zero x y h = let p = div-zero x in let q = div-zero y in omega arith
 div-grows (suc n) x y h =
     let p = div-mul-le-self x (suc n) in
     le-div-iff-mul-le {k = suc n} (omega arith) .1 (omega arith)
-
-some-factor : (a b n : ℕ) → a < b * n → 0 < n
-some-factor a b zero h = let e = mul-zero b in omega arith
-some-factor a b (suc n) h = omega arith
-
-capped : (most plane body : ℕ) → most ≤ (body - plane) / plane → extraFrames most plane body ≡ most
-capped most plane body h = go (leb ((body - plane) / plane) most) refl
-  where
-    go : (t : Bool) → leb ((body - plane) / plane) most ≡ t → if t ((body - plane) / plane) most ≡ most
-    go true e = let k = leb-true ((body - plane) / plane) most e in omega arith
-    go false e = refl
 
 -- the counts of two bodies of which the second is no shorter
 module _ (most plane body body′ : ℕ) (more : body ≤ body′) where
@@ -50,14 +37,14 @@ module _ (most plane body body′ : ℕ) (more : body ≤ body′) where
   bounds = least most plane body (leb ((body - plane) / plane) most) refl
 
   pub full : extraFrames most plane body ≡ most → extraFrames most plane body′ ≡ extraFrames most plane body
-  full e = capped most plane body′ (omega (arith, bounds .1, grows)) ∙ sym e
+  full e = sym (many most plane body′ (omega (arith, bounds .1, grows))) ∙ sym e
 
   pub no-more : body′ < (1 + (1 + extraFrames most plane body)) * plane → extraFrames most plane body′ ≡ extraFrames most plane body
   no-more h = go (extraFrames most plane body) (bounds .0) (bounds .1) h
     where
       go : (n : ℕ) → n ≤ most → n ≤ (body - plane) / plane → body′ < (1 + (1 + n)) * plane → extraFrames most plane body′ ≡ n
       go n p q l =
-          let z : 0 < plane = some-factor body′ (1 + (1 + n)) plane l in
+          let z : 0 < plane = some-size body′ (1 + (1 + n)) plane l in
           let e : (1 + (1 + n)) * plane ≡ (1 + n) * plane + plane = omega arith in
           let f : (1 + n) * plane ≡ n * plane + plane = omega arith in
           let u : (body′ - plane) / plane < 1 + n = div-lt-iff-lt-mul {k = plane} z .1 (omega arith) in
@@ -71,7 +58,7 @@ module _ (s ρ : List ℕ) (ceiling : ℕ) (d : Decoding) (h : Outline) (read : 
   unfolding decoded shown
   same-frames e room =
       let again : readImage d (s ++ ρ) ≡ gives h = image-kept s ρ d (ap settled read) ∙ read in
-      let there = plane-there d s h read in
+      let there = image-parts d s h read .1 in
       let fit = frames-fit (ceiling - 1) (planeOf h) (length s - h .body) (omega arith) in
       let inside : h .body + framesIn ceiling (length s) h * planeOf h ≤ length s = omega arith in (
         ap (λ (a : Answer Outline). bind a (λ h. fitted room h (framesIn ceiling (length (s ++ ρ)) h))) again
@@ -95,7 +82,7 @@ module _ (s ρ : List ℕ) (ceiling : ℕ) (d : Decoding) (h : Outline) (read : 
   -- a rest that completes no further plane
   pub no-plane-more : length (s ++ ρ) < h .body + (1 + framesIn ceiling (length s) h) * planeOf h → (room : ℕ) → Unaffected room
   no-plane-more l =
-      let there = plane-there d s h read in
+      let there = image-parts d s h read .1 in
       let m = longer s ρ in
       same-frames
       (ap (λ (k : ℕ). 1 + k) (no-more (ceiling - 1) (planeOf h) (length s - h .body) (length (s ++ ρ) - h .body) further (omega arith)))

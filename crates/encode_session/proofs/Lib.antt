@@ -5,6 +5,6 @@ pub mod Feeding
 pub mod Closing
 pub mod Lists
 pub mod Reaching
-pub mod Joining
+pub mod BytesJoined
 pub mod Theorems
 pub mod Examples

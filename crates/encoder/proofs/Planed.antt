@@ -2,7 +2,7 @@
 use Prim.Native.Nat.{ℕ, zero, suc, _+_, _-_, _*_, _≤_, _<_}
 use mathlib.Core.Path.{_≡_, refl, sym, ap, _∙_, subst}
 use mathlib.Core.List.{List, _++_}
-use native.Mathlib.Nat.{mul-comm, mul-le-mul-right}
+use native.Mathlib.Nat.{suc-mul, mul-comm}
 use native.Mathlib.Numerals.{add-one}
 use native.Mathlib.Omega.{arith}
 use borrow.Rule.Slice.PartMut.{midOf, putMid}
@@ -11,15 +11,12 @@ use lib.Seq.{sets, length-sets}
 use Rattle.error.specs.Answer.{Answer, gives}
 use Rattle.error.specs.Emits.{Emits}
 use Rattle.laws.proofs.Runs.{sets-append, sets-front, emits-part}
+use Rattle.laws.proofs.Products.{up-to}
 use Rattle.image.specs.Geometry.{rowBytes, planeBytes, neededBytes}
 use Rattle.image.specs.Rows.{wireBits}
 use Rattle.image.specs.declared.PixelFormat.{PixelFormat}
 use Rattle.image.proofs.Wiring.{wire-length}
 use Rattle.encoder.specs.Write.{lentPlane, wirePlanes}
-
--- one more of n bytes
-pub more : (k n : ℕ) → suc k * n ≡ k * n + n
-more k n = omega arith
 
 module _ (f : PixelFormat) (w h s : ℕ) where
   pub plane-length : (plane : List ℕ) → length (wireBits f w h s plane) ≡ planeBytes w h
@@ -33,7 +30,7 @@ module _ (f : PixelFormat) (w h s : ℕ) where
         length-append (wirePlanes f w h s planes k) (wireBits f w h s (lentPlane w h s planes k))
         ∙ ap (λ (n : ℕ). n + length (wireBits f w h s (lentPlane w h s planes k))) (planes-length k)
         ∙ ap (λ (n : ℕ). k * planeBytes w h + n) (plane-length (lentPlane w h s planes k))
-        ∙ sym (more k (planeBytes w h))
+        ∙ sym (suc-mul k (planeBytes w h))
 
 -- the planes before k are written
 pub record Planing (f : PixelFormat) (w h s : ℕ) (planes out₀ : List ℕ) (count plane needed : ℕ) (out : List ℕ) (k : ℕ) : Type 0 where
@@ -58,10 +55,8 @@ module _ {f : PixelFormat} {w h s : ℕ} {planes out₀ : List ℕ} {count plane
   -- plane k is among those that are lent and has room in the output
   pub next-in : k < count → (k * needed + needed ≤ length planes) × (k * plane + plane ≤ length out)
   next-in l =
-      let p : suc k * needed ≤ count * needed = mul-le-mul-right needed l in
-      let q : suc k * plane ≤ count * plane = mul-le-mul-right plane l in
-      let a = more k needed in
-      let b = more k plane in
+      let p = up-to needed k count l in
+      let q = up-to plane k count l in
       let n = kept-length in
       (omega (arith, c .inside), omega (arith, c .room))
 

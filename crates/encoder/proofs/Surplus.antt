@@ -1,13 +1,14 @@
 -- "Surplus is ignored": bytes behind the last plane change nothing.
-use Prim.Native.Nat.{ℕ, zero, suc, _+_, _*_, _≤_}
+use Prim.Native.Nat.{ℕ, zero, suc, _*_, _≤_}
 use mathlib.Core.Path.{_≡_, refl, sym, ap, _∙_}
 use mathlib.Core.List.{List, _++_}
+use native.Mathlib.Nat.{suc-mul}
 use native.Mathlib.Omega.{arith}
 use borrow.Author.Tests.{le-ltb}
-use lib.ListN.{length, take, drop, length-append, length-drop}
-use lib.Seq.{take-append-le, drop-append-le}
+use lib.ListN.{length, length-append}
 use Rattle.error.specs.Answer.{Answer, gives, bind}
 use Rattle.laws.proofs.Tests.{if-false}
+use Rattle.laws.proofs.Lists.{part-append}
 use Rattle.image.specs.Geometry.{neededBytes, checkGeometry}
 use Rattle.image.specs.Rows.{wireBits}
 use Rattle.image.specs.declared.PixelFormat.{PixelFormat}
@@ -16,7 +17,6 @@ use Rattle.options.specs.declared.EncodeOptions.{EncodeOptions}
 use Rattle.encoder.specs.File.{fileOf}
 use Rattle.encoder.specs.Write.{checkPlanes, lentPlane, wirePlanes, fileOfPlanes}
 use Rattle.encoder.proofs.Counted.{accepted}
-use Rattle.encoder.proofs.Planed.{more}
 use Rattle.encoder.proofs.Tested.{afterGeometry, tested}
 
 module _ (w h s : ℕ) where
@@ -31,18 +31,14 @@ module _ (w h s : ℕ) where
       ∙ if-false _ _ _ (le-ltb b′ (n * neededBytes w h s) (omega (arith, t .total)))
 
   module _ (f : PixelFormat) (planes ρ : List ℕ) where
-    lent-kept : (k : ℕ) → k * neededBytes w h s + neededBytes w h s ≤ length planes → lentPlane w h s (planes ++ ρ) k ≡ lentPlane w h s planes k
-    lent-kept k b =
-        ap (take (neededBytes w h s)) (drop-append-le (k * neededBytes w h s) planes ρ (omega arith))
-        ∙ take-append-le (neededBytes w h s) (drop (k * neededBytes w h s) planes) ρ (rw length-drop (omega arith))
-
     planes-kept : (n : ℕ) → n * neededBytes w h s ≤ length planes → wirePlanes f w h s (planes ++ ρ) n ≡ wirePlanes f w h s planes n
     unfolding wirePlanes
     planes-kept zero b = refl
     planes-kept (suc n) b =
-        let e = more n (neededBytes w h s) in
+        let e = suc-mul n (neededBytes w h s) in
         ap (λ (p : List ℕ). p ++ wireBits f w h s (lentPlane w h s (planes ++ ρ) n)) (planes-kept n (omega arith))
-        ∙ ap (λ (p : List ℕ). wirePlanes f w h s planes n ++ wireBits f w h s p) (lent-kept n (omega arith))
+        ∙ ap (λ (p : List ℕ). wirePlanes f w h s planes n ++ wireBits f w h s p)
+        (part-append (neededBytes w h s) (n * neededBytes w h s) planes ρ (omega arith))
 
     pub surplus-ignored : (ceiling : ℕ) (o : EncodeOptions) (n : ℕ) (text lengths : List ℕ) → checkPlanes ceiling w h n s (length planes) ≡ gives tt
         → fileOfPlanes ceiling o f w h n s (planes ++ ρ) text lengths ≡ fileOfPlanes ceiling o f w h n s planes text lengths

@@ -12,15 +12,15 @@ use borrow.Author.Tests.{lt-leb}
 use Rattle.error.specs.Answer.{Answer, gives, refuses, map, written}
 use Rattle.error.specs.Emits.{Emits}
 use Rattle.error.specs.declared.Written.{Written}
+use Rattle.laws.proofs.Answers.{map-gives}
 use Rattle.laws.proofs.Tests.{if-false}
 use Rattle.laws.proofs.Runs.{sets-front}
 use Rattle.laws.proofs.Emitted.{emits-short, emits-bytes, emits-refused}
 use Rattle.ext.specs.Write.{octetsBytes, octetBytes, sum, lentBytes}
-use Rattle.ext.specs.Steps.{fieldsLength, canPut, putStart, putStep, putOutput, putPairs, continued, Small}
-use Rattle.ext.specs.Left.{Left, none-left, pairs-left, ChecksPairs}
+use Rattle.ext.specs.Steps.{canPut, putStart, putStep, putOutput, putPairs, continued, Small}
+use Rattle.ext.specs.Left.{Left, none-left, pairs-left}
 use Rattle.ext.specs.declared.PairsPut.{PairsPut}
 use Rattle.ext.specs.declared.PairsBegun.{PairsBegun}
-use Rattle.ext.proofs.Answers.{map-gives}
 use Rattle.ext.proofs.Octets.{accepted-small, accepted-bytes, length-continued}
 use Rattle.ext.proofs.Lent.{pairs-accepted}
 use Rattle.ext.proofs.Puts.{put-all}

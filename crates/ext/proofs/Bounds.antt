@@ -8,11 +8,11 @@ use borrow.Author.Tests.{leb-false}
 use lib.Dec.{ltb, leb}
 use lib.ListN.{length, drop, length-drop}
 use Rattle.error.specs.Answer.{Answer, gives, refuses, map}
+use Rattle.laws.proofs.Answers.{map-gives}
 use Rattle.laws.proofs.Tests.{zero-one}
 use Rattle.ext.specs.Kinds.{Pair, Fields, none, pairs}
 use Rattle.ext.specs.Classes.{all, isAlphaDigit}
 use Rattle.ext.specs.Read.{readOctets, readOctet, readPair, readPairs, readFields}
-use Rattle.ext.proofs.Answers.{map-gives}
 use Rattle.ext.proofs.Cases.{by-kind, PairsGiven, last, more, pairs-given}
 use Rattle.ext.proofs.Continuation.{pairCount}
 

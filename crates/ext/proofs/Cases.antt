@@ -7,10 +7,10 @@ use borrow.Author.Tests.{eqb-true, eqb-false, leb-false}
 use lib.Dec.{leb, eqb}
 use lib.ListN.{length, getD, drop}
 use Rattle.error.specs.Answer.{Answer, gives, refuses, bind, map}
+use Rattle.laws.proofs.Answers.{map-gives, bind-gives}
 use Rattle.laws.proofs.Tests.{zero-one}
 use Rattle.ext.specs.Kinds.{Pair, Fields, bitfield, reserved, pairs}
 use Rattle.ext.specs.Read.{PairAt, readOctets, readOctet, readPair, readPairs, readFields}
-use Rattle.ext.proofs.Answers.{map-gives, bind-gives}
 use Rattle.ext.proofs.Extent.{PairIn, pair-in}
 
 -- fields that follow, by their kind

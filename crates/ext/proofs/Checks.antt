@@ -12,6 +12,7 @@ use lib.Seq.{drop-drop, length-take-le}
 use borrow.Author.Tests.{lt-ltb, leb-true, leb-false, eqb-true, eqb-false, eq-eqb, ne-eqb}
 use Rattle.error.specs.Choice.{if}
 use Rattle.error.specs.Answer.{Answer, gives, refuses, bind, map}
+use Rattle.laws.proofs.Lists.{length-part}
 use Rattle.laws.proofs.Tests.{if-true, if-false}
 use Rattle.ext.specs.Kinds.{Pair, Fields}
 use Rattle.ext.specs.Write.{checkPair, pairBytes, pairsBytes, cutPairs, sum, lentFields, lentBytes, fieldsBytes}
@@ -151,7 +152,7 @@ laid-length strict (i ∷ v ∷ ls) text bytes e h =
     let k = laid-cons strict (record { identifier = take i text; value = take v (drop i text) }) (cutPairs ls (drop (i + v) text)) bytes e in
     let r : length (k .rest) ≡ sum ls + length ls / 2 = laid-length strict ls (drop (i + v) text) (k .rest) (k .rest-is) (omega (arith, length-drop (i + v) text)) in
     let a : length (take i text) ≡ i = length-take-le i text (omega arith) in
-    let b : length (take v (drop i text)) ≡ v = length-take-le v (drop i text) (omega (arith, length-drop i text)) in
+    let b : length (take v (drop i text)) ≡ v = length-part v i text (omega arith) in
     let f : length bytes ≡ suc (length ((take i text ++ take v (drop i text)) ++ k .rest)) = ap length (k .bytes-are) in
     let g : length (i ∷ v ∷ ls) ≡ suc (suc (length ls)) = refl in
     omega (arith, length-append (take i text) (take v (drop i text)), length-append (take i text ++ take v (drop i text)) (k .rest))

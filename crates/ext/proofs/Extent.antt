@@ -10,11 +10,11 @@ use lib.ListN.{length, getD}
 use lib.Seq.{slice}
 use Rattle.error.specs.Choice.{if}
 use Rattle.error.specs.Answer.{gives, refuses, map}
+use Rattle.laws.proofs.Answers.{map-gives}
 use Rattle.laws.proofs.Tests.{zero-one}
 use Rattle.ext.specs.Classes.{isChar, isAlphaDigit, inClass}
 use Rattle.ext.specs.Read.{PairAt, readPair, classed}
 use Rattle.ext.specs.Pairwise.{pairStep}
-use Rattle.ext.proofs.Answers.{map-gives}
 
 -- the lengths in a pair's header byte
 abbrev pub identifierSize : ℕ → ℕ

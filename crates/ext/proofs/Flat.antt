@@ -1,20 +1,20 @@
 -- Pairs lent as records: what runs over the records come to, by their lengths, two each.
-use Prim.Native.Nat.{ℕ, zero, suc, _+_, _*_, _≤_, _<_}
+use Prim.Native.Nat.{ℕ, suc, _+_, _*_, _≤_, _<_}
 use mathlib.Core.Path.{_≡_, _∙_, sym, ap, refl}
 use mathlib.Core.Bool.{Bool, true, false}
 use mathlib.Core.List.{List, [], _∷_}
+use native.Mathlib.Nat.{pos-of-ne-zero}
 use native.Mathlib.Omega.{arith}
-use lib.Dec.{ltb, leb, eqb}
+use lib.Dec.{ltb, eqb}
 use lib.ListN.{length, getD, drop, length-drop, drop-of-length-le}
 use borrow.Author.Tests.{lt-ltb, le-ltb, eq-eqb, ne-eqb, eqb-true, eqb-false, ltb-true, ltb-false}
 use Rattle.error.specs.Answer.{map}
-use Rattle.laws.proofs.Tests.{if-true, if-false}
+use Rattle.laws.proofs.Tests.{if-false}
 use Rattle.ext.specs.Write.{flattened, lentBytes}
-use Rattle.ext.specs.Steps.{fieldsLength, refusedWith, checkStart, checkStep, checkPairs, pairsLength, putStep, putOutput, putPairs}
+use Rattle.ext.specs.Steps.{fieldsLength, checkStart, checkStep, checkPairs, pairsLength, putStep, putOutput, putPairs}
 use Rattle.ext.specs.declared.Parameter.{Parameter}
 use Rattle.ext.specs.declared.PairsCheck.{PairsCheck}
 use Rattle.ext.specs.declared.PairsPut.{PairsPut}
-use Rattle.ext.specs.declared.FieldsCheck.the-variants.{Length}
 use Rattle.ext.proofs.Checks.{pairs-31, pairs-23, pairs-refused, pairs-accepted}
 use Rattle.ext.proofs.Turns.{next-of}
 
@@ -74,10 +74,6 @@ pub put-over : (ps : List Parameter) (k : ℕ) → length ps ≤ k → (text out
 unfolding putPairs
 put-over ps k h text out s = ap (λ (l : List Parameter). putPairs text (flattened l) out s) (drop-of-length-le ps h)
 
-positive : (n : ℕ) → (n ≡ 0 → ⊥) → 0 < n
-positive zero h = absurd (h refl)
-positive (suc n) h = omega arith
-
 -- what the end of a run of checks says
 module _ (strict : Bool) (text lengths : List ℕ) (s : PairsCheck) (q : s ≡ checkPairs strict text lengths checkStart) where
   pub pairs-found : fieldsLength (pairsLength (length text) (length lengths) s) ≡ map length (lentBytes strict 3 text lengths)
@@ -93,7 +89,7 @@ module _ (strict : Bool) (text lengths : List ℕ) (s : PairsCheck) (q : s ≡ c
       by-number : s .at ≡ length text → (b : Bool) → eqb (length lengths) 0 ≡ b
           → fieldsLength (pairsLength (length text) (length lengths) s) ≡ map length (lentBytes strict 3 text lengths)
       by-number e true t = rw (eq-eqb _ _ e, t) (sym (ap (map length) (pairs-23 strict text lengths s q e (eqb-true _ _ t))))
-      by-number e false t = by-code e (positive (length lengths) (eqb-false (length lengths) 0 t)) (eqb (s .code) 0) refl
+      by-number e false t = by-code e (pos-of-ne-zero (eqb-false (length lengths) 0 t)) (eqb (s .code) 0) refl
 
       by-at : (b : Bool) → eqb (s .at) (length text) ≡ b
           → fieldsLength (pairsLength (length text) (length lengths) s) ≡ map length (lentBytes strict 3 text lengths)

@@ -8,10 +8,10 @@ use lib.Dec.{ltb}
 use lib.ListN.{length, length-append}
 use borrow.Author.Tests.{lt-ltb}
 use Rattle.error.specs.Answer.{Answer, gives, bind, map}
+use Rattle.laws.proofs.Answers.{bind-gives, map-gives}
 use Rattle.laws.proofs.Tests.{zero-one}
 use Rattle.ext.specs.Kinds.{Pair}
 use Rattle.ext.specs.Write.{checkPair, pairBytes, pairsBytes}
-use Rattle.ext.proofs.Answers.{bind-gives, map-gives}
 
 abbrev pub laid : Bool → List Pair → Answer (List ℕ)
 laid strict [] = gives []

@@ -1,4 +1,3 @@
-pub mod Answers
 pub mod Alls
 pub mod Faults
 pub mod Extent

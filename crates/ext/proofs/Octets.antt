@@ -1,7 +1,7 @@
 -- Octets of kind 00 to be written.
 use Prim.Native.Nat.{ℕ, zero, suc, _+_, _≤_, _<_}
 use mathlib.Core.Path.{_≡_, _∙_, sym, ap, refl}
-use mathlib.Core.Bool.{Bool, true, false}
+use mathlib.Core.Bool.{Bool}
 use mathlib.Core.List.{List, [], _∷_}
 use native.Mathlib.Nat.{zero-add}
 use native.Mathlib.Numerals.{add-one}
@@ -12,12 +12,12 @@ use lib.Seq.{sets}
 use borrow.Author.Tests.{lt-ltb, le-ltb, ltb-true}
 use Rattle.error.specs.Choice.{if}
 use Rattle.error.specs.Answer.{Answer, gives, refuses, map}
+use Rattle.laws.proofs.Answers.{map-gives, when}
 use Rattle.laws.proofs.Lists.{drop-at}
 use Rattle.laws.proofs.Tests.{if-true, if-false, zero-one}
 use Rattle.ext.specs.Write.{octetsBytes}
 use Rattle.ext.specs.Steps.{octetLength, Small, continued}
 use Rattle.ext.proofs.PairSteps.{left-more}
-use Rattle.ext.proofs.Answers.{map-gives}
 
 pub length-continued : (s : List ℕ) → length (continued s) ≡ length s
 unfolding continued
@@ -67,11 +67,7 @@ small-cons o os h k zero l = h
 small-cons o os h k (suc i) l = k i (omega arith)
 
 first-small : (o : ℕ) (a : Answer (List ℕ)) (bytes : List ℕ) → if (ltb o 128) a (refuses 24 0) ≡ gives bytes → (o < 128) × (a ≡ gives bytes)
-first-small o a bytes e = by-test (ltb o 128) refl e
-  where
-    by-test : (b : Bool) → ltb o 128 ≡ b → if b a (refuses 24 0) ≡ gives bytes → (o < 128) × (a ≡ gives bytes)
-    by-test true t f = (ltb-true o 128 t, f)
-    by-test false t f = zero-one (cc)
+first-small o a bytes e = let t = when (ltb o 128) 24 0 a bytes e in (ltb-true o 128 (t .0), t .1)
 
 pub accepted-small : (s bytes : List ℕ) → octetsBytes s ≡ gives bytes → Small s
 unfolding octetsBytes

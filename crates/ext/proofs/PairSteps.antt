@@ -8,11 +8,11 @@ use native.Mathlib.Numerals.{add-one}
 use native.Mathlib.Omega.{arith}
 use lib.Dec.{ltb}
 use lib.ListN.{length, getD, take, drop, set, length-drop, length-set, drop-of-length-le}
-use lib.Seq.{sets, drop-drop, getD-drop, take-add, length-take-le, length-sets}
+use lib.Seq.{sets, drop-drop, getD-drop, take-add, length-sets}
 use borrow.Author.Tests.{lt-ltb, le-ltb, le-leb, lt-leb, eq-eqb, ne-eqb, ltb-true, ltb-false}
 use Rattle.error.specs.Choice.{if}
 use Rattle.error.specs.Answer.{Answer}
-use Rattle.laws.proofs.Lists.{drop-at}
+use Rattle.laws.proofs.Lists.{drop-at, length-part}
 use Rattle.laws.proofs.Tests.{if-true, if-false}
 use Rattle.ext.specs.Write.{checkPair, pairBytes}
 use Rattle.ext.specs.Steps.{lentPair, codeOf, checkStep, checkPairs, canPut, putStep, putOutput, putPairs}
@@ -185,8 +185,8 @@ module _ (text out : List ℕ) (s : PairsPut) (i v : ℕ) where
 pub lent-bytes : (text : List ℕ) (at i v : ℕ) (more : Bool) → at + i + v ≤ length text
     → pairBytes more (lentPair text at i v) ≡ (if more 128 0 + i * 16 + v) ∷ take (i + v) (drop at text)
 lent-bytes text at i v more h =
-    let e = length-take-le i (drop at text) (omega (arith, length-drop at text)) in
-    let f = length-take-le v (drop (at + i) text) (omega (arith, length-drop (at + i) text)) in
+    let e = length-part i at text (omega arith) in
+    let f = length-part v (at + i) text h in
     rw (e, f, take-add i v (drop at text), drop-drop i at text) refl
 
 -- the pair that two parts of the text make, as the code cuts them

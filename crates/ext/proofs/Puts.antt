@@ -5,9 +5,10 @@ use mathlib.Core.Bool.{Bool, true}
 use mathlib.Core.List.{List, [], _∷_, _++_}
 use native.Mathlib.Omega.{arith}
 use lib.Dec.{ltb}
-use lib.ListN.{length, take, drop, length-append, length-drop}
-use lib.Seq.{sets, length-sets, length-take-le}
+use lib.ListN.{length, take, drop, length-append}
+use lib.Seq.{sets, length-sets}
 use Rattle.error.specs.Answer.{gives}
+use Rattle.laws.proofs.Lists.{length-part}
 use Rattle.laws.proofs.Runs.{sets-append}
 use Rattle.ext.specs.Kinds.{Pair}
 use Rattle.ext.specs.Write.{checkPair, pairBytes, cutPairs, sum}
@@ -21,10 +22,10 @@ use Rattle.ext.proofs.Checks.{cut-cons, cut-more}
 -- what is read off an accepted first pair of lengths i and v
 module _ (strict : Bool) (text : List ℕ) (at i v : ℕ) (a : checkPair strict (lentPair text at i v) ≡ gives tt) (t : at + i + v ≤ length text) where
   identifier-length : length (take i (drop at text)) ≡ i
-  identifier-length = length-take-le i (drop at text) (omega (arith, length-drop at text))
+  identifier-length = length-part i at text (omega arith)
 
   value-length : length (take v (drop (at + i) text)) ≡ v
-  value-length = length-take-le v (drop (at + i) text) (omega (arith, length-drop (at + i) text))
+  value-length = length-part v (at + i) text t
 
   pub short-identifier : i ≤ 7
   short-identifier = omega (arith, passed strict (lentPair text at i v) a .identifier-most, identifier-length)

@@ -6,11 +6,11 @@ use mathlib.Core.Bool.{Bool, true, false}
 use native.Mathlib.Omega.{arith}
 use lib.ListN.{length, drop}
 use Rattle.error.specs.Answer.{Answer, gives, refuses, bind, map}
+use Rattle.laws.proofs.Answers.{map-gives}
 use Rattle.ext.specs.Kinds.{Fields, Span, absent, span, spanOf, meaning}
 use Rattle.ext.specs.Read.{readOctets, readOctet, readPairs, readFields}
 use Rattle.ext.specs.Bytewise.{fieldsFrom}
 use Rattle.ext.specs.declared.ExtRead.{ExtRead}
-use Rattle.ext.proofs.Answers.{map-gives}
 use Rattle.ext.proofs.Cases.{by-kind}
 use Rattle.ext.proofs.Continuation.{pairCount, fields-in}
 use Rattle.ext.proofs.Bounds.{fields-bound}

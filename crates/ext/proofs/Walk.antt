@@ -7,6 +7,7 @@ use native.Mathlib.Omega.{arith}
 use lib.ListN.{length, getD, drop}
 use lib.Seq.{slice, length-slice}
 use Rattle.error.specs.Answer.{Answer, gives, refuses, refusal, map}
+use Rattle.laws.proofs.Answers.{map-gives}
 use Rattle.laws.proofs.Tests.{zero-one}
 use Rattle.ext.specs.Kinds.{Pair, Fields, none, bitfield, reserved, pairs, absent, spanOf, fieldsSpan, meaning}
 use Rattle.ext.specs.Read.{PairAt, readOctets, readOctet, readPairs, readFields}
@@ -14,7 +15,6 @@ use Rattle.ext.specs.Find.{pairsIn, pairAt, pairSize, valueStart, Found,
 use Rattle.ext.specs.declared.ExtFields.{ExtFields}
 use Rattle.ext.specs.declared.ExtRead.{ExtRead}
 use Rattle.ext.specs.declared.ExtRead.the-variants.{Absent}
-use Rattle.ext.proofs.Answers.{map-gives}
 use Rattle.ext.proofs.Cases.{by-kind, PairsGiven, last, more, pairs-given}
 use Rattle.ext.proofs.Extent.{identifierSize, valueSize, PairIn}
 

@@ -9,12 +9,12 @@ use lib.ListN.{length, getD, take, drop}
 use lib.Seq.{getD-drop}
 use Rattle.error.specs.Choice.{if}
 use Rattle.error.specs.Answer.{gives, refuses}
+use Rattle.laws.proofs.Answers.{bind-gives}
 use Rattle.laws.proofs.Tests.{zero-one}
 use Rattle.ext.specs.Kinds.{Pair, Fields, none, bitfield, reserved, pairs}
 use Rattle.ext.specs.Write.{checkPair, pairBytes, pairsBytes, fieldsBytes, cutPairs, sum, lentFields, lentBytes}
 use Rattle.ext.specs.Classes.{all, isAlphaDigit}
 use Rattle.ext.specs.Steps.{Small, continued}
-use Rattle.ext.proofs.Answers.{bind-gives}
 use Rattle.ext.proofs.CheckPair.{Passed, passed}
 use Rattle.ext.proofs.Octets.{accepted-small, accepted-bytes}
 use Rattle.ext.proofs.Laid.{laid, pairs-laid, pairs-some, laid-cons}

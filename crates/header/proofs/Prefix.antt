@@ -34,11 +34,8 @@ pick-other true x x′ y p e = p e
 pick-other false x x′ y p e = refl
 
 module _ (o : Settings) (s ρ : List ℕ) where
-  integer-prefix : (at : ℕ) → settled (readMbi (o .shortest) s at) ≡ true → readMbi (o .shortest) (s ++ ρ) at ≡ readMbi (o .shortest) s at
-  integer-prefix at e = mbi-prefix (o .shortest) s ρ at (λ p q. clash (subst (λ (x : Answer (ℕ × ℕ)). settled x ≡ true) q e))
-    where
-      clash : {X : Type 0} → false ≡ true → X
-      clash z = zero-one (cc)
+  pub integer-prefix : (at : ℕ) → settled (readMbi (o .shortest) s at) ≡ true → readMbi (o .shortest) (s ++ ρ) at ≡ readMbi (o .shortest) s at
+  integer-prefix at e = mbi-prefix (o .shortest) s ρ at (λ p q. let z = subst (λ (x : Answer (ℕ × ℕ)). settled x ≡ true) q e in zero-one (cc))
 
   fix-prefix : (at : ℕ) → settled (readFix o s at) ≡ true → readFix o (s ++ ρ) at ≡ readFix o s at
   fix-prefix at e = go (leb (length s) at) refl e

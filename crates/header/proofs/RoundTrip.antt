@@ -9,6 +9,7 @@ use borrow.Author.Tests.{lt-leb, le-leb, ne-eqb}
 use lib.Dec.{ltb, leb}
 use lib.ListN.{length, getD, length-append}
 use Rattle.error.specs.Answer.{gives}
+use Rattle.laws.proofs.Tests.{and-false}
 use Rattle.mbi.specs.Bytes.{mbiBytes, groups}
 use Rattle.mbi.specs.Read.{readMbi}
 use Rattle.mbi.proofs.RoundTrip.{read-written}
@@ -33,10 +34,6 @@ Fitting o strict none = Unit {0}
 Fitting o strict (bitfield octets) = Readable (bitfield octets) × (o .fixZero ≡ false) × (o .honoured ≡ true) × (o .classes ≡ true → strict ≡ true)
 Fitting o strict (reserved kind octet) = Readable (reserved kind octet) × (o .fixZero ≡ false) × (o .honoured ≡ true) × (o .classes ≡ true → strict ≡ true)
 Fitting o strict (pairs ps) = Readable (pairs ps) × (o .fixZero ≡ false) × (o .honoured ≡ true) × (o .classes ≡ true → strict ≡ true)
-
-and-false : (t : Bool) → (t && false) ≡ false
-and-false true = refl
-and-false false = refl
 
 module _ (o : Settings) (strict : Bool) (w h : ℕ) (f : Fields) (bytes τ : List ℕ) where
   abbrev file : List ℕ

@@ -1,5 +1,5 @@
 -- Planes whose rows stand without gaps: all bytes at once, and then the padding, is what row by row gives.
-use Prim.Native.Nat.{ℕ, zero, suc, _+_, _-_, _*_, _/_, _%_, _^_, _≤_, _<_}
+use Prim.Native.Nat.{ℕ, zero, suc, _+_, _-_, _*_, _/_, _%_, _≤_, _<_}
 use mathlib.Core.Path.{_≡_, refl, ap, sym, _∙_}
 use mathlib.Core.Bool.{Bool, true, false}
 use mathlib.Core.List.{List, [], _++_, append-nil}
@@ -12,15 +12,17 @@ use lib.Bits.{bitAnd}
 use lib.Dec.{eqb, ltb}
 use lib.ListN.{length, getD, set, take, drop, length-append, length-drop, length-set, List·getD-append}
 use lib.Seq.{length-take-le, take-all, drop-length, getD-append-add, getD-take, getD-drop, getD-set-same, getD-set-other, set-getD, ext-getD}
+use Rattle.laws.proofs.Products.{up-to, some-size}
 use Rattle.image.specs.Geometry.{rowBytes, planeBytes, paddingBits, paddingMask}
 use Rattle.image.specs.Parts.{clearRows}
-use Rattle.image.specs.Rows.{clearLow, invert, rowAt, sourceRow, toNative, convertRows, wireBits}
+use Rattle.image.specs.Rows.{clearLow, invert, sourceRow, toNative, convertRows, wireBits}
 use Rattle.image.specs.declared.PixelFormat.{PixelFormat}
 use Rattle.image.specs.declared.PixelFormat.the-variants.{MonoBlack, MonoWhite}
 use Rattle.image.proofs.Cleared.{paddingAt}
 use Rattle.image.proofs.Converted.{AllThere, rows-length, rows-outside, rows-inside}
 use Rattle.image.proofs.Inverted.{invert-length, invert-at}
 use Rattle.image.proofs.Masked.{mask-low}
+use Rattle.image.proofs.PlaneSizes.{byte-inside}
 use Rattle.image.proofs.WireDots.{wire-byte}
 use Rattle.image.proofs.Wiring.{source-there, source-length, native-length, wire-length}
 
@@ -117,15 +119,11 @@ module _ (w h : ℕ) (a b : List ℕ)
   pub rows-same : (k : ℕ) → k < h * rowBytes w → getD a k 0 ≡ getD b k 0
   rows-same k l =
       let r = rowBytes w in
-      let p : 0 < r = positive r l in
+      let p : 0 < r = some-size k h r l in
       let e : k / r * r + k % r ≡ k = div-add-mod' k r in
       ap (λ (n : ℕ). getD a n 0) (sym e)
       ∙ same (k / r) (k % r) (div-lt-iff-lt-mul p .1 l) (mod-lt k p) p
       ∙ ap (λ (n : ℕ). getD b n 0) e
-    where
-      positive : (r : ℕ) → k < h * r → 0 < r
-      positive zero l = let z : h * 0 ≡ 0 = omega arith in omega arith
-      positive (suc r) l = omega arith
 
 -- a plane with room for all rows
 module _ (w h : ℕ) (plane : List ℕ) (room : planeBytes w h ≤ length plane) where
@@ -139,16 +137,10 @@ module _ (w h : ℕ) (plane : List ℕ) (room : planeBytes w h ≤ length plane)
   front-length = length-take-le total plane room
 
   there : AllThere w (rowBytes w) (0 + h) plane
-  there z l =
-      let p : suc z * rowBytes w ≤ h * rowBytes w = mul-le-mul-right (rowBytes w) (omega arith) in
-      let m : suc z * rowBytes w ≡ z * rowBytes w + rowBytes w = omega arith in
-      omega (arith, total-is)
+  there z l = omega (arith, up-to (rowBytes w) z h (omega arith), total-is)
 
   in-total : (y j : ℕ) → y < h → j < rowBytes w → y * rowBytes w + j < total
-  in-total y j l k =
-      let p : suc y * rowBytes w ≤ h * rowBytes w = mul-le-mul-right (rowBytes w) l in
-      let m : suc y * rowBytes w ≡ y * rowBytes w + rowBytes w = omega arith in
-      omega (arith, total-is)
+  in-total = byte-inside w h
 
   -- ---- another format
 
@@ -183,10 +175,7 @@ module _ (w h : ℕ) (plane : List ℕ) (room : planeBytes w h ≤ length plane)
       ∙ ap (λ (n : ℕ). getD (new ++ drop total plane) n 0) e
     where
       in-rows : (z : ℕ) → z < h → z * rowBytes w + rowBytes w ≤ total
-      in-rows z l =
-          let p : suc z * rowBytes w ≤ h * rowBytes w = mul-le-mul-right (rowBytes w) l in
-          let m : suc z * rowBytes w ≡ z * rowBytes w + rowBytes w = omega arith in
-          omega (arith, total-is)
+      in-rows z l = omega (arith, up-to (rowBytes w) z h l, total-is)
 
   byte-same : (k : ℕ) (t : Bool) → ltb k total ≡ t → getD whole k 0 ≡ getD (new ++ drop total plane) k 0
   byte-same k true e = rows-same w h whole (new ++ drop total plane) row-same k (omega (arith, ltb-true k total e, total-is))

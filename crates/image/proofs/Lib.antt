@@ -1,4 +1,5 @@
 pub mod Products
+pub mod PlaneSizes
 pub mod Tested
 pub mod Starts
 pub mod Seen

@@ -9,9 +9,11 @@ use native.Mathlib.Omega.{arith}
 use borrow.Author.Tests.{leb-true, le-leb, lt-leb}
 use borrow.Rule.Slice.PartMut.{midOf, putMid, post-is, mid-len}
 use lib.ListN.{length, drop, length-set, replicate, length-append, length-replicate, length-drop}
-use lib.Seq.{take-at, drop-drop, drop-append-add, length-take-le}
+use lib.Seq.{take-at, drop-drop, drop-append-add}
 use Rattle.error.specs.Choice.{if}
+use Rattle.laws.proofs.Lists.{length-part}
 use Rattle.laws.proofs.Octets.{Octets}
+use Rattle.laws.proofs.Products.{up-to}
 use Rattle.image.specs.Geometry.{rowBytes, planeBytes, paddingMask, layoutOf}
 use Rattle.image.specs.Parts.{maskLast}
 use Rattle.image.specs.Rows.{clearPadding, rowAt, isPresent, sourceRow, toNative, wireRow, wireBits}
@@ -29,8 +31,7 @@ module _ (n s : ℕ) (plane : List ℕ) (y : ℕ) where
   source-missing h = rw (lt-leb (y * s + n) (length plane) h)
 
   by-length : (t : Bool) → isPresent n s plane y ≡ t → length (if t (rowAt n s plane y) (replicate n 0)) ≡ n
-  by-length true e =
-      length-take-le n (drop (y * s) plane) (rw length-drop (omega (arith, leb-true (y * s + n) (length plane) e)))
+  by-length true e = length-part n (y * s) plane (leb-true (y * s + n) (length plane) e)
   by-length false e = length-replicate n 0
 
   pub source-length : length (sourceRow n s plane y) ≡ n
@@ -84,9 +85,7 @@ module _ {plane : List ℕ} {w h s : ℕ} {f : PixelFormat} {out₀ : List ℕ} 
 
   pub next-fits : y < h → at + row ≤ length out
   next-fits k =
-      let q : suc y * rowBytes w ≤ h * rowBytes w = mul-le-mul-right (rowBytes w) (omega arith) in
-      let m : suc y * rowBytes w ≡ y * rowBytes w + rowBytes w = omega arith in
-      omega (arith, kept-length, c .place, c .room, c .row-is)
+      omega (arith, up-to (rowBytes w) y h k, kept-length, c .place, c .room, c .row-is)
 
   -- what stands after the next row
   back : length (wireBits f w y s plane) ≡ at → drop (at + row) (wireBits f w y s plane ++ drop at out₀) ≡ drop (at + row) out₀

@@ -1,10 +1,13 @@
 -- A writer that checks first keeps what `Emits` promises: its check says how many bytes there are, or refuses.
 use Prim.Native.Nat.{ℕ, _≤_, _<_}
 use mathlib.Core.Path.{_≡_, _∙_, sym, refl}
+use mathlib.Core.Bool.{Bool, true, false}
 use mathlib.Core.List.{List, _++_}
 use native.Mathlib.Omega.{arith}
+use lib.Dec.{leb}
 use lib.ListN.{length, drop}
 use borrow.Author.Tests.{le-leb, lt-leb}
+use Rattle.error.specs.Choice.{if}
 use Rattle.error.specs.Answer.{Answer, gives, refuses, map}
 use Rattle.error.specs.Emits.{Emits}
 use Rattle.laws.proofs.Tests.{if-true, if-false, zero-one}
@@ -27,3 +30,14 @@ emits-bytes (refuses code offset) n old new e h put = zero-one (cc)
 pub emits-refused : (a : Answer (List ℕ)) (code offset : ℕ) (old : List ℕ) → refuses code offset ≡ map length a → Emits a (refuses code offset) old old
 emits-refused (gives bytes) code offset old e = zero-one (cc)
 emits-refused (refuses code′ offset′) code offset old e = record { answer = cc; bytes = refl }
+
+-- what a writer wrote
+pub emitted-is : (a : Answer (List ℕ)) (n : ℕ) (old new : List ℕ) → Emits a (gives n) old new
+    → (bytes : List ℕ) × (a ≡ gives bytes) × (n ≡ length bytes) × (new ≡ bytes ++ drop (length bytes) old)
+emitted-is (refuses code place) n old new e = let z = e .answer in zero-one (cc)
+emitted-is (gives bytes) n old new e = go (leb (length bytes) (length old)) (e .answer) (e .bytes)
+  where
+    go : (t : Bool) → gives n ≡ if t (gives (length bytes)) (refuses 25 0) → new ≡ if t (bytes ++ drop (length bytes) old) old
+        → (b : List ℕ) × (gives bytes ≡ gives b) × (n ≡ length b) × (new ≡ b ++ drop (length b) old)
+    go true p q = (bytes, refl, (cc), q)
+    go false p q = zero-one (cc)

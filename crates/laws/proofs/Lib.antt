@@ -1,6 +1,7 @@
 pub mod Lists
 pub mod Tests
 pub mod Digits
+pub mod Products
 pub mod Store
 pub mod Emitted
 pub mod Writers

@@ -6,7 +6,7 @@ use mathlib.Core.Bool.{Bool, true, false, _&&_}
 use native.Mathlib.Omega.{arith}
 use borrow.Author.Tests.{ltb-true}
 use lib.Dec.{ltb}
-use lib.ListN.{getD, drop}
+use lib.ListN.{getD, drop, set}
 use lib.Seq.{getD-drop}
 use Rattle.laws.proofs.Tests.{zero-one}
 
@@ -26,6 +26,11 @@ octets-drop n s o i = subst (λ (b : ℕ). b < 256) (sym (getD-drop n s i 0)) (o
 pub octets-append : (s t : List ℕ) → Octets s → Octets t → Octets (s ++ t)
 octets-append [] t o p = p
 octets-append (b ∷ s) t o p = octets-cons b (s ++ t) (o 0) (octets-append s t (λ i. o (suc i)) p)
+
+pub octets-set : (l : List ℕ) (i b : ℕ) → b < 256 → Octets l → Octets (set l i b)
+octets-set [] i b h o = octets-nil
+octets-set (x ∷ l) zero b h o = octets-cons b l h (λ i. o (suc i))
+octets-set (x ∷ l) (suc i) b h o = octets-cons x (set l i b) (o 0) (octets-set l i b h (λ j. o (suc j)))
 
 -- for a list that is written out, by computing
 abbrev pub areOctets : List ℕ → Bool

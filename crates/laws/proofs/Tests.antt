@@ -1,7 +1,7 @@
 -- Tests and choices.
 use Prim.Native.Nat.{ℕ}
-use mathlib.Core.Path.{_≡_, ap}
-use mathlib.Core.Bool.{Bool, true, false}
+use mathlib.Core.Path.{_≡_, refl, ap}
+use mathlib.Core.Bool.{Bool, true, false, _&&_, _||_}
 use native.Mathlib.Omega.{arith}
 use Rattle.error.specs.Choice.{if}
 
@@ -14,3 +14,16 @@ if-true t x y e = ap (λ (b : Bool). if b x y) e
 
 pub if-false : {A : Type 0} (t : Bool) (x y : A) → t ≡ false → if t x y ≡ y
 if-false t x y e = ap (λ (b : Bool). if b x y) e
+
+-- two tests
+pub both-true : (s t : Bool) → (s && t) ≡ true → (s ≡ true) × (t ≡ true)
+both-true true t e = (refl, e)
+both-true false t e = zero-one (cc)
+
+pub neither : (s t : Bool) → (s || t) ≡ false → (s ≡ false) × (t ≡ false)
+neither true t e = zero-one (cc)
+neither false t e = (refl, e)
+
+pub and-false : (t : Bool) → (t && false) ≡ false
+and-false true = refl
+and-false false = refl

@@ -2,16 +2,16 @@
 -- Assumes nothing.
 use Prim.Native.Nat.{ℕ, zero, suc, _+_, _*_, _/_, _%_, _≤_, _<_}
 use mathlib.Core.Path.{_≡_, refl, sym, ap, _∙_}
-use mathlib.Core.Bool.{Bool, true, false, _&&_}
+use mathlib.Core.Bool.{Bool, true, _&&_}
 use mathlib.Core.Logic.{⊎-elim}
 use native.Mathlib.Omega.{arith}
 use lib.Dec.{eqb}
 use borrow.Author.Tests.{eqb-true}
+use Rattle.laws.proofs.Tests.{both-true}
 use Rattle.quantize.specs.Bits.{appended, digits}
 use Rattle.quantize.specs.Words.{bytes, Below}
 use Rattle.quantize.proofs.Appending.{appended-lt}
 use Rattle.quantize.proofs.Differences.{lt-or-le}
-use Rattle.quantize.proofs.Signed.{never}
 
 -- what `gathered` computes
 abbrev gather : ℕ → ℕ
@@ -41,14 +41,10 @@ all-gather : gathers 256 ≡ true
 unfolding gathers spread
 all-gather = refl
 
-both : (s t : Bool) → (s && t) ≡ true → (s ≡ true) × (t ≡ true)
-both true t h = (refl, h)
-both false t h = never h
-
 gather-below : (n : ℕ) → gathers n ≡ true → (b : ℕ) → b < n → gather (spread 8 b) ≡ b
 unfolding gathers
 gather-below (suc n) h b l =
-    let k = both (eqb (gather (spread 8 n)) n) (gathers n) h in
+    let k = both-true (eqb (gather (spread 8 n)) n) (gathers n) h in
     ⊎-elim
     (λ (m : b < n). gather-below n (k .1) b m)
     (λ (m : n ≤ b). let e : b ≡ n = omega arith in rw e (eqb-true (gather (spread 8 n)) n (k .0)))

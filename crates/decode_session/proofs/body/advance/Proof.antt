@@ -1,7 +1,7 @@
 use Prim.Native.Nat.{_+_, _-_, _*_, _≤_}
 use native.Mathlib.Omega.{arith}
 use borrow.Author.Needs.{needs}
-use Rattle.decode_session.proofs.Advancing.{stuck, full, inside, all-there, reaches, goes-on, built}
+use Rattle.decode_session.proofs.BodyCounts.{stuck, full, inside, all-there, reaches, goes-on, built}
 use Rattle.decode_session.proofs.body.advance.Statement.{statement}
 use Rattle.decode_session.proofs.body.advance.Tie as tie
 

@@ -1,4 +1,4 @@
-use Rattle.decode_session.proofs.Counting.{finish-header, finish-short, finish-body, finish-refused}
+use Rattle.decode_session.proofs.CloseAnswers.{finish-header, finish-short, finish-body, finish-refused}
 use borrow.Author.Needs.{needs}
 use Rattle.decode_session.proofs.closing.finish.Statement.{statement}
 use Rattle.decode_session.proofs.closing.finish.Tie as tie

@@ -5,7 +5,7 @@ use native.Mathlib.Omega.{arith}
 use borrow.Author.Needs.{needs}
 use lib.ListN.{length}
 use Rattle.image.specs.declared.PlaneLayout.{PlaneLayout}
-use Rattle.decode_session.proofs.Clearing.{Clearing, cleared-none, begins, goes-on, ends}
+use Rattle.decode_session.proofs.RowEndsCleared.{Clearing, cleared-none, begins, goes-on, ends}
 use Rattle.decode_session.proofs.convert.clear_ends.Statement.{statement}
 use Rattle.decode_session.proofs.convert.clear_ends.Tie as tie
 

@@ -1,6 +1,6 @@
 use mathlib.Core.Path.{refl, ap}
 use Rattle.image.specs.declared.PlaneLayout.{PlaneLayout}
-use Rattle.decode_session.proofs.Beginning.{begins, over}
+use Rattle.decode_session.proofs.BodyBegun.{begins, over}
 use borrow.Author.Needs.{needs}
 use Rattle.decode_session.proofs.feeding.feed_first.Statement.{statement}
 use Rattle.decode_session.proofs.feeding.feed_first.Tie as tie

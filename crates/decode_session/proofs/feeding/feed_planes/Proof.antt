@@ -6,7 +6,7 @@ use lib.ListN.{length, drop, length-drop}
 use lib.Seq.{take-all}
 use Rattle.options.specs.Limits.{decoding}
 use Rattle.options.proofs.Ceilings.{sixteen}
-use Rattle.decode_session.proofs.Planing.{planes}
+use Rattle.decode_session.proofs.PlanesFed.{planes}
 use borrow.Author.Needs.{needs}
 use Rattle.decode_session.proofs.feeding.feed_planes.Statement.{statement}
 use Rattle.decode_session.proofs.feeding.feed_planes.Tie as tie

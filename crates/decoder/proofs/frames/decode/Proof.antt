@@ -6,7 +6,7 @@ use Rattle.header.specs.Read.{meaning}
 use Rattle.header.specs.declared.HeaderRead.{HeaderRead}
 use Rattle.options.specs.Limits.{decoding}
 use Rattle.decoder.specs.Image.{readImage}
-use Rattle.decoder.proofs.Fitted.{imaged, refused, plane-there}
+use Rattle.decoder.proofs.Fitted.{imaged, refused, image-parts}
 use Rattle.decoder.proofs.frames.decode.Statement.{statement}
 use Rattle.decoder.proofs.frames.decode.Tie as tie
 
@@ -26,7 +26,7 @@ write-frames-requires c κs =
     let h = c .before .before in
     let k = h .before .before in
     let s = k .before .before .before in
-    (s .pre, plane-there (decoding (s .args .options)) (now (s .args .bytes)) _ (image-read k _ (h .h .given .1)))
+    (s .pre, image-parts (decoding (s .args .options)) (now (s .args .bytes)) _ (image-read k _ (h .h .given .1)) .1)
 
 enum-known-e : tie.Need-enum-known-e
 enum-known-e c = search needs

@@ -15,8 +15,8 @@ use Rattle.decode_session.specs.Model.{Model, takes, grown, written}
 use Rattle.decode_session.specs.Stages.{Enters}
 use Rattle.decode_session.specs.declared.body.BodyFed.{BodyFed}
 use Rattle.decode_session.proofs.BodyBytes.{body-length}
-use Rattle.decode_session.proofs.Fitting.{shownWith, most-is}
-use Rattle.decode_session.proofs.Shown.{shownBytes, allBytes, shown-length, shown-grows}
+use Rattle.decode_session.proofs.MostTaken.{shownWith, most-is}
+use Rattle.decode_session.proofs.BodyShown.{shownBytes, allBytes, shown-length, shown-grows}
 
 module _ {m : Model} {piece : List ℕ} {from room : ℕ} {h : Outline} {whole begun most : ℕ} {r : BodyFed}
     (ceiling : m .ceiling ≡ most) (within : from ≤ length piece) (en : Enters m piece from h whole begun)
@@ -46,9 +46,6 @@ module _ {m : Model} {piece : List ℕ} {from room : ℕ} {h : Outline} {whole b
       ∙ length-append (sequence (m .ceiling) (m .options) (m .bytes ++ take from piece)) _
       ∙ ap (λ (k : ℕ). k + length (bodyFrom (m .options .format) (h .width) begun (take left (take i rest)))) (shown-length (en .inBody))
       ∙ ap (λ (k : ℕ). shownBytes (en .inBody) + k) (body-length (m .options .format) (h .width) (take left (take i rest)) begun)
-
-  long : (i : ℕ) → i ≤ length rest → (length (take left (take i rest)) ≤ left) × (length (take left (take i rest)) ≤ i)
-  long i l = (rw (length-take, length-take) (omega arith), rw (length-take, length-take) (omega arith))
 
   -- the planes that are left are written, or all that is taken
   all-left : r .whole ≡ most → r .begun ≡ 0 → r .written ≡ left

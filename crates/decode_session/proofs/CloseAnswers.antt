@@ -1,32 +1,32 @@
 -- What closing answers in each stage.
 use Prim.Native.Nat.{ℕ, _+_, _-_, _*_, _/_, _≤_, _<_}
-use mathlib.Core.Path.{_≡_, refl, sym, ap, subst, _∙_}
-use mathlib.Core.Bool.{Bool, true, false}
+use mathlib.Core.Path.{_≡_, sym, ap, _∙_}
 use mathlib.Core.Logic.{_⊎_, ⊎-elim}
-use native.Mathlib.Nat.{div-eq-of-lt-le, le-div-iff-mul-le}
+use native.Mathlib.Nat.{pos-of-ne-zero, div-eq-of-lt-le, le-div-iff-mul-le}
 use native.Mathlib.Omega.{arith}
-use borrow.Author.Tests.{leb-true, lt-ltb, le-ltb}
-use lib.Dec.{leb, ltb}
+use borrow.Author.Tests.{lt-ltb, le-ltb}
+use lib.Dec.{ltb}
 use lib.ListN.{length}
 use Rattle.error.specs.Choice.{if}
-use Rattle.error.specs.Answer.{Answer, gives, refuses, bind, map}
+use Rattle.error.specs.Answer.{Answer, gives, refuses, map}
 use Rattle.error.specs.declared.WbmpError.{WbmpError}
 use Rattle.laws.proofs.Tests.{if-true, if-false}
-use Rattle.header.specs.Read.{Outline, parsed}
+use Rattle.header.specs.Read.{Outline}
 use Rattle.header.specs.Represents.{Ended}
 use Rattle.header.specs.declared.FieldsSeen.{FieldsSeen}
 use Rattle.header.specs.declared.ParsedHeader.{ParsedHeader}
 use Rattle.header.specs.declared.reader.HeaderReader.{HeaderReader}
 use Rattle.decoder.specs.Body.{extraFrames, planeOf, framesIn}
-use Rattle.decoder.specs.Image.{imageSettings, headerOf, testBody, readImage}
-use Rattle.decoder.proofs.Counted.{few}
+use Rattle.decoder.specs.Image.{imageSettings, readImage}
+use Rattle.decoder.proofs.Headed.{image-by, image-limited}
+use Rattle.decoder.proofs.Counted.{few, many}
 use Rattle.decode_session.specs.Model.{nothing, Model, Told, frames, closing}
-use Rattle.decode_session.specs.Session.{InBody, StageOf, Bounded}
+use Rattle.decode_session.specs.Session.{InBody, Bounded}
 use Rattle.decode_session.specs.Stages.{Finishes}
 use Rattle.decode_session.specs.declared.Stage.{Stage}
 use Rattle.decode_session.specs.declared.DecodeClose.{DecodeClose}
 use Rattle.decode_session.proofs.Headers.{unread}
-use Rattle.decode_session.proofs.Bounds.{ceiling-some, ceiling-few}
+use Rattle.decode_session.proofs.StageFacts.{staged, in-body, ceiling-some, ceiling-few}
 
 -- closing by the image's answer
 pub closes-by : (m : Model) (x : Answer Outline) → m .met ≡ nothing → readImage (m .options) (m .bytes) ≡ x
@@ -34,20 +34,12 @@ pub closes-by : (m : Model) (x : Answer Outline) → m .met ≡ nothing → read
 closes-by m x n e =
     ap (closing m) n ∙ ap (λ (x : Answer Outline). map {B = Told} frames (map (framesIn (m .ceiling) (length (m .bytes))) x)) e
 
-pub image-by : (m : Model) (x : Answer Outline) → headerOf (m .options .mode) (m .bytes) ≡ x
-    → readImage (m .options) (m .bytes) ≡ bind x (testBody (m .options) (length (m .bytes)))
-unfolding readImage
-image-by m x e = ap (λ (x : Answer Outline). bind x (testBody (m .options) (length (m .bytes)))) e
-
 module _ {m : Model} {h : Outline} {whole begun : ℕ} (b : InBody m h whole begun) (ceiling : Bounded (m .ceiling) (m .options)) where
   abbrev size : ℕ
   size = length (m .bytes) - h .body
 
   image-is : readImage (m .options) (m .bytes) ≡ if (ltb size (planeOf h)) (refuses 20 (h .body)) (gives h)
-  unfolding testBody
-  image-is =
-      image-by m (gives h) (b .headerIs)
-      ∙ ap (λ (x : Answer (Unit {0})). bind x (λ _. if (ltb size (planeOf h)) (refuses 20 (h .body)) (gives h))) (b .admitted)
+  image-is = image-limited (m .options) (m .bytes) h (gives tt) (b .headerIs) (b .admitted)
 
   -- no whole plane is there
   short-size : whole ≡ 0 → size < planeOf h
@@ -79,14 +71,10 @@ module _ {m : Model} {h : Outline} {whole begun : ℕ} (b : InBody m h whole beg
             sym (few (m .ceiling - 1) (planeOf h) size (omega (arith, v .0))) ∙ q
 
         behind : (whole ≡ m .ceiling) × ((begun ≡ 0) × (h .body + whole * planeOf h ≤ length (m .bytes))) → extraFrames (m .ceiling - 1) (planeOf h) size ≡ whole - 1
-        behind v = go (leb ((size - planeOf h) / planeOf h) (m .ceiling - 1)) refl
+        behind v = sym (many (m .ceiling - 1) (planeOf h) size (omega (arith, most, v .0))) ∙ omega (arith, v .0)
           where
             most : whole - 1 ≤ (size - planeOf h) / planeOf h
             most = le-div-iff-mul-le {k = planeOf h} (omega (arith, b .below)) .1 (omega (arith, enough))
-
-            go : (t : Bool) → leb ((size - planeOf h) / planeOf h) (m .ceiling - 1) ≡ t → if t ((size - planeOf h) / planeOf h) (m .ceiling - 1) ≡ whole - 1
-            go true e = let k = leb-true ((size - planeOf h) / planeOf h) (m .ceiling - 1) e in omega (arith, most, v .0)
-            go false e = omega (arith, v .0)
 
     pub all-whole : closing m (m .met) ≡ gives (frames whole)
     all-whole =
@@ -103,32 +91,26 @@ module _ (s : Stage) where
       record {
         does =
             λ m c st.
-            let u = subst (λ (x : Stage). StageOf x m) g st in
+            let u = staged m g st in
             let o = imageSettings (m .options .mode) in
             sym (closes-by m (refuses (e .code) (e .offset)) (u .0)
-            (image-by m (refuses (e .code) (e .offset)) (unread o (m .bytes) (u .1 .state) (u .1 .reached) ∙ sym (d .does o (u .1 .state) (u .1 .represents)))));
+            (image-by (m .options) (m .bytes) (refuses (e .code) (e .offset)) (unread o (m .bytes) (u .1 .state) (u .1 .reached) ∙ sym (d .does o (u .1 .state) (u .1 .represents)))));
       }
 
   module _ (p : ParsedHeader) (whole begun : ℕ) (g : s ≡ Stage.Body p whole begun) where
-    in-body : (m : Model) → StageOf s m → InBody m (parsed p) whole begun
-    in-body m st = subst (λ (x : Stage). StageOf x m) g st
-
     pub finish-short : whole ≡ 0 → Finishes s (DecodeClose.Refused (record { code = 20; offset = p .«data_offset» }))
-    finish-short z = record { does = λ m c st. sym (none-whole (in-body m st) c z) }
+    finish-short z = record { does = λ m c st. sym (none-whole (in-body m g st) c z) }
 
     pub finish-body : (n : ℕ) → (whole ≡ 0 → ⊥) → (n ≡ whole) ⊎ (n ≡ 16) → n ≤ whole → Finishes s (DecodeClose.Frames n)
     finish-body n z i l =
         record {
           does =
               λ m c st.
-              let b = in-body m st in
+              let b = in-body m g st in
               let k = at-most b c in
               let e : n ≡ whole = ⊎-elim (λ (q : n ≡ whole). q) (λ (q : n ≡ 16). omega arith) i in
-              ap (λ (k : ℕ). gives (frames k)) e ∙ sym (all-whole b c (positive z));
+              ap (λ (k : ℕ). gives (frames k)) e ∙ sym (all-whole b c (pos-of-ne-zero z));
         }
-      where
-        positive : (whole ≡ 0 → ⊥) → 0 < whole
-        positive f = omega arith
 
   pub finish-refused : (e : WbmpError) (f : FieldsSeen) → s ≡ Stage.Refused e f → Finishes s (DecodeClose.Refused e)
-  finish-refused e f g = record { does = λ m c st. sym (ap (closing m) (subst (λ (x : Stage). StageOf x m) g st .0)) }
+  finish-refused e f g = record { does = λ m c st. sym (ap (closing m) (staged m g st .0)) }

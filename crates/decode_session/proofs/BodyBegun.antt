@@ -3,18 +3,17 @@ use Prim.Native.Nat.{ℕ, _+_, _<_}
 use mathlib.Core.Path.{_≡_, refl, sym, ap, subst, _∙_}
 use mathlib.Core.List.{List, _++_}
 use mathlib.Core.Logic.{inl}
-use native.Mathlib.Nat.{mul-pos}
 use native.Mathlib.Omega.{arith}
-use lib.ListN.{length, take, drop, length-append}
-use lib.Seq.{length-take-le}
+use lib.ListN.{length, take, drop}
 use Rattle.error.specs.Answer.{gives, checked}
 use Rattle.error.specs.declared.Checked.{Checked}
 use Rattle.error.specs.declared.Checked.the-variants.{Accepted}
 use Rattle.error.specs.declared.WbmpError.{WbmpError}
+use Rattle.laws.proofs.Lists.{length-append-take, append-take-drop}
 use Rattle.header.specs.Read.{Outline, parsed}
 use Rattle.header.specs.declared.FieldsSeen.{FieldsSeen}
 use Rattle.header.specs.declared.ParsedHeader.{ParsedHeader}
-use Rattle.image.specs.Geometry.{rowBytes}
+use Rattle.image.proofs.PlaneSizes as planes
 use Rattle.options.specs.Limits.{Decoding, decoding, checkLimits}
 use Rattle.options.specs.declared.DecodeOptions.{DecodeOptions}
 use Rattle.decoder.specs.Body.{planeOf}
@@ -25,9 +24,8 @@ use Rattle.decode_session.specs.Session.{Unread, Bounded}
 use Rattle.decode_session.specs.Stages.{metIn, Agrees, Enters, Planes, Ended, Begins}
 use Rattle.decode_session.specs.declared.DecodeFed.{DecodeFed}
 use Rattle.decode_session.proofs.Headers.{header-later}
-use Rattle.decode_session.proofs.Replies.{parts}
-use Rattle.decode_session.proofs.Bounds.{ceiling-some}
-use Rattle.decode_session.proofs.Meeting.{limit-over, admitted}
+use Rattle.decode_session.proofs.StageFacts.{ceiling-some}
+use Rattle.decode_session.proofs.RefusalsMet.{limit-over, admitted}
 
 -- the session that met a refusal agrees
 pub refused-agrees : (o : DecodeOptions) (m : Model) (piece out ext : List ℕ) (e : WbmpError) (f : FieldsSeen)
@@ -45,19 +43,16 @@ refused-agrees o m piece out ext e f c q u met =
 module _ (m : Model) (piece : List ℕ) (from : ℕ) (h : Outline) (e : Ended m piece from h) where
   pub header-all : headerOf (m .options .mode) (m .bytes ++ piece) ≡ gives h
   header-all =
-      ap (headerOf (m .options .mode)) (sym (parts (m .bytes) piece from))
+      ap (headerOf (m .options .mode)) (sym (append-take-drop (m .bytes) piece from))
       ∙ header-later (imageSettings (m .options .mode)) (m .bytes ++ take from piece) h (e .header) (drop from piece)
 
   bytes-length : length (m .bytes ++ take from piece) ≡ length (m .bytes) + from
-  bytes-length = length-append (m .bytes) (take from piece) ∙ ap (λ (k : ℕ). length (m .bytes) + k) (length-take-le from piece (e .within))
+  bytes-length = length-append-take (m .bytes) piece from (e .within)
 
   plane-some : 0 < planeOf h
   plane-some =
       let shape = outline-shape (imageSettings (m .options .mode)) (m .bytes ++ take from piece) h (e .header) in
-      mul-pos (row-some (h .width) (shape .0)) (shape .1)
-    where
-      row-some : (w : ℕ) → 0 < w → 0 < rowBytes w
-      row-some w l = omega arith
+      planes.plane-some (h .width) (h .height) (shape .0) (shape .1)
 
   enters : Bounded (m .ceiling) (m .options) → checkLimits (m .options) (h .width) (h .height) (planeOf h) (h .body) ≡ gives tt → Enters m piece from h 0 0
   enters c l =

@@ -13,6 +13,17 @@ use Rattle.options.specs.Limits.{Decoding}
 use Rattle.decode_session.specs.Sequence.{sequence, most}
 
 module _ (ceiling : ℕ) (d : Decoding) (bytes piece : List ℕ) (room : ℕ) where
+  -- no more is taken than the piece has
+  pub most-small : (k : ℕ) → most ceiling d bytes piece room k ≤ k
+  unfolding most
+  most-small zero = omega arith
+  most-small (suc k) =
+      go (leb (length (sequence ceiling d (bytes ++ take (suc k) piece))) (length (sequence ceiling d bytes) + room)) (most-small k)
+    where
+      go : (t : Bool) → most ceiling d bytes piece room k ≤ k → if t (suc k) (most ceiling d bytes piece room k) ≤ suc k
+      go true h = omega arith
+      go false h = omega arith
+
   -- how many plane bytes there are with the first j bytes of the piece
   abbrev pub shownWith : ℕ → ℕ
   shownWith j = length (sequence ceiling d (bytes ++ take j piece))

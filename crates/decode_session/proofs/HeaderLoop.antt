@@ -26,8 +26,8 @@ use Rattle.decode_session.specs.Extension.{fieldBytes}
 use Rattle.decode_session.specs.Head.{Reached, Ends, Heads, isKept, Keeps}
 use Rattle.decode_session.specs.declared.head.HeadFed.{HeadFed}
 use Rattle.decode_session.specs.declared.head.HeadEnd.{HeadEnd}
-use Rattle.decode_session.proofs.Grown.{stores, Follow, grown, taken-so}
-use Rattle.decode_session.proofs.Stored.{Stored, stored-more}
+use Rattle.decode_session.proofs.FieldsGrown.{stores, Follow, grown, taken-so}
+use Rattle.decode_session.proofs.FieldsStored.{Stored, stored-more}
 
 -- before byte i of a piece
 pub record Going (o : Settings) (bytes piece ext₀ : List ℕ) (at kept i : ℕ) (r : HeaderReader) (count : ℕ) (ext : List ℕ) : Type 0 where

@@ -23,7 +23,7 @@ use Rattle.header.proofs.Keeps.{SoundStep, sound-step, sound-steps, sound-start
 use Rattle.header.proofs.Taken.{taken, Moves, moves-step, taken-steps}
 use Rattle.decode_session.specs.Extension.{fieldBytes}
 use Rattle.decode_session.proofs.Zones.{Zone, before, inside, behind, zone, isInside, inside-is, Next, early, enters, skips, runs, leaves, late, Stops, Moved, zone-step}
-use Rattle.decode_session.proofs.Rest.{spanned, rest, rest-start, rest-steps, rest-step, rest-end, rest-behind, stopped, after, zoneBytes}
+use Rattle.decode_session.proofs.FieldsBytewise.{spanned, rest, rest-start, rest-steps, rest-step, rest-end, stopped, after, zoneBytes}
 
 -- a zone whose fields start, and end where they have, in the bytes taken
 abbrev pub Fits : ℕ → Zone → Type 0
@@ -145,12 +145,6 @@ module _ (o : Settings) (σ : List ℕ) (st : State) (e : steps o start σ ≡ m
   pub bytes-so : fieldBytes o σ ≡ zoneBytes (zone st) σ
   bytes-so =
       rest-start o σ ∙ ap (rest o σ start) (sym (append-nil σ)) ∙ rest-steps o σ σ [] start st sound-start e ∙ rest-end o σ st
-
-  -- once the fields have ended, more bytes do not change them
-  pub bytes-over : (τ : List ℕ) (f : Span) → zone st ≡ behind f → fieldBytes o (σ ++ τ) ≡ fieldBytes o σ
-  bytes-over τ f q =
-      rest-start o (σ ++ τ) ∙ rest-steps o (σ ++ τ) σ τ start st sound-start e ∙ rest-behind o (σ ++ τ) τ st f q
-      ∙ spanned-prefix f σ τ (subst (Fits (length σ)) q fits-so) ∙ sym (bytes-so ∙ ap (λ (z : Zone). zoneBytes z σ) q)
 
   bytes-step : (b : ℕ) (τ : List ℕ) → fieldBytes o (σ ++ b ∷ τ) ≡ after o (σ ++ b ∷ τ) (zone st) (stepOf o st b) τ
   bytes-step b τ =

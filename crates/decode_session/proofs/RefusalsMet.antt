@@ -11,7 +11,8 @@ use Rattle.laws.proofs.Tests.{zero-one}
 use Rattle.header.specs.Read.{Outline}
 use Rattle.options.specs.Limits.{Decoding, admits, checkLimits}
 use Rattle.decoder.specs.Body.{planeOf}
-use Rattle.decoder.specs.Image.{headerOf, testBody, readImage}
+use Rattle.decoder.specs.Image.{headerOf, testBody}
+use Rattle.decoder.proofs.Headed.{image-by, image-limited}
 use Rattle.decode_session.specs.Model.{nothing, refusal, Model, metBy, meets}
 
 -- a limit's refusal is no end of the file
@@ -37,8 +38,7 @@ module _ (m : Model) (piece : List ℕ) where
 
   -- by the header's answer
   header-met : (x : Answer Outline) → headerOf (m .options .mode) file ≡ x → meets m piece ≡ metBy (bind x (testBody (m .options) (length file)))
-  unfolding readImage
-  header-met x e = ap (λ (a : Answer Outline). metBy (bind a (testBody (m .options) (length file)))) e
+  header-met x e = ap metBy (image-by (m .options) file x e)
 
   -- the header is refused, or ends too early
   pub header-refused : (code place : ℕ) → headerOf (m .options .mode) file ≡ refuses code place → isEnd code ≡ false → meets m piece ≡ refusal code place
@@ -50,10 +50,7 @@ module _ (m : Model) (piece : List ℕ) where
   module _ (h : Outline) (read : headerOf (m .options .mode) file ≡ gives h) where
     limits-met : (x : Answer (Unit {0})) → checkLimits (m .options) (h .width) (h .height) (planeOf h) (h .body) ≡ x
         → meets m piece ≡ metBy (bind x (λ _. if (ltb (length file - h .body) (planeOf h)) (refuses 20 (h .body)) (gives h)))
-    unfolding testBody
-    limits-met x e =
-        header-met (gives h) read
-        ∙ ap (λ (a : Answer (Unit {0})). metBy (bind a (λ _. if (ltb (length file - h .body) (planeOf h)) (refuses 20 (h .body)) (gives h)))) e
+    limits-met x e = ap metBy (image-limited (m .options) file h x read e)
 
     pub limit-over : (code place : ℕ) → checkLimits (m .options) (h .width) (h .height) (planeOf h) (h .body) ≡ refuses code place → meets m piece ≡ refusal code place
     limit-over code place e =

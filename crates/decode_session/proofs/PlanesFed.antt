@@ -4,8 +4,8 @@ use mathlib.Core.Path.{_≡_, refl, sym, ap, subst, _∙_}
 use mathlib.Core.List.{List, _++_}
 use mathlib.Core.Logic.{_⊎_, ⊎-elim, inl, inr}
 use native.Mathlib.Omega.{arith}
-use lib.ListN.{length, take, drop, length-append}
-use lib.Seq.{length-take-le}
+use lib.ListN.{length, take, drop}
+use Rattle.laws.proofs.Lists.{length-append-take, append-take-drop}
 use Rattle.header.specs.Read.{parsed}
 use Rattle.header.specs.declared.ParsedHeader.{ParsedHeader}
 use Rattle.image.specs.declared.PixelFormat.{PixelFormat}
@@ -24,8 +24,8 @@ use Rattle.decode_session.specs.declared.DecodeFed.{DecodeFed}
 use Rattle.decode_session.specs.declared.body.BodyFed.{BodyFed}
 use Rattle.decode_session.proofs.Headers.{header-later}
 use Rattle.decode_session.proofs.FieldBytes.{fields-kept}
-use Rattle.decode_session.proofs.Replies.{replied, stored-as, parts}
-use Rattle.decode_session.proofs.Taking.{advanced, below-left, takes-is, grown-is, written-is, written-length}
+use Rattle.decode_session.proofs.Replies.{replied, stored-as}
+use Rattle.decode_session.proofs.PieceTaken.{advanced, below-left, takes-is, grown-is, written-is, written-length}
 
 module _ (o : DecodeOptions) (p : ParsedHeader) (most whole begun from : ℕ) (piece out out′ : List ℕ) (within : from ≤ length piece) (r : BodyFed)
     (b : Bodies (o .format) (p .width) (p .height) most whole begun (drop from piece) out r out′) where
@@ -43,7 +43,7 @@ module _ (o : DecodeOptions) (p : ParsedHeader) (most whole begun from : ℕ) (p
     ends = advanced full within en (b .advances)
 
     next-length : length (bytes ++ take (r .taken) rest) ≡ length bytes + r .taken
-    next-length = length-append bytes (take (r .taken) rest) ∙ ap (λ (k : ℕ). length bytes + k) (length-take-le (r .taken) rest (b .advances .takes))
+    next-length = length-append-take bytes rest (r .taken) (b .advances .takes)
 
     next-place : ((r .whole < m .ceiling) × (p .«data_offset» + (r .whole * plane + r .begun) ≡ length (bytes ++ take (r .taken) rest)))
         ⊎ ((r .whole ≡ m .ceiling) × ((r .begun ≡ 0) × (p .«data_offset» + r .whole * plane ≤ length (bytes ++ take (r .taken) rest))))
@@ -97,7 +97,7 @@ module _ (o : DecodeOptions) (p : ParsedHeader) (most whole begun from : ℕ) (p
               (stored-as m ext (grown m piece (length out)) (m .bytes ++ piece)
               (ap (fieldBytes (imageSettings (m .options .mode))) all ∙ fields-kept (imageSettings (m .options .mode)) bytes (take (r .taken) rest) (parsed p) (en .inBody .headerIs)
               ∙ sym (fields-kept (imageSettings (m .options .mode)) bytes rest (parsed p) (en .inBody .headerIs))
-              ∙ ap (fieldBytes (imageSettings (m .options .mode))) (parts (m .bytes) piece from)));
+              ∙ ap (fieldBytes (imageSettings (m .options .mode))) (append-take-drop (m .bytes) piece from)));
           stands =
               record {
                 ceiling = ceiling;

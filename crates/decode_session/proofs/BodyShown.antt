@@ -3,12 +3,13 @@ use Prim.Native.Nat.{ℕ, _+_, _-_, _*_, _%_, _≤_}
 use mathlib.Core.Path.{_≡_, sym, ap, _∙_}
 use mathlib.Core.List.{List, _++_, append-nil}
 use mathlib.Core.Logic.{⊎-elim}
-use native.Mathlib.Nat.{mul-le-mul-right, mul-assoc, mul-comm, mul-add-mod-self-left, zero-add}
+use native.Mathlib.Nat.{mul-le-mul-right, zero-add}
 use native.Mathlib.Omega.{arith}
 use lib.ListN.{length, take, drop, length-drop}
 use lib.Seq.{take-all, take-append-le, take-append-add, drop-append-le, length-take-le}
 use Rattle.header.specs.Read.{Outline}
 use Rattle.image.specs.Geometry.{rowBytes}
+use Rattle.image.proofs.PlaneSizes.{plane-mod}
 use Rattle.decoder.specs.Body.{planeOf}
 use Rattle.decoder.specs.Image.{imageSettings}
 use Rattle.decode_session.specs.Sequence.{bodyFrom, sequenceOf, sequence}
@@ -37,11 +38,7 @@ module _ {m : Model} {h : Outline} {whole begun : ℕ} (b : InBody m h whole beg
 
   -- a row's place in a plane is its place in the body
   shown-mod : shownBytes % rowBytes (h .width) ≡ begun % rowBytes (h .width)
-  shown-mod =
-      let r = rowBytes (h .width) in
-      let e : whole * (r * h .height) ≡ r * (whole * h .height) =
-      sym (mul-assoc whole r (h .height)) ∙ ap (λ (k : ℕ). k * h .height) (mul-comm whole r) ∙ mul-assoc r whole (h .height) in
-      ap (λ (k : ℕ). (k + begun) % r) e ∙ mul-add-mod-self-left r (whole * h .height) begun
+  shown-mod = plane-mod (h .width) (h .height) whole begun
 
   planes-length : length (take allBytes body) ≡ shownBytes
   planes-length =

@@ -222,16 +222,3 @@ rest-end o s (inIdentifier fix from at pairs begun left size again fault) = ap (
 rest-end o s (inValue fix from at pairs begun left again fault) = ap (drop from) (take-length s)
 rest-end o s (inWidth fix f at v n) = refl
 rest-end o s (inHeight fix f w at v n) = refl
-
--- behind the fields the bytes that are left do not matter
-pub rest-behind : (o : Settings) (s τ : List ℕ) (st : State) (f : Span) → zone st ≡ behind f → rest o s st τ ≡ spanned f s
-unfolding rest
-rest-behind o s τ (inType at v n) f e = zero-one (cc)
-rest-behind o s τ (atFix at) f e = zero-one (cc)
-rest-behind o s τ (inOctets fix from at) f e = zero-one (cc)
-rest-behind o s τ (atOctet fix at) f e = zero-one (cc)
-rest-behind o s τ (atPair fix from at pairs) f e = zero-one (cc)
-rest-behind o s τ (inIdentifier fix from at pairs begun left size again fault) f e = zero-one (cc)
-rest-behind o s τ (inValue fix from at pairs begun left again fault) f e = zero-one (cc)
-rest-behind o s τ (inWidth fix g at v n) f e = let q : g ≡ f = cc in ap (λ (x : Span). spanned x s) q
-rest-behind o s τ (inHeight fix g w at v n) f e = let q : g ≡ f = cc in ap (λ (x : Span). spanned x s) q

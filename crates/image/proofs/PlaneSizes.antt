@@ -1,0 +1,22 @@
+-- Sizes of planes whose rows stand without gaps.
+use Prim.Native.Nat.{ℕ, _+_, _*_, _%_, _<_}
+use mathlib.Core.Path.{_≡_, sym, ap, _∙_}
+use native.Mathlib.Nat.{mul-comm, mul-assoc, mul-pos, mul-add-mod-self-left}
+use native.Mathlib.Omega.{arith}
+use Rattle.laws.proofs.Products.{up-to}
+use Rattle.image.specs.Geometry.{rowBytes, planeBytes}
+
+module _ (w h : ℕ) where
+  pub plane-some : 0 < w → 0 < h → 0 < planeBytes w h
+  plane-some p q = let r : 0 < rowBytes w = omega arith in mul-pos r q
+
+  -- byte j of row y
+  pub byte-inside : (y j : ℕ) → y < h → j < rowBytes w → y * rowBytes w + j < planeBytes w h
+  byte-inside y j l k = omega (arith, up-to (rowBytes w) y h l, mul-comm (rowBytes w) h)
+
+  -- behind whole planes a byte has the same place in its row
+  pub plane-mod : (k at : ℕ) → (k * planeBytes w h + at) % rowBytes w ≡ at % rowBytes w
+  plane-mod k at =
+      let r = rowBytes w in
+      let e : k * (r * h) ≡ r * (k * h) = sym (mul-assoc k r h) ∙ ap (λ (i : ℕ). i * h) (mul-comm k r) ∙ mul-assoc r k h in
+      ap (λ (i : ℕ). (i + at) % r) e ∙ mul-add-mod-self-left r (k * h) at
