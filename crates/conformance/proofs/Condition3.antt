@@ -108,5 +108,5 @@ condition-3 =
       reading = replied;
       finishes = bytes-finish;
       card = card-closed;
-      whole = λ {file = file} {d = d} l cut. (whole (ceilingOf d) d file nothing unmet (omega arith) cut (replied l), begins l cut);
+      whole = λ {file = file} {d = d} l cut. (whole d file nothing unmet (omega arith) cut (replied l), begins l cut);
     }

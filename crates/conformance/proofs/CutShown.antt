@@ -73,24 +73,24 @@ module _ {d : Decoding} {cs : List Call} {rs : List Reply} {last : DecodeSession
 module _ (d : Decoding) (bytes : List ℕ) (h : Outline) (read : readImage d bytes ≡ gives h) {cs : List Call} {rs : List Reply} {last : DecodeSession}
     {extension : List ℕ} {closing : Answer Told} (l : ReadingList d cs rs last extension) (cut : Cut bytes 0 false cs rs closing) where
   module _ (K : ℕ → List ℕ → Type 0)
-      (more : (at n : ℕ) (ext : List ℕ) → at + n ≤ length bytes → K at ext → K (at + n) (storedTo (ceilingOf d) d bytes h read at (at + n) ext)) where
-    ended : K 0 (l .lent) → Ended (ceilingOf d) d bytes h read K more last extension
-    ended k = buffers (ceilingOf d) d bytes h read K more (omega arith) refl (begun l) k (l .trace) cut
+      (more : (at n : ℕ) (ext : List ℕ) → at + n ≤ length bytes → K at ext → K (at + n) (storedTo d bytes h read at (at + n) ext)) where
+    ended : K 0 (l .lent) → Ended d bytes h read K more last extension
+    ended k = buffers d bytes h read K more (omega arith) refl (begun l) k (l .trace) cut
 
   header-is : headerOf (d .mode) bytes ≡ gives h → (r : HeaderSeen) → Sees last r → seenMeaning r ≡ seen h
   header-is e r s =
-      s .does (shut (midway (ceilingOf d) d bytes (length bytes) nothing)) (ended (λ at ext. Unit {0}) (λ at n ext b k. tt) tt .stands)
+      s .does (shut (midway d bytes (length bytes) nothing)) (ended (λ at ext. Unit {0}) (λ at n ext b k. tt) tt .stands)
       ∙ ap (λ (b : List ℕ). seenOf (headerOf (d .mode) b) nothing) (take-length bytes)
       ∙ ap (λ (a : Answer Outline). seenOf a nothing) e
 
   closing-is : closing ≡ gives (frames (framesIn (ceilingOf d) (length bytes) h))
   closing-is =
-      whole (ceilingOf d) d bytes nothing unmet (omega arith) cut (replied l)
+      whole d bytes nothing unmet (omega arith) cut (replied l)
       ∙ ap (λ (a : Answer Outline). map frames (map (framesIn (ceilingOf d) (length bytes)) a)) read
 
   pub joined-is : joined rs ≡ sequence (ceilingOf d) d bytes
   joined-is =
-      outputs (ceilingOf d) d bytes h read (omega arith) refl cut (replied l)
+      outputs d bytes h read (omega arith) refl cut (replied l)
       ∙ ap (λ (s : List ℕ). drop (length s) (sequence (ceilingOf d) d bytes)) (sequence-none (ceilingOf d) d)
 
   -- the fields, where the file has some

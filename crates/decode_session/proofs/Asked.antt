@@ -19,6 +19,7 @@ use Rattle.header.specs.declared.ParsedHeader.{ParsedHeader}
 use Rattle.header.specs.declared.reader.HeaderReader.{HeaderReader}
 use Rattle.header.proofs.Ends.{endCode, endOffset}
 use Rattle.header.proofs.KnownFields.{known-so, known-header}
+use Rattle.options.specs.Limits.{ceilingOf}
 use Rattle.decoder.specs.Body.{planeOf}
 use Rattle.decoder.specs.Image.{imageSettings}
 use Rattle.decoder.proofs.Headed.{image-by}
@@ -35,7 +36,7 @@ use Rattle.decode_session.proofs.CloseAnswers.{closes-by, none-whole, a
 none-done : (m : Model) (r : HeaderReader) (at kept : ℕ) → Reached (imageSettings (m .options .mode)) (m .bytes) r at kept
     → framesDone m ≡ 0
 none-done m r at kept h =
-    ap (wholeIn (m .ceiling) (length (m .bytes))) (unread-end (imageSettings (m .options .mode)) (m .bytes) (h .state) (h .reached))
+    ap (wholeIn (ceilingOf (m .options)) (length (m .bytes))) (unread-end (imageSettings (m .options .mode)) (m .bytes) (h .state) (h .reached))
 
 -- and the reader knows what the bytes tell of the fields
 pub unread-so : (m : Model) (r : HeaderReader) (at kept : ℕ) (f : FieldsSeen)
@@ -64,19 +65,19 @@ module _ {m : Model} {h : Outline} {whole begun : ℕ} (b : InBody m h whole beg
   size = length (m .bytes) - h .body
 
   pub done-in : framesDone m ≡ whole
-  done-in = ap (wholeIn (m .ceiling) (length (m .bytes))) (b .headerIs) ∙ ⊎-elim inside behind (b .place)
+  done-in = ap (wholeIn (ceilingOf (m .options)) (length (m .bytes))) (b .headerIs) ∙ ⊎-elim inside behind (b .place)
     where
-      inside : (whole < m .ceiling) × (h .body + (whole * planeOf h + begun) ≡ length (m .bytes))
-          → if (leb (size / planeOf h) (m .ceiling)) (size / planeOf h) (m .ceiling) ≡ whole
+      inside : (whole < ceilingOf (m .options)) × (h .body + (whole * planeOf h + begun) ≡ length (m .bytes))
+          → if (leb (size / planeOf h) (ceilingOf (m .options))) (size / planeOf h) (ceilingOf (m .options)) ≡ whole
       inside v =
           let q : size / planeOf h ≡ whole = div-eq-of-lt-le (planeOf h) (omega (arith, v .1)) (omega (arith, v .1, b .below)) in
-          capped (size / planeOf h) (m .ceiling) whole (omega (arith, v .0)) (inl q)
+          capped (size / planeOf h) (ceilingOf (m .options)) whole (omega (arith, v .0)) (inl q)
 
-      behind : (whole ≡ m .ceiling) × ((begun ≡ 0) × (h .body + whole * planeOf h ≤ length (m .bytes)))
-          → if (leb (size / planeOf h) (m .ceiling)) (size / planeOf h) (m .ceiling) ≡ whole
+      behind : (whole ≡ ceilingOf (m .options)) × ((begun ≡ 0) × (h .body + whole * planeOf h ≤ length (m .bytes)))
+          → if (leb (size / planeOf h) (ceilingOf (m .options))) (size / planeOf h) (ceilingOf (m .options)) ≡ whole
       behind v =
           let l : whole ≤ size / planeOf h = le-div-iff-mul-le {k = planeOf h} (omega (arith, b .below)) .1 (omega (arith, v .1 .1)) in
-          capped (size / planeOf h) (m .ceiling) whole (omega (arith, v .0)) (inr (v .0, l))
+          capped (size / planeOf h) (ceilingOf (m .options)) whole (omega (arith, v .0)) (inr (v .0, l))
 
 module _ (s : DecodeSession) where
   pub closed-is : TellsClosed s (not (s .live))
@@ -96,7 +97,7 @@ module _ (s : DecodeSession) where
           does =
               λ m st.
               let b = in-body m g (st .stage) in
-              let k = at-most b (st .ceiling) in
+              let k = at-most b (st .tested) in
               let e : n ≡ whole = ⊎-elim (λ (q : n ≡ whole). q) (λ (q : n ≡ 16). omega arith) i in
               e ∙ sym (done-in b);
         }
@@ -120,9 +121,9 @@ pub counted : (s : DecodeSession) (m : Model) (n : ℕ) → Stands s m → closi
 counted s m n st e = go (s .stage) (st .stage)
   where
     body : (p : ParsedHeader) (whole begun : ℕ) → InBody m (parsed p) whole begun → framesDone m ≡ n
-    body p zero begun b = let q = none-whole b (st .ceiling) refl in zero-one (cc)
+    body p zero begun b = let q = none-whole b (st .tested) refl in zero-one (cc)
     body p (suc k) begun b =
-        let q = all-whole b (st .ceiling) (omega arith) in
+        let q = all-whole b (st .tested) (omega arith) in
         let same : suc k ≡ n = cc in
         done-in b ∙ same
 

@@ -20,7 +20,7 @@ use Rattle.decoder.specs.Body.{planeOf}
 use Rattle.decoder.specs.Image.{imageSettings, headerOf}
 use Rattle.decoder.proofs.Shaped.{outline-shape}
 use Rattle.decode_session.specs.Model.{Met, refusal, Model, meets, stored, fedBy}
-use Rattle.decode_session.specs.Session.{Unread, Bounded}
+use Rattle.decode_session.specs.Session.{Unread, Settled}
 use Rattle.decode_session.specs.Stages.{metIn, Agrees, Enters, Planes, Ended, Begins}
 use Rattle.decode_session.specs.declared.DecodeFed.{DecodeFed}
 use Rattle.decode_session.proofs.Headers.{header-later}
@@ -29,7 +29,7 @@ use Rattle.decode_session.proofs.RefusalsMet.{limit-over, admitted}
 
 -- the session that met a refusal agrees
 pub refused-agrees : (o : DecodeOptions) (m : Model) (piece out ext : List ℕ) (e : WbmpError) (f : FieldsSeen)
-    → Bounded (m .ceiling) (m .options) → decoding o ≡ m .options → Unread m f → meets m piece ≡ refusal (e .code) (e .offset)
+    → Settled (m .options) → decoding o ≡ m .options → Unread m f → meets m piece ≡ refusal (e .code) (e .offset)
     → Agrees (metIn o e f) out (stored m (m .bytes ++ piece) ext) (fedBy m piece out ext (meets m piece))
 refused-agrees o m piece out ext e f c q u met =
     subst
@@ -37,7 +37,7 @@ refused-agrees o m piece out ext e f c q u met =
     (sym met)
     (record {
       reply = refl;
-      stands = record { ceiling = c; options = q; live = refl; stage = (refl, record { none = u .none; fields = u .fields }) };
+      stands = record { tested = c; options = q; live = refl; stage = (refl, record { none = u .none; fields = u .fields }) };
     })
 
 module _ (m : Model) (piece : List ℕ) (from : ℕ) (h : Outline) (e : Ended m piece from h) where
@@ -54,7 +54,7 @@ module _ (m : Model) (piece : List ℕ) (from : ℕ) (h : Outline) (e : Ended m 
       let shape = outline-shape (imageSettings (m .options .mode)) (m .bytes ++ take from piece) h (e .header) in
       planes.plane-some (h .width) (h .height) (shape .0) (shape .1)
 
-  enters : Bounded (m .ceiling) (m .options) → checkLimits (m .options) (h .width) (h .height) (planeOf h) (h .body) ≡ gives tt → Enters m piece from h 0 0
+  enters : Settled (m .options) → checkLimits (m .options) (h .width) (h .height) (planeOf h) (h .body) ≡ gives tt → Enters m piece from h 0 0
   enters c l =
       record {
         inBody =

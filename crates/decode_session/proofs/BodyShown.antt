@@ -10,6 +10,7 @@ use lib.Seq.{take-all, take-append-le, take-append-add, drop-append-le, length-t
 use Rattle.header.specs.Read.{Outline}
 use Rattle.image.specs.Geometry.{rowBytes}
 use Rattle.image.proofs.PlaneSizes.{plane-mod}
+use Rattle.options.specs.Limits.{ceilingOf}
 use Rattle.decoder.specs.Body.{planeOf}
 use Rattle.decoder.specs.Image.{imageSettings}
 use Rattle.decode_session.specs.Sequence.{bodyFrom, sequenceOf, sequence}
@@ -24,7 +25,7 @@ module _ {m : Model} {h : Outline} {whole begun : ℕ} (b : InBody m h whole beg
   shownBytes = whole * planeOf h + begun
 
   abbrev pub allBytes : ℕ
-  allBytes = m .ceiling * planeOf h
+  allBytes = ceilingOf (m .options) * planeOf h
 
   abbrev body : List ℕ
   body = drop (h .body) (m .bytes)
@@ -32,8 +33,8 @@ module _ {m : Model} {h : Outline} {whole begun : ℕ} (b : InBody m h whole beg
   pub shown-within : shownBytes ≤ allBytes
   shown-within =
       ⊎-elim
-      (λ w. let p : (whole + 1) * planeOf h ≤ m .ceiling * planeOf h = mul-le-mul-right (planeOf h) (omega (arith, w .0)) in omega (arith, b .below))
-      (λ w. let p : whole * planeOf h ≡ m .ceiling * planeOf h = ap (λ (k : ℕ). k * planeOf h) (w .0) in omega (arith, w .1 .0))
+      (λ w. let p : (whole + 1) * planeOf h ≤ ceilingOf (m .options) * planeOf h = mul-le-mul-right (planeOf h) (omega (arith, w .0)) in omega (arith, b .below))
+      (λ w. let p : whole * planeOf h ≡ ceilingOf (m .options) * planeOf h = ap (λ (k : ℕ). k * planeOf h) (w .0) in omega (arith, w .1 .0))
       (b .place)
 
   -- a row's place in a plane is its place in the body
@@ -62,15 +63,15 @@ module _ {m : Model} {h : Outline} {whole begun : ℕ} (b : InBody m h whole beg
       ∙ sym (ap (λ (k : ℕ). take allBytes body ++ take k xs) z ∙ append-nil (take allBytes body)))
       (b .place)
 
-  shown-is : sequence (m .ceiling) (m .options) (m .bytes) ≡ bodyFrom (m .options .format) (h .width) 0 (take allBytes body)
+  shown-is : sequence (ceilingOf (m .options)) (m .options) (m .bytes) ≡ bodyFrom (m .options .format) (h .width) 0 (take allBytes body)
   unfolding sequence
-  shown-is = ap (sequenceOf (m .ceiling) (m .options .format) (m .bytes)) (b .headerIs)
+  shown-is = ap (sequenceOf (ceilingOf (m .options)) (m .options .format) (m .bytes)) (b .headerIs)
 
-  pub shown-length : length (sequence (m .ceiling) (m .options) (m .bytes)) ≡ shownBytes
+  pub shown-length : length (sequence (ceilingOf (m .options)) (m .options) (m .bytes)) ≡ shownBytes
   shown-length = ap length shown-is ∙ body-length (m .options .format) (h .width) (take allBytes body) 0 ∙ planes-length
 
-  pub shown-grows : (xs : List ℕ) → sequence (m .ceiling) (m .options) (m .bytes ++ xs)
-      ≡ sequence (m .ceiling) (m .options) (m .bytes) ++ bodyFrom (m .options .format) (h .width) begun (take (allBytes - shownBytes) xs)
+  pub shown-grows : (xs : List ℕ) → sequence (ceilingOf (m .options)) (m .options) (m .bytes ++ xs)
+      ≡ sequence (ceilingOf (m .options)) (m .options) (m .bytes) ++ bodyFrom (m .options .format) (h .width) begun (take (allBytes - shownBytes) xs)
   unfolding sequence
   shown-grows xs =
       let f = m .options .format in
@@ -78,7 +79,7 @@ module _ {m : Model} {h : Outline} {whole begun : ℕ} (b : InBody m h whole beg
       let new = take (allBytes - shownBytes) xs in
       let start : (0 + length (take allBytes body)) % rowBytes w ≡ begun % rowBytes w =
       ap (λ (k : ℕ). k % rowBytes w) (zero-add (length (take allBytes body)) ∙ planes-length) ∙ shown-mod in
-      ap (sequenceOf (m .ceiling) f (m .bytes ++ xs)) (header-later (imageSettings (m .options .mode)) (m .bytes) h (b .headerIs) xs)
+      ap (sequenceOf (ceilingOf (m .options)) f (m .bytes ++ xs)) (header-later (imageSettings (m .options .mode)) (m .bytes) h (b .headerIs) xs)
       ∙ ap (λ (l : List ℕ). bodyFrom f w 0 (take allBytes l)) (drop-append-le (h .body) (m .bytes) xs (b .start))
       ∙ ap (bodyFrom f w 0) (planes-grow xs)
       ∙ body-append f w (take allBytes body) new 0

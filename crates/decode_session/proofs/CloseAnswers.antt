@@ -16,12 +16,13 @@ use Rattle.header.specs.Represents.{Ended}
 use Rattle.header.specs.declared.FieldsSeen.{FieldsSeen}
 use Rattle.header.specs.declared.ParsedHeader.{ParsedHeader}
 use Rattle.header.specs.declared.reader.HeaderReader.{HeaderReader}
+use Rattle.options.specs.Limits.{ceilingOf}
 use Rattle.decoder.specs.Body.{extraFrames, planeOf, framesIn}
 use Rattle.decoder.specs.Image.{imageSettings, readImage}
 use Rattle.decoder.proofs.Headed.{image-by, image-limited}
 use Rattle.decoder.proofs.Counted.{few, many}
 use Rattle.decode_session.specs.Model.{nothing, Model, Told, frames, closing}
-use Rattle.decode_session.specs.Session.{InBody, Bounded}
+use Rattle.decode_session.specs.Session.{InBody, Settled}
 use Rattle.decode_session.specs.Stages.{Finishes}
 use Rattle.decode_session.specs.declared.Stage.{Stage}
 use Rattle.decode_session.specs.declared.DecodeClose.{DecodeClose}
@@ -30,11 +31,11 @@ use Rattle.decode_session.proofs.StageFacts.{staged, in-body, ceiling-s
 
 -- closing by the image's answer
 pub closes-by : (m : Model) (x : Answer Outline) → m .met ≡ nothing → readImage (m .options) (m .bytes) ≡ x
-    → closing m (m .met) ≡ map frames (map (framesIn (m .ceiling) (length (m .bytes))) x)
+    → closing m (m .met) ≡ map frames (map (framesIn (ceilingOf (m .options)) (length (m .bytes))) x)
 closes-by m x n e =
-    ap (closing m) n ∙ ap (λ (x : Answer Outline). map {B = Told} frames (map (framesIn (m .ceiling) (length (m .bytes))) x)) e
+    ap (closing m) n ∙ ap (λ (x : Answer Outline). map {B = Told} frames (map (framesIn (ceilingOf (m .options)) (length (m .bytes))) x)) e
 
-module _ {m : Model} {h : Outline} {whole begun : ℕ} (b : InBody m h whole begun) (ceiling : Bounded (m .ceiling) (m .options)) where
+module _ {m : Model} {h : Outline} {whole begun : ℕ} (b : InBody m h whole begun) (settles : Settled (m .options)) where
   abbrev size : ℕ
   size = length (m .bytes) - h .body
 
@@ -45,7 +46,7 @@ module _ {m : Model} {h : Outline} {whole begun : ℕ} (b : InBody m h whole beg
   short-size : whole ≡ 0 → size < planeOf h
   short-size z =
       let e : whole * planeOf h ≡ 0 * planeOf h = ap (λ (k : ℕ). k * planeOf h) z in
-      ⊎-elim (λ v. omega (arith, v .1, b .below)) (λ v. let f : ⊥ = omega (arith, v .0, ceiling-some ceiling) in absurd f) (b .place)
+      ⊎-elim (λ v. omega (arith, v .1, b .below)) (λ v. let f : ⊥ = omega (arith, v .0, ceiling-some settles) in absurd f) (b .place)
 
   pub none-whole : whole ≡ 0 → closing m (m .met) ≡ refuses 20 (h .body)
   none-whole z = closes-by m (refuses 20 (h .body)) (b .nothingMet) (image-is ∙ if-true (ltb size (planeOf h)) _ _ (lt-ltb size (planeOf h) (short-size z)))
@@ -60,18 +61,18 @@ module _ {m : Model} {h : Outline} {whole begun : ℕ} (b : InBody m h whole beg
         spread n l = let e : n ≡ 1 + (n - 1) = omega arith in ap (λ (k : ℕ). k * planeOf h) e ∙ omega arith
 
     -- the planes behind the first
-    extra : extraFrames (m .ceiling - 1) (planeOf h) size ≡ whole - 1
+    extra : extraFrames (ceilingOf (m .options) - 1) (planeOf h) size ≡ whole - 1
     extra = ⊎-elim inside behind (b .place)
       where
-        inside : (whole < m .ceiling) × (h .body + (whole * planeOf h + begun) ≡ length (m .bytes)) → extraFrames (m .ceiling - 1) (planeOf h) size ≡ whole - 1
+        inside : (whole < ceilingOf (m .options)) × (h .body + (whole * planeOf h + begun) ≡ length (m .bytes)) → extraFrames (ceilingOf (m .options) - 1) (planeOf h) size ≡ whole - 1
         inside v =
             let n : whole - 1 + 1 ≡ whole = omega arith in
             let t : (whole - 1 + 1) * planeOf h ≡ whole * planeOf h = ap (λ (k : ℕ). k * planeOf h) n in
             let q : (size - planeOf h) / planeOf h ≡ whole - 1 = div-eq-of-lt-le (planeOf h) (omega (arith, enough)) (omega (arith, v .1, b .below)) in
-            sym (few (m .ceiling - 1) (planeOf h) size (omega (arith, v .0))) ∙ q
+            sym (few (ceilingOf (m .options) - 1) (planeOf h) size (omega (arith, v .0))) ∙ q
 
-        behind : (whole ≡ m .ceiling) × ((begun ≡ 0) × (h .body + whole * planeOf h ≤ length (m .bytes))) → extraFrames (m .ceiling - 1) (planeOf h) size ≡ whole - 1
-        behind v = sym (many (m .ceiling - 1) (planeOf h) size (omega (arith, most, v .0))) ∙ omega (arith, v .0)
+        behind : (whole ≡ ceilingOf (m .options)) × ((begun ≡ 0) × (h .body + whole * planeOf h ≤ length (m .bytes))) → extraFrames (ceilingOf (m .options) - 1) (planeOf h) size ≡ whole - 1
+        behind v = sym (many (ceilingOf (m .options) - 1) (planeOf h) size (omega (arith, most, v .0))) ∙ omega (arith, v .0)
           where
             most : whole - 1 ≤ (size - planeOf h) / planeOf h
             most = le-div-iff-mul-le {k = planeOf h} (omega (arith, b .below)) .1 (omega (arith, enough))
@@ -83,7 +84,7 @@ module _ {m : Model} {h : Outline} {whole begun : ℕ} (b : InBody m h whole beg
         ∙ ap (λ (k : ℕ). gives (frames (1 + k))) extra ∙ ap (λ (k : ℕ). gives (frames k)) n
 
   pub at-most : whole ≤ 16
-  at-most = ⊎-elim (λ v. omega (arith, v .0, ceiling-few ceiling)) (λ v. omega (arith, v .0, ceiling-few ceiling)) (b .place)
+  at-most = ⊎-elim (λ v. omega (arith, v .0, ceiling-few settles)) (λ v. omega (arith, v .0, ceiling-few settles)) (b .place)
 
 module _ (s : Stage) where
   pub finish-header : (r : HeaderReader) (at kept : ℕ) (e : WbmpError) → s ≡ Stage.Header r at kept → Ended r e → Finishes s (DecodeClose.Refused e)

@@ -48,6 +48,6 @@ module _ (s : DecodeSession) where
             λ m st. closes m (record { session = record { options = s .options; stage = s .stage; live = false }; answer = a })
             (record { reply = record { answer = closing m (m .met); output = []; extension = [] }; next = shut m })
             (if-true (m .live) _ _ (sym (st .live) ∙ l))
-            (replied (sym (f .does m (st .ceiling) (st .stage))) refl refl)
-            (record { ceiling = st .ceiling; options = st .options; live = refl; stage = still (s .stage) m (st .stage) });
+            (replied (sym (f .does m (st .tested) (st .stage))) refl refl)
+            (record { tested = st .tested; options = st .options; live = refl; stage = still (s .stage) m (st .stage) });
       }

@@ -20,10 +20,10 @@ use Rattle.decode_session.specs.declared.DecodeClosed.{DecodeClosed}
 use Rattle.decode_session.proofs.Cuts.{midway}
 use Rattle.decode_session.proofs.CutOutputs.{storedTo, Sends, sending}
 
-module _ (ceiling : ℕ) (d : Decoding) (file : List ℕ) (h : Outline) (accepted : readImage d file ≡ gives h) (K : ℕ → List ℕ → Type 0)
-    (more : (at n : ℕ) (ext : List ℕ) → at + n ≤ length file → K at ext → K (at + n) (storedTo ceiling d file h accepted at (at + n) ext)) where
+module _ (d : Decoding) (file : List ℕ) (h : Outline) (accepted : readImage d file ≡ gives h) (K : ℕ → List ℕ → Type 0)
+    (more : (at n : ℕ) (ext : List ℕ) → at + n ≤ length file → K at ext → K (at + n) (storedTo d file h accepted at (at + n) ext)) where
   abbrev still : ℕ → Model
-  still at = midway ceiling d file at nothing
+  still at = midway d file at nothing
 
   -- the session stands for the machine closed after the whole file, and the buffer holds all of it
   pub record Ended (s : DecodeSession) (ext : List ℕ) : Type 0 where
@@ -43,7 +43,7 @@ module _ (ceiling : ℕ) (d : Decoding) (file : List ℕ) (h : Outline) (accepte
   left at size s out ext out′ ext′ r l st f =
       let o = outcome (still at) (feed (take size (drop at file)) out ext) in
       let g = f .does (still at) st in
-      let n = subst (Sends ceiling d file h accepted at ext (o .next)) (g .0) (sending ceiling d file h accepted at size out ext l) in
+      let n = subst (Sends d file h accepted at ext (o .next)) (g .0) (sending d file h accepted at size out ext l) in
       record {
         stands = subst (Stands (r .session)) (n .next-is) (g .1);
         holds = λ k. subst (K (at + tookOf (fedMeaning (r .answer)))) (sym (n .stores)) (more at (tookOf (fedMeaning (r .answer))) ext (n .there) k);

@@ -9,7 +9,7 @@ use lib.Seq.{take-all, take-append-seam, drop-length, take-add, sets}
 use Rattle.error.specs.Answer.{Answer, gives, refuses, map}
 use Rattle.laws.proofs.Tests.{zero-one}
 use Rattle.header.specs.Read.{Outline}
-use Rattle.options.specs.Limits.{Decoding}
+use Rattle.options.specs.Limits.{Decoding, ceilingOf}
 use Rattle.decoder.specs.Image.{imageSettings, readImage}
 use Rattle.decoder.specs.Frames.{framesOf}
 use Rattle.decode_session.specs.Sequence.{sequence}
@@ -23,13 +23,16 @@ use Rattle.decode_session.proofs.Cuts.{next-part, midway, met-whole}
 use Rattle.decode_session.proofs.CutSequences.{sequence-extends}
 use Rattle.decode_session.proofs.Extends.{Extends, seams}
 
-module _ (ceiling : ℕ) (d : Decoding) (file : List ℕ) (h : Outline) (accepted : readImage d file ≡ gives h) where
+module _ (d : Decoding) (file : List ℕ) (h : Outline) (accepted : readImage d file ≡ gives h) where
+  abbrev ceiling : ℕ
+  ceiling = ceilingOf d
+
   -- what is put out of the first bytes
   abbrev pub sent : ℕ → List ℕ
   sent at = sequence ceiling d (take at file)
 
   abbrev still : ℕ → Model
-  still at = midway ceiling d file at nothing
+  still at = midway d file at nothing
 
   -- more of the file: none of what was put out changes
   grows : (at n : ℕ) → Extends (sent at) (sent (at + n))
@@ -68,7 +71,7 @@ module _ (ceiling : ℕ) (d : Decoding) (file : List ℕ) (h : Outline) (accepte
         })
         (let n = next-part file at size (takes (still at) piece (length out)) l (most-small ceiling d (take at file) piece (length out) (length piece)) in
         record {
-          next-is = ap (λ (bytes : List ℕ). record { ceiling = ceiling; options = d; live = true; bytes = bytes; met = nothing }) (n .0);
+          next-is = ap (λ (bytes : List ℕ). record { options = d; live = true; bytes = bytes; met = nothing }) (n .0);
           sends =
               take-append-seam (written (still at) piece (length out)) _
               ∙ ap (λ (bytes : List ℕ). drop (length (sent at)) (sequence ceiling d bytes)) (n .0);
@@ -76,7 +79,7 @@ module _ (ceiling : ℕ) (d : Decoding) (file : List ℕ) (h : Outline) (accepte
           unmet = refl;
           there = n .1;
         })
-        (λ code place e f. let m = met-whole ceiling d file at size code place f e in zero-one (cc))
+        (λ code place e f. let m = met-whole d file at size code place f e in zero-one (cc))
 
   closing-sends : (a : Answer ℕ) → bytesOf (map frames a) [] ≡ []
   closing-sends (gives n) = refl

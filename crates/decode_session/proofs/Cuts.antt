@@ -9,7 +9,7 @@ use lib.Seq.{take-all, take-add, take-take}
 use Rattle.error.specs.Answer.{Answer, refuses, map, isEnd}
 use Rattle.laws.proofs.Lists.{append-take-drop}
 use Rattle.ext.proofs.Prefix.{settled}
-use Rattle.options.specs.Limits.{Decoding}
+use Rattle.options.specs.Limits.{Decoding, ceilingOf}
 use Rattle.header.specs.Read.{Outline}
 use Rattle.decoder.specs.Body.{framesIn}
 use Rattle.decoder.specs.Image.{readImage}
@@ -30,10 +30,13 @@ next-part file at size n l h =
       omega (arith, length-take size (drop at file), length-drop at file),
     )
 
-module _ (ceiling : ℕ) (d : Decoding) (file : List ℕ) where
+module _ (d : Decoding) (file : List ℕ) where
+  abbrev ceiling : ℕ
+  ceiling = ceilingOf d
+
   -- the machine with the first bytes of the file taken
   abbrev pub midway : ℕ → Met → Model
-  midway at met = record { ceiling = ceiling; options = d; live = true; bytes = take at file; met = met }
+  midway at met = record { options = d; live = true; bytes = take at file; met = met }
 
   -- a met refusal is the whole file's
   pub data Meets : Bool → Met → Type 0 where
@@ -80,7 +83,7 @@ module _ (ceiling : ℕ) (d : Decoding) (file : List ℕ) where
         let n = next-part file at size count l (most-small ceiling d (take at file) piece (length out) (length piece)) in
         record {
           met′ = nothing;
-          next-is = ap (λ (bytes : List ℕ). record { ceiling = ceiling; options = d; live = true; bytes = bytes; met = nothing }) (n .0);
+          next-is = ap (λ (bytes : List ℕ). record { options = d; live = true; bytes = bytes; met = nothing }) (n .0);
           holds = unmet;
           there = n .1;
         }

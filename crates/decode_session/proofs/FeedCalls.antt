@@ -73,7 +73,7 @@ module _ (s : DecodeSession) (piece out ext : List ℕ) (d : DecodeFed) (out′ 
       record {
         does =
             λ m st. f .does m
-            (record { ceiling = st .ceiling; options = st .options; live = sym l ∙ st .live; stage = staged m g (st .stage) });
+            (record { tested = st .tested; options = st .options; live = sym l ∙ st .live; stage = staged m g (st .stage) });
       }
 
 -- none of the piece is needed to come to the body
@@ -99,4 +99,4 @@ feed-body s piece out ext d out′ l long p whole begun g f = record { does = fi
         (stored-none m ext (m .bytes ++ piece) (fields-kept o (m .bytes) piece (parsed p) (b .headerIs)))
         (subst (λ (x : Met). Agrees d out′ (stored m (m .bytes ++ piece) ext) (fedBy m piece out ext x))
         (sym (admitted m piece (parsed p) (header-later o (m .bytes) (parsed p) (b .headerIs) piece) (b .admitted)))
-        (f .does m ext (st .ceiling) (st .options) (enters m piece (parsed p) whole begun b)))
+        (f .does m ext (st .tested) (st .options) (enters m piece (parsed p) whole begun b)))

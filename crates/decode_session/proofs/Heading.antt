@@ -17,6 +17,7 @@ use Rattle.header.specs.declared.ParsedHeader.{ParsedHeader}
 use Rattle.header.specs.declared.reader.HeaderReader.{HeaderReader}
 use Rattle.header.proofs.Ends.{endCode, endOffset, end-code}
 use Rattle.options.specs.declared.DecodeOptions.{DecodeOptions}
+use Rattle.options.specs.Limits.{ceilingOf}
 use Rattle.decoder.specs.Image.{imageSettings, headerOf}
 use Rattle.decode_session.specs.Sequence.{sequenceOf, sequence}
 use Rattle.decode_session.specs.Extension.{fieldBytes}
@@ -38,10 +39,10 @@ use Rattle.decode_session.proofs.Asked.{unread-so}
 
 -- a file whose header goes on shows nothing
 pub nothing-shown : (m : Model) (s : List ℕ) (r : HeaderReader) (at kept : ℕ) → Reached (imageSettings (m .options .mode)) s r at kept
-    → sequence (m .ceiling) (m .options) s ≡ []
+    → sequence (ceilingOf (m .options)) (m .options) s ≡ []
 unfolding sequence
 nothing-shown m s r at kept h =
-    ap (sequenceOf (m .ceiling) (m .options .format) s) (unread-end (imageSettings (m .options .mode)) s (h .state) (h .reached))
+    ap (sequenceOf (ceilingOf (m .options)) (m .options .format) s) (unread-end (imageSettings (m .options .mode)) s (h .state) (h .reached))
 
 module _ (o : DecodeOptions) (reader : HeaderReader) (at kept : ℕ) (piece out ext ext′ : List ℕ) (f : HeadFed)
     (heads : Heads reader at kept piece ext f ext′) (long : 4118 ≤ length ext) where
@@ -80,12 +81,12 @@ module _ (o : DecodeOptions) (reader : HeaderReader) (at kept : ℕ) (piece out 
       all : m .bytes ++ take (length piece) piece ≡ file
       all = ap (λ (l : List ℕ). m .bytes ++ l) (take-length piece)
 
-      none : sequence (m .ceiling) (m .options) (m .bytes ++ take (length piece) piece) ≡ []
-      none = ap (sequence (m .ceiling) (m .options)) all ∙ nothing-shown m file next (at + f .taken) (f .kept) later
+      none : sequence (ceilingOf (m .options)) (m .options) (m .bytes ++ take (length piece) piece) ≡ []
+      none = ap (sequence (ceilingOf (m .options)) (m .options)) all ∙ nothing-shown m file next (at + f .taken) (f .kept) later
 
       takes-all : takes m piece (length out) ≡ length piece
       takes-all =
-          most-is (m .ceiling) (m .options) (m .bytes) piece (length out) (length piece) (length piece) (omega arith)
+          most-is (ceilingOf (m .options)) (m .options) (m .bytes) piece (length out) (length piece) (length piece) (omega arith)
           (omega (arith, ap length none)) (λ j p q. let z : ⊥ = omega arith in absurd z)
 
       grows : grown m piece (length out) ≡ file
@@ -95,9 +96,9 @@ module _ (o : DecodeOptions) (reader : HeaderReader) (at kept : ℕ) (piece out 
       writes-none : written m piece (length out) ≡ []
       unfolding written grown
       writes-none =
-          ap (λ (k : ℕ). drop (length (sequence (m .ceiling) (m .options) (m .bytes))) (sequence (m .ceiling) (m .options) (m .bytes ++ take k piece))) takes-all
-          ∙ ap (drop (length (sequence (m .ceiling) (m .options) (m .bytes)))) none
-          ∙ drop-nil (length (sequence (m .ceiling) (m .options) (m .bytes)))
+          ap (λ (k : ℕ). drop (length (sequence (ceilingOf (m .options)) (m .options) (m .bytes))) (sequence (ceilingOf (m .options)) (m .options) (m .bytes ++ take k piece))) takes-all
+          ∙ ap (drop (length (sequence (ceilingOf (m .options)) (m .options) (m .bytes)))) none
+          ∙ drop-nil (length (sequence (ceilingOf (m .options)) (m .options) (m .bytes)))
 
       goes-on : now ≡ (at + f .taken) % 2 ^ 64
           → Agrees (takenIn o (Stage.Header next now (f .kept)) (f .taken) 0) out ext′
@@ -116,7 +117,7 @@ module _ (o : DecodeOptions) (reader : HeaderReader) (at kept : ℕ) (piece out 
             reply = replied (cc) (ap (λ (l : List ℕ). l ++ drop (length l) out) w) (stored-as m ext (grown m piece (length out)) file (ap (fieldBytes settings) grows) ∙ stored-is);
             stands =
                 record {
-                  ceiling = st .ceiling;
+                  tested = st .tested;
                   options = st .options;
                   live = refl;
                   stage = (
@@ -158,7 +159,7 @@ module _ (o : DecodeOptions) (reader : HeaderReader) (at kept : ℕ) (piece out 
       record {
         does =
             λ m st. agreed m piece out ext d out′ ext′ _ _ (reading m piece out ext (sym (st .live)) (st .stage .0) long) (stored-is m st)
-            (b .does m ext (st .ceiling) (st .options) (unread-so m reader at kept k (st .stage .1) u) (ended m st h e));
+            (b .does m ext (st .tested) (st .options) (unread-so m reader at kept k (st .stage .1) u) (ended m st h e));
       }
 
   pub refused : (k : FieldsSeen) (e : WbmpError) (d : DecodeFed) → Knows reader k → f .end ≡ HeadEnd.Refused e → d ≡ metIn o e k
@@ -170,6 +171,6 @@ module _ (o : DecodeOptions) (reader : HeaderReader) (at kept : ℕ) (piece out 
             let r = ends m st (HeadEnd.Refused e) q in
             agreed m piece out ext d out ext′ _ _ (reading m piece out ext (sym (st .live)) (st .stage .0) long) (stored-is m st)
             (subst (λ (d : DecodeFed). Agrees d out (stored m (m .bytes ++ piece) ext) (fedBy m piece out ext (meets m piece))) (sym s)
-            (refused-agrees o m piece out ext e k (st .ceiling) (st .options) (unread-so m reader at kept k (st .stage .1) u)
+            (refused-agrees o m piece out ext e k (st .tested) (st .options) (unread-so m reader at kept k (st .stage .1) u)
             (header-refused m piece (e .code) (e .offset) (r .0) (r .1))));
       }

@@ -23,7 +23,7 @@ use Rattle.decoder.specs.Image.{imageSettings}
 use Rattle.decode_session.specs.Extension.{fieldBytes}
 use Rattle.decode_session.specs.Model.{opened, opening}
 use Rattle.decode_session.specs.Head.{Reached}
-use Rattle.decode_session.specs.Session.{StageOf, Bounded, Opens}
+use Rattle.decode_session.specs.Session.{StageOf, Opens}
 use Rattle.decode_session.specs.declared.Stage.{Stage}
 
 -- nothing is taken yet
@@ -36,9 +36,6 @@ pub opening-is : (d : Decoding) (n : ℕ) → opening d n ≡ if (leb 4118 n) (g
 opening-is d n = ap (λ (a : Answer Decoding). bind a (λ _. if (leb 4118 n) (gives tt) (refuses 28 0))) (passes d)
 
 module _ (o : DecodeOptions) (r : HeaderReader) (n : ℕ) (s : Settings) (p : Represents r s start) (q : s ≡ imageSettings (modeOf (o .mode))) where
-  bounded : Bounded (opened (decoding o) .ceiling) (decoding o)
-  bounded = record { passed = passes (decoding o); is = refl }
-
   -- before the first byte
   begun : StageOf (Stage.Header r 0 0) (opened (decoding o))
   begun = (refl, reached-none (imageSettings (modeOf (o .mode))) r (subst (λ (s : Settings). Represents r s start) q p))
@@ -51,7 +48,7 @@ module _ (o : DecodeOptions) (r : HeaderReader) (n : ℕ) (s : Settings) (p : Re
         answer = sym e;
         stands =
             λ _. record {
-              ceiling = bounded;
+              tested = passes (decoding o);
               options = refl;
               live = refl;
               stage = begun;
@@ -66,5 +63,5 @@ module _ (o : DecodeOptions) (r : HeaderReader) (n : ℕ) (s : Settings) (p : Re
       record {
         answer = ap (λ (e : WbmpError). refuses (e .code) (e .offset)) z ∙ sym k;
         stands = λ w. let z = sym k ∙ w in zero-one (cc);
-        refused = λ code place w. record { ceiling = bounded; options = refl; live = refl; stage = begun };
+        refused = λ code place w. record { tested = passes (decoding o); options = refl; live = refl; stage = begun };
       }

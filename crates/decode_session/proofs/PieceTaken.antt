@@ -8,6 +8,7 @@ use native.Mathlib.Omega.{arith}
 use lib.ListN.{length, take, drop, length-append, length-take, length-drop}
 use lib.Seq.{take-add, take-all, drop-at, length-take-le}
 use Rattle.header.specs.Read.{Outline}
+use Rattle.options.specs.Limits.{ceilingOf}
 use Rattle.decoder.specs.Body.{planeOf}
 use Rattle.decode_session.specs.Sequence.{bodyFrom, sequence}
 use Rattle.decode_session.specs.Body.{Advanced, Advances}
@@ -19,7 +20,7 @@ use Rattle.decode_session.proofs.MostTaken.{shownWith, most-is}
 use Rattle.decode_session.proofs.BodyShown.{shownBytes, allBytes, shown-length, shown-grows}
 
 module _ {m : Model} {piece : List ℕ} {from room : ℕ} {h : Outline} {whole begun most : ℕ} {r : BodyFed}
-    (ceiling : m .ceiling ≡ most) (within : from ≤ length piece) (en : Enters m piece from h whole begun)
+    (ceiling : ceilingOf (m .options) ≡ most) (within : from ≤ length piece) (en : Enters m piece from h whole begun)
     (a : Advances most (planeOf h) whole begun (length (drop from piece)) room r) where
   abbrev rest : List ℕ
   rest = drop from piece
@@ -36,26 +37,26 @@ module _ {m : Model} {piece : List ℕ} {from room : ℕ} {h : Outline} {whole b
   split : (i : ℕ) → m .bytes ++ take (from + i) piece ≡ (m .bytes ++ take from piece) ++ take i rest
   split i = ap (λ (l : List ℕ). m .bytes ++ l) (take-add from i piece) ∙ sym (append-assoc (m .bytes) (take from piece) (take i rest))
 
-  grows : (i : ℕ) → sequence (m .ceiling) (m .options) (m .bytes ++ take (from + i) piece)
-      ≡ sequence (m .ceiling) (m .options) (m .bytes ++ take from piece) ++ bodyFrom (m .options .format) (h .width) begun (take left (take i rest))
-  grows i = ap (sequence (m .ceiling) (m .options)) (split i) ∙ shown-grows (en .inBody) (take i rest)
+  grows : (i : ℕ) → sequence (ceilingOf (m .options)) (m .options) (m .bytes ++ take (from + i) piece)
+      ≡ sequence (ceilingOf (m .options)) (m .options) (m .bytes ++ take from piece) ++ bodyFrom (m .options .format) (h .width) begun (take left (take i rest))
+  grows i = ap (sequence (ceilingOf (m .options)) (m .options)) (split i) ∙ shown-grows (en .inBody) (take i rest)
 
-  shown : (i : ℕ) → i ≤ length rest → shownWith (m .ceiling) (m .options) (m .bytes) piece room (from + i) ≡ shownBytes (en .inBody) + length (take left (take i rest))
+  shown : (i : ℕ) → i ≤ length rest → shownWith (ceilingOf (m .options)) (m .options) (m .bytes) piece room (from + i) ≡ shownBytes (en .inBody) + length (take left (take i rest))
   shown i l =
       ap length (grows i)
-      ∙ length-append (sequence (m .ceiling) (m .options) (m .bytes ++ take from piece)) _
+      ∙ length-append (sequence (ceilingOf (m .options)) (m .options) (m .bytes ++ take from piece)) _
       ∙ ap (λ (k : ℕ). k + length (bodyFrom (m .options .format) (h .width) begun (take left (take i rest)))) (shown-length (en .inBody))
       ∙ ap (λ (k : ℕ). shownBytes (en .inBody) + k) (body-length (m .options .format) (h .width) (take left (take i rest)) begun)
 
   -- the planes that are left are written, or all that is taken
   all-left : r .whole ≡ most → r .begun ≡ 0 → r .written ≡ left
   all-left p q =
-      let e : m .ceiling * planeOf h ≡ r .whole * planeOf h = ap (λ (k : ℕ). k * planeOf h) (ceiling ∙ sym p) in
+      let e : ceilingOf (m .options) * planeOf h ≡ r .whole * planeOf h = ap (λ (k : ℕ). k * planeOf h) (ceiling ∙ sym p) in
       omega (arith, advanced .sum)
 
   pub below-left : r .whole < most → r .written < left
   below-left p =
-      let e : (r .whole + 1) * planeOf h ≤ m .ceiling * planeOf h = mul-le-mul-right (planeOf h) (omega arith) in
+      let e : (r .whole + 1) * planeOf h ≤ ceilingOf (m .options) * planeOf h = mul-le-mul-right (planeOf h) (omega arith) in
       omega (arith, advanced .sum, advanced .below)
 
   new-is : take left (take (r .taken) rest) ≡ take (r .written) rest
@@ -68,16 +69,16 @@ module _ {m : Model} {piece : List ℕ} {from room : ℕ} {h : Outline} {whole b
 
   pub takes-is : takes m piece room ≡ from + r .taken
   takes-is =
-      most-is (m .ceiling) (m .options) (m .bytes) piece room (from + r .taken) (length piece)
+      most-is (ceilingOf (m .options)) (m .options) (m .bytes) piece room (from + r .taken) (length piece)
       (omega (arith, length-drop from piece, a .takes)) low high
     where
-      low : shownWith (m .ceiling) (m .options) (m .bytes) piece room (from + r .taken) ≤ length (sequence (m .ceiling) (m .options) (m .bytes)) + room
+      low : shownWith (ceilingOf (m .options)) (m .options) (m .bytes) piece room (from + r .taken) ≤ length (sequence (ceilingOf (m .options)) (m .options) (m .bytes)) + room
       low =
           let n : length (take left (take (r .taken) rest)) ≡ r .written = ap length new-is ∙ length-take-le (r .written) rest (omega (arith, a .takes, a .writes)) in
           omega (arith, shown (r .taken) (a .takes), a .fits, en .earlier)
 
       high : (j : ℕ) → from + r .taken < j → j ≤ length piece
-          → length (sequence (m .ceiling) (m .options) (m .bytes)) + room < shownWith (m .ceiling) (m .options) (m .bytes) piece room j
+          → length (sequence (ceilingOf (m .options)) (m .options) (m .bytes)) + room < shownWith (ceilingOf (m .options)) (m .options) (m .bytes) piece room j
       high j p q =
           let l = length-drop from piece in
           let e : from + (j - from) ≡ j = omega arith in
@@ -87,9 +88,9 @@ module _ {m : Model} {piece : List ℕ} {from room : ℕ} {h : Outline} {whole b
           let b = below-left (w .0) in
           let t = w .1 .0 in
           let n : room < length (take left (take (j - from) rest)) = rw (length-take, length-take) (omega arith) in
-          let s : length (sequence (m .ceiling) (m .options) (m .bytes)) + room < shownWith (m .ceiling) (m .options) (m .bytes) piece room (from + (j - from)) =
+          let s : length (sequence (ceilingOf (m .options)) (m .options) (m .bytes)) + room < shownWith (ceilingOf (m .options)) (m .options) (m .bytes) piece room (from + (j - from)) =
           omega (arith, shown (j - from) (omega arith), en .earlier) in
-          subst (λ (k : ℕ). length (sequence (m .ceiling) (m .options) (m .bytes)) + room < shownWith (m .ceiling) (m .options) (m .bytes) piece room k) e s)
+          subst (λ (k : ℕ). length (sequence (ceilingOf (m .options)) (m .options) (m .bytes)) + room < shownWith (ceilingOf (m .options)) (m .options) (m .bytes) piece room k) e s)
           (w .1 .1))
           (λ w. let z : ⊥ = omega (arith, w .1 .1) in absurd z)
           (advanced .ends)
@@ -101,9 +102,9 @@ module _ {m : Model} {piece : List ℕ} {from room : ℕ} {h : Outline} {whole b
   pub written-is : written m piece room ≡ bodyFrom (m .options .format) (h .width) begun (take (r .written) rest)
   unfolding written grown
   written-is =
-      ap (λ (k : ℕ). drop (length (sequence (m .ceiling) (m .options) (m .bytes))) (sequence (m .ceiling) (m .options) (m .bytes ++ take k piece))) takes-is
-      ∙ ap (drop (length (sequence (m .ceiling) (m .options) (m .bytes)))) (grows (r .taken))
-      ∙ drop-at (sequence (m .ceiling) (m .options) (m .bytes ++ take from piece)) _ (length (sequence (m .ceiling) (m .options) (m .bytes)))
+      ap (λ (k : ℕ). drop (length (sequence (ceilingOf (m .options)) (m .options) (m .bytes))) (sequence (ceilingOf (m .options)) (m .options) (m .bytes ++ take k piece))) takes-is
+      ∙ ap (drop (length (sequence (ceilingOf (m .options)) (m .options) (m .bytes)))) (grows (r .taken))
+      ∙ drop-at (sequence (ceilingOf (m .options)) (m .options) (m .bytes ++ take from piece)) _ (length (sequence (ceilingOf (m .options)) (m .options) (m .bytes)))
       (shown-length (en .inBody) ∙ sym (en .earlier))
       ∙ ap (bodyFrom (m .options .format) (h .width) begun) new-is
 

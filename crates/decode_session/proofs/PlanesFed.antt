@@ -17,7 +17,7 @@ use Rattle.decode_session.specs.Sequence.{bodyFrom}
 use Rattle.decode_session.specs.Body.{Advanced, Bodies}
 use Rattle.decode_session.specs.Extension.{fieldBytes}
 use Rattle.decode_session.specs.Model.{Model, nothing, grown, written, stored, fedBy}
-use Rattle.decode_session.specs.Session.{InBody, Bounded}
+use Rattle.decode_session.specs.Session.{InBody, Settled}
 use Rattle.decode_session.specs.Stages.{takenIn, Agrees, having, Enters, Planes}
 use Rattle.decode_session.specs.declared.Stage.{Stage}
 use Rattle.decode_session.specs.declared.DecodeFed.{DecodeFed}
@@ -29,7 +29,7 @@ use Rattle.decode_session.proofs.PieceTaken.{advanced, below-left, take
 
 module _ (o : DecodeOptions) (p : ParsedHeader) (most whole begun from : ℕ) (piece out out′ : List ℕ) (within : from ≤ length piece) (r : BodyFed)
     (b : Bodies (o .format) (p .width) (p .height) most whole begun (drop from piece) out r out′) where
-  module _ (m : Model) (ceiling : Bounded (m .ceiling) (m .options)) (full : m .ceiling ≡ most) (options : decoding o ≡ m .options) (en : Enters m piece from (parsed p) whole begun) where
+  module _ (m : Model) (settles : Settled (m .options)) (full : ceilingOf (m .options) ≡ most) (options : decoding o ≡ m .options) (en : Enters m piece from (parsed p) whole begun) where
     abbrev plane : ℕ
     plane = planeOf (parsed p)
 
@@ -45,13 +45,13 @@ module _ (o : DecodeOptions) (p : ParsedHeader) (most whole begun from : ℕ) (p
     next-length : length (bytes ++ take (r .taken) rest) ≡ length bytes + r .taken
     next-length = length-append-take bytes rest (r .taken) (b .advances .takes)
 
-    next-place : ((r .whole < m .ceiling) × (p .«data_offset» + (r .whole * plane + r .begun) ≡ length (bytes ++ take (r .taken) rest)))
-        ⊎ ((r .whole ≡ m .ceiling) × ((r .begun ≡ 0) × (p .«data_offset» + r .whole * plane ≤ length (bytes ++ take (r .taken) rest))))
+    next-place : ((r .whole < ceilingOf (m .options)) × (p .«data_offset» + (r .whole * plane + r .begun) ≡ length (bytes ++ take (r .taken) rest)))
+        ⊎ ((r .whole ≡ ceilingOf (m .options)) × ((r .begun ≡ 0) × (p .«data_offset» + r .whole * plane ≤ length (bytes ++ take (r .taken) rest))))
     next-place =
         ⊎-elim
         (λ w. ⊎-elim (λ v. inl (omega (arith, full, w .0), omega (arith, next-length, ends .sum, v .1, w .1 .0)))
         (λ v.
-        let a : whole * plane ≡ m .ceiling * plane = ap (λ (k : ℕ). k * plane) (v .0) in
+        let a : whole * plane ≡ ceilingOf (m .options) * plane = ap (λ (k : ℕ). k * plane) (v .0) in
         let l = below-left full within en (b .advances) (w .0) in
         let z : ⊥ = omega (arith, v .1 .0) in
         absurd z)
@@ -100,7 +100,7 @@ module _ (o : DecodeOptions) (p : ParsedHeader) (most whole begun from : ℕ) (p
               ∙ ap (fieldBytes (imageSettings (m .options .mode))) (append-take-drop (m .bytes) piece from)));
           stands =
               record {
-                ceiling = ceiling;
+                tested = settles;
                 options = options;
                 live = refl;
                 stage = subst (λ (l : List ℕ). InBody (having m l) (parsed p) (r .whole) (r .begun)) (sym all) next-body;
@@ -117,5 +117,5 @@ planes o p most whole begun from piece out out′ part r d n within same b e =
     record {
       does =
           λ m ext c q en. subst (λ (d : DecodeFed). Agrees d out′ (stored m (m .bytes ++ piece) ext) (fedBy m piece out ext nothing)) (sym e)
-          (planed o p most whole begun from piece out out′ within r b′ m c (c .is ∙ sym (n ∙ ap ceilingOf q)) q en ext);
+          (planed o p most whole begun from piece out out′ within r b′ m c (sym (n ∙ ap ceilingOf q)) q en ext);
     }

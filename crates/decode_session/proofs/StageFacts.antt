@@ -1,13 +1,12 @@
--- What a session's stage and ceiling say of the plain machine that it stands for.
+-- What a session's stage and settings say of the plain machine that it stands for.
 use Prim.Native.Nat.{ℕ, _≤_}
 use mathlib.Core.Path.{_≡_, subst}
-use native.Mathlib.Omega.{arith}
 use Rattle.header.specs.Read.{parsed}
 use Rattle.header.specs.declared.ParsedHeader.{ParsedHeader}
-use Rattle.options.specs.Limits.{Decoding}
+use Rattle.options.specs.Limits.{Decoding, ceilingOf}
 use Rattle.options.proofs.Ceilings.{tested}
 use Rattle.decode_session.specs.Model.{Model}
-use Rattle.decode_session.specs.Session.{InBody, StageOf, Bounded}
+use Rattle.decode_session.specs.Session.{InBody, StageOf, Settled}
 use Rattle.decode_session.specs.declared.Stage.{Stage}
 
 -- by the stage that a session's turned out to be
@@ -19,9 +18,9 @@ pub in-body : {s : Stage} {p : ParsedHeader} {whole begun : ℕ} (m : Model) →
 in-body m g h = staged m g h
 
 -- the ceiling of settings that passed their test
-module _ {ceiling : ℕ} {d : Decoding} (b : Bounded ceiling d) where
-  pub ceiling-some : 1 ≤ ceiling
-  ceiling-some = omega (arith, b .is, tested d d (b .passed) .some)
+module _ {d : Decoding} (b : Settled d) where
+  pub ceiling-some : 1 ≤ ceilingOf d
+  ceiling-some = tested d d b .some
 
-  pub ceiling-few : ceiling ≤ 16
-  ceiling-few = omega (arith, b .is, tested d d (b .passed) .few)
+  pub ceiling-few : ceilingOf d ≤ 16
+  ceiling-few = tested d d b .few

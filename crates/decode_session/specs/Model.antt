@@ -19,16 +19,15 @@ pub data Met : Type 0 where
   nothing : Met
   refusal : ℕ → ℕ → Met
 
--- document 01: the plain machine; `ceiling` is the most frames that are read
+-- document 01: the plain machine
 pub record Model : Type 0 where
-  pub ceiling : ℕ
   pub options : Decoding
   pub live : Bool
   pub bytes : List ℕ
   pub met : Met
 
 abbrev pub opened : Decoding → Model
-opened d = record { ceiling = ceilingOf d; options = d; live = true; bytes = []; met = nothing }
+opened d = record { options = d; live = true; bytes = []; met = nothing }
 
 -- the settings are tested, and then "Opening a reading gives 28", where the extension buffer is below 4,118
 abbrev pub opening : Decoding → ℕ → Answer (Unit {0})
@@ -60,7 +59,7 @@ meets m piece = metBy (readImage (m .options) (m .bytes ++ piece))
 
 -- "takes the most input bytes whose plane bytes fit the lent output"
 abbrev pub takes : Model → List ℕ → ℕ → ℕ
-takes m piece room = most (m .ceiling) (m .options) (m .bytes) piece room (length piece)
+takes m piece room = most (ceilingOf (m .options)) (m .options) (m .bytes) piece room (length piece)
 
 -- the bytes taken with those of a piece
 unfoldable pub grown : Model → List ℕ → ℕ → List ℕ
@@ -69,7 +68,7 @@ grown m piece room = m .bytes ++ take (takes m piece room) piece
 -- the plane bytes among these, behind the earlier ones
 unfoldable pub written : Model → List ℕ → ℕ → List ℕ
 written m piece room =
-    drop (length (sequence (m .ceiling) (m .options) (m .bytes))) (sequence (m .ceiling) (m .options) (grown m piece room))
+    drop (length (sequence (ceilingOf (m .options)) (m .options) (m .bytes))) (sequence (ceilingOf (m .options)) (m .options) (grown m piece room))
 
 -- a buffer with the extension bytes of a longer file stored behind those of the bytes taken
 abbrev pub stored : Model → List ℕ → List ℕ → List ℕ
@@ -93,12 +92,12 @@ fedBy m piece out ext nothing =
         output = w ++ drop (length w) out;
         extension = stored m (grown m piece (length out)) ext;
       };
-      next = record { ceiling = m .ceiling; options = m .options; live = true; bytes = grown m piece (length out); met = nothing };
+      next = record { options = m .options; live = true; bytes = grown m piece (length out); met = nothing };
     }
 fedBy m piece out ext (refusal code place) =
     record {
       reply = record { answer = refuses code place; output = out; extension = stored m (m .bytes ++ piece) ext };
-      next = record { ceiling = m .ceiling; options = m .options; live = true; bytes = m .bytes; met = refusal code place };
+      next = record { options = m .options; live = true; bytes = m .bytes; met = refusal code place };
     }
 
 -- nothing is altered
@@ -113,12 +112,12 @@ afterMet m piece out ext (refusal code place) = unaltered m code place out ext
 
 -- "Closing gives the frame count, without an unfinished extra frame, or 1, 6, 9, 13 or 20. A refused session repeats its refusal"
 abbrev pub closing : Model → Met → Answer Told
-closing m nothing = map frames (framesOf (m .ceiling) (m .options) (m .bytes))
+closing m nothing = map frames (framesOf (ceilingOf (m .options)) (m .options) (m .bytes))
 closing m (refusal code place) = refuses code place
 
 -- "Closing a reading session closes it, refused or not."
 abbrev pub shut : Model → Model
-shut m = record { ceiling = m .ceiling; options = m .options; live = false; bytes = m .bytes; met = m .met }
+shut m = record { options = m .options; live = false; bytes = m .bytes; met = m .met }
 
 unfoldable pub outcome : Model → Call → Outcome
 outcome m (feed piece out ext) = if (m .live) (afterMet m piece out ext (m .met)) (unaltered m 30 0 out ext)

@@ -60,7 +60,7 @@ wholeIn ceiling size (gives h) = let n = (size - h .body) / planeOf h in if (leb
 wholeIn ceiling size (refuses code place) = 0
 
 abbrev pub framesDone : Model → ℕ
-framesDone m = wholeIn (m .ceiling) (length (m .bytes)) (headerOf (m .options .mode) (m .bytes))
+framesDone m = wholeIn (ceilingOf (m .options)) (length (m .bytes)) (headerOf (m .options .mode) (m .bytes))
 
 -- the extension fields of the bytes taken; those that end in a refused call's piece are not among them
 abbrev pub fieldsSeen : Model → Known
@@ -73,8 +73,8 @@ pub record InBody (m : Model) (h : Outline) (whole begun : ℕ) : Type 0 where
   pub admitted : checkLimits (m .options) (h .width) (h .height) (planeOf h) (h .body) ≡ gives tt
   pub start : h .body ≤ length (m .bytes)
   pub below : begun < planeOf h
-  pub place : ((whole < m .ceiling) × (h .body + (whole * planeOf h + begun) ≡ length (m .bytes)))
-      ⊎ ((whole ≡ m .ceiling) × ((begun ≡ 0) × (h .body + whole * planeOf h ≤ length (m .bytes))))
+  pub place : ((whole < ceilingOf (m .options)) × (h .body + (whole * planeOf h + begun) ≡ length (m .bytes)))
+      ⊎ ((whole ≡ ceilingOf (m .options)) × ((begun ≡ 0) × (h .body + whole * planeOf h ≤ length (m .bytes))))
 
 -- before the header is read: no frame is done, and so much is known of the fields
 pub record Unread (m : Model) (f : FieldsSeen) : Type 0 where
@@ -86,13 +86,12 @@ StageOf (Stage.Header r at kept) m = (m .met ≡ nothing) × Reached (imageSetti
 StageOf (Stage.Body h whole begun) m = InBody m (parsed h) whole begun
 StageOf (Stage.Refused e f) m = (m .met ≡ refusal (e .code) (e .offset)) × Unread m f
 
--- the settings passed their test, and the ceiling is theirs
-pub record Bounded (ceiling : ℕ) (d : Decoding) : Type 0 where
-  pub passed : settled d ≡ gives d
-  pub is : ceiling ≡ ceilingOf d
+-- the settings passed their test
+abbrev pub Settled : Decoding → Type 0
+Settled d = settled d ≡ gives d
 
 pub record Stands (s : DecodeSession) (m : Model) : Type 0 where
-  pub ceiling : Bounded (m .ceiling) (m .options)
+  pub tested : Settled (m .options)
   pub options : decoding (s .options) ≡ m .options
   pub live : s .live ≡ m .live
   pub stage : StageOf (s .stage) m

@@ -9,13 +9,13 @@ use Rattle.error.specs.declared.WbmpError.{WbmpError}
 use Rattle.header.specs.Read.{Outline, parsed}
 use Rattle.header.specs.declared.FieldsSeen.{FieldsSeen}
 use Rattle.header.specs.declared.ParsedHeader.{ParsedHeader}
-use Rattle.options.specs.Limits.{decoding}
+use Rattle.options.specs.Limits.{decoding, ceilingOf}
 use Rattle.options.specs.declared.DecodeOptions.{DecodeOptions}
 use Rattle.decoder.specs.Body.{planeOf}
 use Rattle.decoder.specs.Image.{headerOf}
 use Rattle.decode_session.specs.Sequence.{sequence}
 use Rattle.decode_session.specs.Model.{nothing, Model, Outcome, fedBy, meets, stored, closing}
-use Rattle.decode_session.specs.Session.{fedMeaning, closedMeaning, InBody, Unread, StageOf, Bounded, Stands}
+use Rattle.decode_session.specs.Session.{fedMeaning, closedMeaning, InBody, Unread, StageOf, Settled, Stands}
 use Rattle.decode_session.specs.declared.Stage.{Stage}
 use Rattle.decode_session.specs.declared.DecodeFeed.{DecodeFeed}
 use Rattle.decode_session.specs.declared.DecodeFeed.the-variants.{Took}
@@ -37,16 +37,16 @@ metIn o e f = record { session = record { options = o; stage = Stage.Refused e f
 
 -- a plain machine with other bytes taken
 abbrev pub having : Model → List ℕ → Model
-having m bytes = record { ceiling = m .ceiling; options = m .options; live = true; bytes = bytes; met = nothing }
+having m bytes = record { options = m .options; live = true; bytes = bytes; met = nothing }
 
 -- in the body once the first bytes of a piece are taken, none of which is the body's
 pub record Enters (m : Model) (piece : List ℕ) (from : ℕ) (h : Outline) (whole begun : ℕ) : Type 0 where
   pub inBody : InBody (having m (m .bytes ++ take from piece)) h whole begun
-  pub earlier : length (sequence (m .ceiling) (m .options) (m .bytes)) ≡ whole * planeOf h + begun
+  pub earlier : length (sequence (ceilingOf (m .options)) (m .options) (m .bytes)) ≡ whole * planeOf h + begun
 
 -- the extension bytes of the piece are stored by then
 pub record Planes (o : DecodeOptions) (h : ParsedHeader) (whole begun from : ℕ) (piece out : List ℕ) (r : DecodeFed) (out′ : List ℕ) : Type 0 where
-  pub does : (m : Model) (ext : List ℕ) → Bounded (m .ceiling) (m .options) → decoding o ≡ m .options → Enters m piece from (parsed h) whole begun
+  pub does : (m : Model) (ext : List ℕ) → Settled (m .options) → decoding o ≡ m .options → Enters m piece from (parsed h) whole begun
       → Agrees r out′ (stored m (m .bytes ++ piece) ext) (fedBy m piece out ext nothing)
 
 -- the header ends with the first bytes of a piece
@@ -54,14 +54,14 @@ pub record Ended (m : Model) (piece : List ℕ) (from : ℕ) (h : Outline) : Typ
   pub within : from ≤ length piece
   pub header : headerOf (m .options .mode) (m .bytes ++ take from piece) ≡ gives h
   pub body : h .body ≡ length (m .bytes) + from
-  pub none : length (sequence (m .ceiling) (m .options) (m .bytes)) ≡ 0
+  pub none : length (sequence (ceilingOf (m .options)) (m .options) (m .bytes)) ≡ 0
 
 pub record Begins (o : DecodeOptions) (f : FieldsSeen) (h : ParsedHeader) (from : ℕ) (piece out : List ℕ) (r : DecodeFed) (out′ : List ℕ)
     : Type 0 where
-  pub does : (m : Model) (ext : List ℕ) → Bounded (m .ceiling) (m .options) → decoding o ≡ m .options
+  pub does : (m : Model) (ext : List ℕ) → Settled (m .options) → decoding o ≡ m .options
       → Unread m f → Ended m piece from (parsed h)
       → Agrees r out′ (stored m (m .bytes ++ piece) ext) (fedBy m piece out ext (meets m piece))
 
 -- what closing answers
 pub record Finishes (s : Stage) (r : DecodeClose) : Type 0 where
-  pub does : (m : Model) → Bounded (m .ceiling) (m .options) → StageOf s m → closedMeaning r ≡ closing m (m .met)
+  pub does : (m : Model) → Settled (m .options) → StageOf s m → closedMeaning r ≡ closing m (m .met)
