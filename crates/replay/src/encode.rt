@@ -1,0 +1,131 @@
+// A run of calls on a making session.
+use crate::EncodeReplayed;
+use crate::call::Answer;
+use crate::call::Named;
+use crate::call::Next;
+use crate::call::Part;
+use crate::call::next_call;
+use crate::call::refused;
+use crate::call::room_of;
+use crate::call::store;
+use encode_session::EncodeFed;
+use encode_session::EncodeFeed;
+use encode_session::EncodeSession;
+use error::Checked;
+
+// The session after a call, and the call's answer.
+struct Called {
+    session: EncodeSession,
+    answer: Answer,
+}
+
+fn fed_answer(answer: EncodeFeed) -> Answer {
+    match answer {
+        EncodeFeed::Took { taken, written } => Answer {
+            refusal: 0,
+            taken,
+            written,
+        },
+        EncodeFeed::Refused(e) => refused(e),
+    }
+}
+
+fn closed_answer(answer: Checked) -> Answer {
+    match answer {
+        Checked::Accepted => Answer {
+            refusal: 0,
+            taken: 0,
+            written: 0,
+        },
+        Checked::Refused(e) => refused(e),
+    }
+}
+
+// A feeding call whose output starts at an index.
+fn feed_part(
+    session: EncodeSession,
+    part: Part,
+    samples: &[u8],
+    work: &mut [i16],
+    out: &mut [u8],
+    at: usize,
+) -> EncodeFed {
+    let start = part.start;
+    let end = start + part.size;
+    let lent = part.lent;
+    let out_end = at + part.room;
+    session.feed(
+        &samples[start..end],
+        &mut work[..lent],
+        &mut out[at..out_end],
+    )
+}
+
+fn make_call(
+    session: EncodeSession,
+    call: Named,
+    samples: &[u8],
+    work: &mut [i16],
+    out: &mut [u8],
+    at: usize,
+) -> Called {
+    match call {
+        Named::Close => {
+            let closed = session.close();
+            let checked = closed.answer;
+            let next = closed.session;
+            Called {
+                session: next,
+                answer: closed_answer(checked),
+            }
+        }
+        Named::Feed(part) => {
+            let fed = feed_part(session, part, samples, work, out, at);
+            let feed = fed.answer;
+            let next = fed.session;
+            Called {
+                session: next,
+                answer: fed_answer(feed),
+            }
+        }
+    }
+}
+
+// Runs the calls on a session.
+pub fn replay_encode(
+    session: EncodeSession,
+    calls: &[usize],
+    samples: &[u8],
+    work: &mut [i16],
+    out: &mut [u8],
+    answers: &mut [usize],
+) -> EncodeReplayed {
+    let mut session = session;
+    let mut made: usize = 0;
+    let mut at: usize = 0;
+    let mut lent: usize = 0;
+    let mut told: usize = 0;
+    loop {
+        let next = next_call(
+            &calls[at..],
+            samples.len(),
+            out.len() - lent,
+            work.len(),
+            answers.len() - told,
+        );
+        let Next::Call(call) = next else {
+            return EncodeReplayed {
+                session,
+                calls: made,
+            };
+        };
+        let called = make_call(session, call, samples, work, out, lent);
+        let answer = called.answer;
+        store(answers, told, answer);
+        session = called.session;
+        made += 1;
+        at += 5;
+        lent += room_of(call);
+        told += 3;
+    }
+}
