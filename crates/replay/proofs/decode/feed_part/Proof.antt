@@ -7,11 +7,11 @@ use Rattle.decode_session.proofs.DecodeSession.feed.Reads as feed-reads
 
 -- src/decode.rt:69:15
 add-end : tie.Need-add-end
-add-end c = ?
+add-end c = search needs
 
 -- src/decode.rt:71:19
 add-out-end : tie.Need-add-out-end
-add-out-end c = ?
+add-out-end c = search needs
 
 -- src/decode.rt:72:18
 sub-feed : tie.Need-sub-feed
@@ -23,7 +23,7 @@ part-feed-start c = search needs
 
 -- src/decode.rt:72:18
 part-feed-end : tie.Need-part-feed-end
-part-feed-end c = ?
+part-feed-end c = search needs
 
 -- src/decode.rt:72:37
 sub-feed-2 : tie.Need-sub-feed-2
@@ -35,15 +35,15 @@ part-feed-start-2 c = search needs
 
 -- src/decode.rt:72:37
 part-feed-end-2 : tie.Need-part-feed-end-2
-part-feed-end-2 c = ?
+part-feed-end-2 c = search needs
 
 -- src/decode.rt:72:60
 slice-relend-prefix-feed : tie.Need-slice-relend-prefix-feed
-slice-relend-prefix-feed c = ?
+slice-relend-prefix-feed c = search needs
 
 -- src/decode.rt:72:60
 slice-aggregate-feed : tie.Need-slice-aggregate-feed
-slice-aggregate-feed c = ?
+slice-aggregate-feed c = search needs
 
 -- src/decode.rt:72:5
 feed-requires : tie.Need-feed-requires

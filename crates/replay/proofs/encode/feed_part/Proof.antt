@@ -7,11 +7,11 @@ use Rattle.encode_session.proofs.EncodeSession.feed.Reads as feed-reads
 
 -- src/encode.rt:69:15
 add-end : tie.Need-add-end
-add-end c = ?
+add-end c = search needs
 
 -- src/encode.rt:71:19
 add-out-end : tie.Need-add-out-end
-add-out-end c = ?
+add-out-end c = search needs
 
 -- src/encode.rt:73:9
 sub-feed : tie.Need-sub-feed
@@ -23,15 +23,15 @@ part-feed-start c = search needs
 
 -- src/encode.rt:73:9
 part-feed-end : tie.Need-part-feed-end
-part-feed-end c = ?
+part-feed-end c = search needs
 
 -- src/encode.rt:74:9
 slice-relend-prefix-feed : tie.Need-slice-relend-prefix-feed
-slice-relend-prefix-feed c = ?
+slice-relend-prefix-feed c = search needs
 
 -- src/encode.rt:74:9
 slice-aggregate-feed : tie.Need-slice-aggregate-feed
-slice-aggregate-feed c = ?
+slice-aggregate-feed c = search needs
 
 -- src/encode.rt:75:9
 sub-feed-2 : tie.Need-sub-feed-2
@@ -43,7 +43,7 @@ part-feed-start-2 c = search needs
 
 -- src/encode.rt:75:9
 part-feed-end-2 : tie.Need-part-feed-end-2
-part-feed-end-2 c = ?
+part-feed-end-2 c = search needs
 
 -- src/encode.rt:72:5
 feed-requires : tie.Need-feed-requires
