@@ -1,2 +1,4 @@
 pub mod Naming
 pub mod Parts
+pub mod Running
+pub mod Decoding

@@ -93,9 +93,9 @@ pub record Goes (numbers : List ℕ) (samples room work answers : ℕ) (c : Name
   pub told : 3 ≤ answers
   pub there : There c samples room work
 
-abbrev pub Nexts : List ℕ → ℕ → ℕ → ℕ → ℕ → Next → Type 0
-Nexts numbers samples room work answers Next.End = named numbers samples room work answers ≡ []
-Nexts numbers samples room work answers (Next.Call c) = Goes numbers samples room work answers c
+pub record Nexts (numbers : List ℕ) (samples room work answers : ℕ) (r : Next) : Type 0 where
+  pub ends : r ≡ Next.End → named numbers samples room work answers ≡ []
+  pub goes : (c : Named) → r ≡ Next.Call c → Goes numbers samples room work answers c
 
 abbrev pub threeOf : Answer → List ℕ
 threeOf a = a .refusal ∷ a .taken ∷ a .written ∷ []

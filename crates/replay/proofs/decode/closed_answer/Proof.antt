@@ -32,7 +32,7 @@ returns c = ap (λ (a : DecodeClose). numbersOf (closedMeaning a)) (c .before .a
 
 -- src/decode.rt:42:1
 returns-2 : tie.Need-returns-2
-returns-2 c = ap (λ (a : DecodeClose). numbersOf (closedMeaning a)) (c .before .before .answer .given .1) ∙ ap threeOf (sym (c .refused .ensures))
+returns-2 c = ap (λ (a : DecodeClose). numbersOf (closedMeaning a)) (c .before .before .answer2 .given .1) ∙ ap threeOf (sym (c .refused .ensures))
 
 pub closed-answer-spec : {M : Type 1} → statement M
 closed-answer-spec =

@@ -24,7 +24,7 @@ refused-requires c κs = search needs
 
 -- src/encode.rt:42:1
 returns : tie.Need-returns
-returns c = ap (λ (a : Checked). numbersOf (closedMeaning a)) (c .before .answer .given .1)
+returns c = ap (λ (a : Checked). numbersOf (closedMeaning a)) (c .enum-told .given .1)
 
 -- src/encode.rt:42:1
 returns-2 : tie.Need-returns-2

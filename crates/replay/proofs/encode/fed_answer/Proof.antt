@@ -28,7 +28,7 @@ returns c = ap (λ (a : EncodeFeed). numbersOf (fedMeaning a)) (c .before .answe
 
 -- src/encode.rt:29:1
 returns-2 : tie.Need-returns-2
-returns-2 c = ap (λ (a : EncodeFeed). numbersOf (fedMeaning a)) (c .before .before .answer .given .1) ∙ ap threeOf (sym (c .refused .ensures))
+returns-2 c = ap (λ (a : EncodeFeed). numbersOf (fedMeaning a)) (c .before .before .answer2 .given .1) ∙ ap threeOf (sym (c .refused .ensures))
 
 pub fed-answer-spec : {M : Type 1} → statement M
 fed-answer-spec =
