@@ -90,6 +90,14 @@ pub record At {A : Type 0} (calls : List ℕ) (samples : ℕ) (out₀ answers₀
   pub lentIn : lent ≤ length out
   pub toldIn : told ≤ length answers
 
+pub record Steps (calls : List ℕ) (samples : ℕ) (out answers : List ℕ) (work made at lent told : ℕ) (c : Named) : Type 0 where
+  pub lentIn : lent ≤ length out
+  pub there : There c samples (length out - lent) work
+  pub atNext : at + 5 ≤ length calls
+  pub lentNext : lent + roomOf c ≤ length out
+  pub toldNext : told + 3 ≤ length answers
+  pub madeNext : 3 * made + 3 ≤ length answers
+
 -- before the first call
 pub start-is : {A : Type 0} (calls : List ℕ) (samples : ℕ) (out answers : List ℕ) (work : List A)
     → named calls samples (length out) (length work) (length answers) ≡ named calls samples (length out - 0) (length work) (length answers - 0)
@@ -133,6 +141,19 @@ module _ {A : Type 0} (calls : List ℕ) (samples : ℕ) (out₀ answers₀ : Li
         answersSame = rw (a .many, ← a .toldIs) (a .answersSame);
         workSame = a .workSame;
       })
+
+  -- where the next call starts and ends
+  pub steps : (c : Named) → Goes (drop at calls) samples (length out - lent) (length work) (length answers - told) c
+      → Steps calls samples out answers (length work) made at lent told c
+  steps c g =
+      let h = room-there c _ _ _ (g .there) in
+      let i = a .lentIn in
+      let j = a .toldIn in
+      let k = g .told in
+      let l : length (drop at calls) ≡ length calls - at = length-drop at calls in
+      let n = g .long in
+      let t = a .toldIs in
+      record { lentIn = i; there = g .there; atNext = omega arith; lentNext = omega arith; toldNext = omega arith; madeNext = omega arith }
 
   -- one call more
   module _ (c : Named) (g : Goes (drop at calls) samples (length out - lent) (length work) (length answers - told) c) (part three : List ℕ) (work′ : List A)
