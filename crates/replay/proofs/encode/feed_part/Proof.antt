@@ -1,3 +1,7 @@
+use mathlib.Core.Path.{sym}
+use native.Mathlib.Omega.{arith}
+use lib.Seq.{length-take-le}
+use Rattle.replay.proofs.Encoding.{fed-part}
 use borrow.Author.Needs.{needs}
 use Rattle.replay.proofs.encode.feed_part.Statement.{statement}
 use Rattle.replay.proofs.encode.feed_part.Tie as tie
@@ -31,7 +35,7 @@ slice-relend-prefix-feed c = search needs
 
 -- src/encode.rt:74:9
 slice-aggregate-feed : tie.Need-slice-aggregate-feed
-slice-aggregate-feed c = search needs
+slice-aggregate-feed c = sym (length-take-le _ _ (c .before .before .before .before .before .before .pre .1 .buffer))
 
 -- src/encode.rt:75:9
 sub-feed-2 : tie.Need-sub-feed-2
@@ -59,7 +63,12 @@ same-length-2 c = search needs
 
 -- src/encode.rt:56:1
 returns : tie.Need-returns
-returns c = ?
+returns c =
+    let s = c .before .before .before .before .before .before .before .before .before .before .before in
+    let g = s .args in
+    let f = c .before .before .before .feed in
+    fed-part (g .session) (g .part) (g .samples .now) (g .work .now) (g .out .now) (g .at) (f .result) (f .last .1 .1 .0) (f .last .1 .1 .1 .0)
+    (let p = s .pre in omega arith) (s .pre .1 .buffer) (f .ensures) (f .kept .1 .1 .1 .0) (f .kept .1 .1 .0)
 
 pub feed-part-spec : {M : Type 1} → statement M
 feed-part-spec =
