@@ -33,12 +33,14 @@ module _ (q : Quantizer) (s : Setting) (xs : List ℕ) (n : ℕ) (work work′ :
   keeps-same w (ordered side table) r k = k
   keeps-same w dither r k =
       let b : 2 * s .width ≤ n = leb-true _ _ r in
-      let x : length xs % s .width < s .width = mod-lt (length xs) w in
-      (k .0, record {
-        done = λ i h. at-same i (omega arith) ∙ k .1 .done i h;
-        ahead = λ i h g y. at-same i (omega arith) ∙ k .1 .ahead i h g y;
-        corner = k .1 .corner;
-      })
+      let x : length xs % s .width < s .width = mod-lt (length xs) w in (
+        k .0,
+        record {
+          done = λ i h. at-same i (omega arith) ∙ k .1 .done i h;
+          ahead = λ i h g y. at-same i (omega arith) ∙ k .1 .ahead i h g y;
+          corner = k .1 .corner;
+        },
+      )
 
   pub holds-same : roomy (s .rule) (s .width) n ≡ true → QHolds q work s xs → QHolds q work′ s xs
   holds-same r h =
