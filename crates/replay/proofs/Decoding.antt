@@ -39,8 +39,10 @@ fed-part s p file out ext at r part front h k F e f =
       part = part;
       front = front;
       does =
-          subst (λ (k : ℕ). Feeds s (take (p .size) (drop (p .start) file)) (take k (drop at out)) (take (p .lent) ext) r part front) (size-is at (p .room))
-          (subst (λ (n : ℕ). Feeds s (take n (drop (p .start) file)) (take (at + p .room - at) (drop at out)) (take (p .lent) ext) r part front)
+          subst (λ (k : ℕ). Feeds s (take (p .size) (drop (p .start) file)) (take k (drop at out)) (take (p .lent) ext) r part front)
+          (size-is at (p .room))
+          (subst (λ (n : ℕ). Feeds s (take n (drop (p .start) file)) (take (at + p .room - at) (drop at out))
+          (take (p .lent) ext) r part front)
           (size-is (p .start) (p .size)) F);
       lentLong = l;
       partLong = n;
@@ -72,7 +74,8 @@ module _ (s : DecodeSession) (file out ext : List ℕ) (at : ℕ) (a : Answer) (
       })
 
   pub fed-makes : (p : Part) → c ≡ Feed p → (fed : DecodeFed) (out′ ext′ : List ℕ) → FeedsPart s p file out ext at fed out′ ext′
-      → numbersOf (fedMeaning (fed .answer)) ≡ threeOf a → Makes s c file out ext at (record { session = fed .session; answer = a }) out′ ext′
+      → numbersOf (fedMeaning (fed .answer)) ≡ threeOf a
+      → Makes s c file out ext at (record { session = fed .session; answer = a }) out′ ext′
   fed-makes p is fed out′ ext′ F e =
       subst (λ (c : Named). Makes s c file out ext at (record { session = fed .session; answer = a }) out′ ext′) (sym is)
       (record {
@@ -132,7 +135,8 @@ follows-start m s cs file out ext answers h =
       answersLong = refl;
     }
 
-module _ (m : Model) (cs : List Call) (file out₀ ext₀ answers₀ : List ℕ) (s : DecodeSession) (out ext answers : List ℕ) (made lent at : ℕ) where
+module _ (m : Model) (cs : List Call) (file out₀ ext₀ answers₀ : List ℕ) (s : DecodeSession) (out ext answers : List ℕ)
+    (made lent at : ℕ) where
   follows-end : Follows m cs file out₀ ext₀ answers₀ s out ext answers made lent at []
       → Shows m cs out₀ ext₀ answers₀ (record { session = s; calls = made }) out ext answers
   unfolding replies finally callsOf
@@ -146,7 +150,8 @@ module _ (m : Model) (cs : List Call) (file out₀ ext₀ answers₀ : List ℕ)
         stands = subst (λ (n : Model). Stands s n) (sym (f .final)) (f .stands);
       }
 
-  module _ (c : Named) (rest : List Named) (f : Follows m cs file out₀ ext₀ answers₀ s out ext answers made lent at (c ∷ rest)) (r : Called) (out′ ext′ : List ℕ)
+  module _ (c : Named) (rest : List Named) (f : Follows m cs file out₀ ext₀ answers₀ s out ext answers made lent at (c ∷ rest)) (r : Called)
+      (out′ ext′ : List ℕ)
       (M : Makes s c file out ext lent r out′ ext′) where
     call : Call
     call = callOf c file (drop lent out₀) ext
@@ -162,24 +167,30 @@ module _ (m : Model) (cs : List Call) (file out₀ ext₀ answers₀ : List ℕ)
     reply = outcome (f .now) call .reply
 
     -- the calls that are left
-    going : (A : Model → List ℕ → List ℕ → Type 0) → A (outcome (f .now) call .next) (drop (roomOf c) (drop lent out₀)) (over (reply .extension) ext)
+    going : (A : Model → List ℕ → List ℕ → Type 0)
+        → A (outcome (f .now) call .next) (drop (roomOf c) (drop lent out₀)) (over (reply .extension) ext)
         → A (outcome (f .now) call .next) (drop (lent + roomOf c) out₀) ext′
     unfolding reply
     going A x =
-        subst (λ (e : List ℕ). A (outcome (f .now) call .next) (drop (lent + roomOf c) out₀) e) (ap (λ (x : List ℕ). over x ext) (says .extension) ∙ sym (M .extIs))
-        (subst (λ (o : List ℕ). A (outcome (f .now) call .next) o (over (outcome (f .now) call .reply .extension) ext)) (drop-drop (roomOf c) lent out₀) x)
+        subst (λ (e : List ℕ). A (outcome (f .now) call .next) (drop (lent + roomOf c) out₀) e)
+        (ap (λ (x : List ℕ). over x ext) (says .extension) ∙ sym (M .extIs))
+        (subst (λ (o : List ℕ). A (outcome (f .now) call .next) o (over (outcome (f .now) call .reply .extension) ext))
+        (drop-drop (roomOf c) lent out₀) x)
 
-    replies-on : replies m cs ≡ (f .replied ++ (reply ∷ [])) ++ replies (outcome (f .now) call .next) (callsOf (outcome (f .now) call .next) rest file (drop (lent + roomOf c) out₀) ext′)
+    replies-on : replies m cs ≡ (f .replied ++ (reply ∷ [])) ++ replies (outcome (f .now) call .next)
+        (callsOf (outcome (f .now) call .next) rest file (drop (lent + roomOf c) out₀) ext′)
     unfolding replies callsOf call reply
     replies-on =
         going (λ (n : Model) (o e : List ℕ). replies m cs ≡ (f .replied ++ (reply ∷ [])) ++ replies n (callsOf n rest file o e))
         (f .whole ∙ sym (append-assoc (f .replied) (reply ∷ []) _))
 
-    finally-on : finally m cs ≡ finally (outcome (f .now) call .next) (callsOf (outcome (f .now) call .next) rest file (drop (lent + roomOf c) out₀) ext′)
+    finally-on : finally m cs ≡ finally (outcome (f .now) call .next)
+        (callsOf (outcome (f .now) call .next) rest file (drop (lent + roomOf c) out₀) ext′)
     unfolding finally callsOf call reply
     finally-on = going (λ (n : Model) (o e : List ℕ). finally m cs ≡ finally n (callsOf n rest file o e)) (f .final)
 
-    follows-on : Follows m cs file out₀ ext₀ answers₀ (r .session) out′ ext′ (replaced answers at (threeOf (r .answer))) (made + 1) (lent + roomOf c) (at + 3) rest
+    follows-on : Follows m cs file out₀ ext₀ answers₀ (r .session) out′ ext′ (replaced answers at (threeOf (r .answer))) (made + 1)
+        (lent + roomOf c) (at + 3) rest
     unfolding reply
     follows-on =
         let i = f .many in
@@ -197,22 +208,27 @@ module _ (m : Model) (cs : List Call) (file out₀ ext₀ answers₀ : List ℕ)
           whole = replies-on;
           final = finally-on;
           many = length-append (f .replied) (reply ∷ []) ∙ omega arith;
-          outIs = M .outIs ∙ grown out out₀ (joined output (f .replied)) (M .part) lent (roomOf c) (f .outIs) j p ∙ ap (λ (x : List ℕ). x ++ drop (lent + roomOf c) out₀) (sym o);
+          outIs = M .outIs ∙ grown out out₀ (joined output (f .replied)) (M .part) lent (roomOf c) (f .outIs) j p
+              ∙ ap (λ (x : List ℕ). x ++ drop (lent + roomOf c) out₀) (sym o);
           outLong = ap length o ∙ length-append (joined output (f .replied)) (M .part) ∙ omega arith;
-          extIs = M .extIs ∙ ap (λ (x : List ℕ). over x ext) (sym (says .extension)) ∙ ap (λ (x : List ℕ). over (reply .extension) x) (f .extIs) ∙ sym (left-more (f .replied) reply ext₀);
-          answersIs = grown answers answers₀ (joined told (f .replied)) (threeOf (r .answer)) at 3 (f .answersIs) k refl ∙ ap (λ (x : List ℕ). x ++ drop (at + 3) answers₀) (sym t);
+          extIs = M .extIs ∙ ap (λ (x : List ℕ). over x ext) (sym (says .extension))
+              ∙ ap (λ (x : List ℕ). over (reply .extension) x) (f .extIs) ∙ sym (left-more (f .replied) reply ext₀);
+          answersIs = grown answers answers₀ (joined told (f .replied)) (threeOf (r .answer)) at 3 (f .answersIs) k refl
+              ∙ ap (λ (x : List ℕ). x ++ drop (at + 3) answers₀) (sym t);
           answersLong = ap length t ∙ length-append (joined told (f .replied)) (threeOf (r .answer)) ∙ omega arith;
         }
 
 -- ---- the loop
 
 abbrev restOf : List ℕ → List ℕ → List ℕ → List ℕ → List ℕ → ℕ → ℕ → ℕ → List Named
-restOf calls file out ext answers at lent told = named (drop at calls) (length file) (length out - lent) (length ext) (length answers - told)
+restOf calls file out ext answers at lent told =
+    named (drop at calls) (length file) (length out - lent) (length ext) (length answers - told)
 
 abbrev allOf : List ℕ → List ℕ → List ℕ → List ℕ → List ℕ → List Named
 allOf calls file out ext answers = named calls (length file) (length out) (length ext) (length answers)
 
-pub record Sofar (s₀ : DecodeSession) (calls file out₀ ext₀ answers₀ : List ℕ) (s : DecodeSession) (out ext answers : List ℕ) (made at lent told : ℕ) : Type 0 where
+pub record Sofar (s₀ : DecodeSession) (calls file out₀ ext₀ answers₀ : List ℕ) (s : DecodeSession) (out ext answers : List ℕ)
+    (made at lent told : ℕ) : Type 0 where
   pub place : At calls (length file) out₀ answers₀ ext₀ out answers ext made at lent told
   pub follows : (m : Model) → Stands s₀ m
       → Follows m (callsOf m (allOf calls file out₀ ext₀ answers₀) file out₀ ext₀) file out₀ ext₀ answers₀ s out ext answers made lent told
@@ -223,15 +239,18 @@ starts s calls file out ext answers =
     record {
       place = at-start calls (length file) out answers ext;
       follows = λ m h.
-          subst (λ (l : List Named). Follows m (callsOf m (allOf calls file out ext answers) file out ext) file out ext answers s out ext answers 0 0 0 l)
+          subst (λ (l : List Named). Follows m
+          (callsOf m (allOf calls file out ext answers) file out ext) file out ext answers s out ext answers 0 0 0 l)
           (start-is calls (length file) out answers ext)
           (follows-start m s (allOf calls file out ext answers) file out ext answers h);
     }
 
-module _ (s₀ : DecodeSession) (calls file out₀ ext₀ answers₀ : List ℕ) (s : DecodeSession) (out ext answers : List ℕ) (made at lent told : ℕ)
+module _ (s₀ : DecodeSession) (calls file out₀ ext₀ answers₀ : List ℕ) (s : DecodeSession) (out ext answers : List ℕ)
+    (made at lent told : ℕ)
     (so : Sofar s₀ calls file out₀ ext₀ answers₀ s out ext answers made at lent told) where
   -- the run ends
-  pub stops : restOf calls file out ext answers at lent told ≡ [] → Replays s₀ calls file out₀ ext₀ answers₀ (record { session = s; calls = made }) out ext answers
+  pub stops : restOf calls file out ext answers at lent told ≡ []
+      → Replays s₀ calls file out₀ ext₀ answers₀ (record { session = s; calls = made }) out ext answers
   stops e =
       record {
         does = λ m h.
@@ -247,16 +266,22 @@ module _ (s₀ : DecodeSession) (calls file out₀ ext₀ answers₀ : List ℕ)
       → answers′ ≡ replaced answers told (threeOf (r .answer)) → (k : ℕ) → k ≡ roomOf c
       → Sofar s₀ calls file out₀ ext₀ answers₀ (r .session) out′ ext′ answers′ (made + 1) (at + 5) (lent + k) (told + 3)
   onward c g r out′ ext′ M l answers′ ea k ek =
-      subst (λ (k : ℕ). Sofar s₀ calls file out₀ ext₀ answers₀ (r .session) out′ ext′ answers′ (made + 1) (at + 5) (lent + k) (told + 3)) (sym ek)
-      (subst (λ (x : List ℕ). Sofar s₀ calls file out₀ ext₀ answers₀ (r .session) out′ ext′ x (made + 1) (at + 5) (lent + roomOf c) (told + 3)) (sym ea)
+      subst (λ (k : ℕ). Sofar s₀ calls file out₀ ext₀ answers₀ (r .session) out′ ext′ answers′ (made + 1) (at + 5) (lent + k) (told + 3))
+      (sym ek)
+      (subst (λ (x : List ℕ). Sofar s₀ calls file out₀ ext₀ answers₀ (r .session) out′ ext′ x (made + 1) (at + 5) (lent + roomOf c)
+      (told + 3)) (sym ea)
       (record {
         place =
-            subst (λ (o : List ℕ). At calls (length file) out₀ answers₀ ext₀ o new ext′ (made + 1) (at + 5) (lent + roomOf c) (told + 3)) (sym (M .outIs))
-            (at-on calls (length file) out₀ answers₀ ext₀ out answers ext made at lent told (so .place) c g (M .part) three ext′ (M .partLong) refl l behind);
+            subst (λ (o : List ℕ). At calls (length file) out₀ answers₀ ext₀ o new ext′ (made + 1) (at + 5) (lent + roomOf c) (told + 3))
+            (sym (M .outIs))
+            (at-on calls (length file) out₀ answers₀ ext₀ out answers ext made at lent told (so .place) c g (M .part) three ext′
+            (M .partLong) refl l behind);
         follows = λ m h.
             let cs = callsOf m (allOf calls file out₀ ext₀ answers₀) file out₀ ext₀ in
-            follows-on m cs file out₀ ext₀ answers₀ s out ext answers made lent told c (restOf calls file out′ ext′ new (at + 5) (lent + roomOf c) (told + 3))
-            (subst (λ (l : List Named). Follows m cs file out₀ ext₀ answers₀ s out ext answers made lent told l) next (so .follows m h)) r out′ ext′ M;
+            follows-on m cs file out₀ ext₀ answers₀ s out ext answers made lent told c
+            (restOf calls file out′ ext′ new (at + 5) (lent + roomOf c) (told + 3))
+            (subst (λ (l : List Named). Follows m cs file out₀ ext₀ answers₀ s out ext answers made lent told l) next
+            (so .follows m h)) r out′ ext′ M;
       }))
     where
       three : List ℕ
@@ -276,6 +301,8 @@ module _ (s₀ : DecodeSession) (calls file out₀ ext₀ answers₀ : List ℕ)
       next =
           next-is calls (length file) out answers out′ new ext ext′ at lent told c g
           (ap length (M .outIs)
-          ∙ out-long calls (length file) out₀ answers₀ ext₀ out answers ext made at lent told (so .place) c g (M .part) three ext′ (M .partLong) refl l behind)
-          (answers-long calls (length file) out₀ answers₀ ext₀ out answers ext made at lent told (so .place) c g (M .part) three ext′ (M .partLong) refl l behind)
+          ∙ out-long calls (length file) out₀ answers₀ ext₀ out answers ext made at lent told (so .place) c g (M .part) three ext′
+          (M .partLong) refl l behind)
+          (answers-long calls (length file) out₀ answers₀ ext₀ out answers ext made at lent told (so .place) c g (M .part) three ext′
+          (M .partLong) refl l behind)
           l

@@ -33,9 +33,11 @@ use Rattle.replay.proofs.Running.{joined-more, grown, next-is, At, star
 -- ---- one call
 
 -- a feeding call over parts
-pub fed-part : (s : EncodeSession) (p : Part) (samples : List ℕ) (work : List ℤ) (out : List ℕ) (at : ℕ) (r : EncodeFed) (front : List ℤ) (part : List ℕ)
+pub fed-part : (s : EncodeSession) (p : Part) (samples : List ℕ) (work : List ℤ) (out : List ℕ) (at : ℕ) (r : EncodeFed) (front : List ℤ)
+    (part : List ℕ)
     → at + p .room ≤ length out → p .lent ≤ length work
-    → Feeds s (midOf (p .start) (p .start + p .size - p .start) samples) (midOf at (at + p .room - at) out) (take (p .lent) work) r part front
+    → Feeds s (midOf (p .start) (p .start + p .size - p .start) samples) (midOf at (at + p .room - at) out)
+    (take (p .lent) work) r part front
     → length part ≡ length (midOf at (at + p .room - at) out) → length front ≡ length (take (p .lent) work)
     → FeedsPart s p samples work out at r (front ++ drop (p .lent) work) (putMid at (at + p .room - at) out part)
 fed-part s p samples work out at r front part h k F e f =
@@ -45,8 +47,10 @@ fed-part s p samples work out at r front part h k F e f =
       front = front;
       part = part;
       does =
-          subst (λ (k : ℕ). Feeds s (take (p .size) (drop (p .start) samples)) (take k (drop at out)) (take (p .lent) work) r part front) (size-is at (p .room))
-          (subst (λ (n : ℕ). Feeds s (take n (drop (p .start) samples)) (take (at + p .room - at) (drop at out)) (take (p .lent) work) r part front)
+          subst (λ (k : ℕ). Feeds s (take (p .size) (drop (p .start) samples)) (take k (drop at out)) (take (p .lent) work) r part front)
+          (size-is at (p .room))
+          (subst (λ (n : ℕ). Feeds s (take n (drop (p .start) samples)) (take (at + p .room - at) (drop at out))
+          (take (p .lent) work) r part front)
           (size-is (p .start) (p .size)) F);
       lentLong = l;
       partLong = n;
@@ -59,8 +63,10 @@ close-output : (m : Model) → outcome m close .reply .output ≡ []
 close-output m = by-close m (λ (x : Outcome). x .reply .output ≡ []) refl refl (λ _. refl)
 
 -- what the model says of a feeding call
-module _ (s : EncodeSession) (p : Part) (samples : List ℕ) (work : List ℤ) (out : List ℕ) (at : ℕ) (fed : EncodeFed) (work′ : List ℤ) (out′ : List ℕ)
-    (F : FeedsPart s p samples work out at fed work′ out′) (a : Answer) (e : numbersOf (fedMeaning (fed .answer)) ≡ threeOf a) (m : Model) (h : Holds s work m) where
+module _ (s : EncodeSession) (p : Part) (samples : List ℕ) (work : List ℤ) (out : List ℕ) (at : ℕ) (fed : EncodeFed) (work′ : List ℤ)
+    (out′ : List ℕ)
+    (F : FeedsPart s p samples work out at fed work′ out′) (a : Answer) (e : numbersOf (fedMeaning (fed .answer)) ≡ threeOf a) (m : Model)
+    (h : Holds s work m) where
   abbrev xs : List ℕ
   xs = take (p .size) (drop (p .start) samples)
 
@@ -74,7 +80,8 @@ module _ (s : EncodeSession) (p : Part) (samples : List ℕ) (work : List ℤ) (
   r = record { session = fed .session; answer = a }
 
   answer-is : fedMeaning (fed .answer) ≡ x .reply .answer
-  answer-is = subst (λ (n : ℕ). fedMeaning (fed .answer) ≡ outcome m (feed xs o n) .reply .answer) (F .lentLong) (F .does .counts m (h .stands) .0)
+  answer-is = subst (λ (n : ℕ). fedMeaning (fed .answer) ≡ outcome m (feed xs o n) .reply .answer) (F .lentLong)
+      (F .does .counts m (h .stands) .0)
 
   numbers-are : numbersOf (x .reply .answer) ≡ threeOf a
   numbers-are = ap numbersOf (sym answer-is) ∙ e
@@ -95,13 +102,21 @@ module _ (s : EncodeSession) (p : Part) (samples : List ℕ) (work : List ℤ) (
   by-giving : (t : Told) → x .reply .answer ≡ gives t → Calls m (feed xs o (p .lent)) r (F .part) work′
   by-giving t q =
       let v = feed-served m xs o (p .lent) t q in
-      let k : Holds s (take (p .lent) work) m = lent-same s m (p .lent) work (take (p .lent) work) v (sym (take-take (p .lent) (p .lent) work (omega arith))) h in
-      let d = subst (λ (n : ℕ). (F .part ≡ outcome m (feed xs o n) .reply .output) × Holds (fed .session) (F .front) (outcome m (feed xs o n) .next)) (F .lentLong)
+      let k : Holds s (take (p .lent) work) m =
+      lent-same s m (p .lent) work (take (p .lent) work) v (sym (take-take (p .lent) (p .lent) work (omega arith))) h in
+      let d = subst (λ (n : ℕ). (F .part ≡ outcome m (feed xs o n) .reply .output) × Holds (fed .session) (F .front)
+      (outcome m (feed xs o n) .next)) (F .lentLong)
       (F .does .does m k) in
       let f : take (p .lent) (F .front) ≡ F .front = take-all (p .lent) (F .front) (let l = F .frontLong in omega arith) in
-      let g : take (p .lent) work′ ≡ F .front = ap (take (p .lent)) (F .workIs) ∙ take-at (F .front) (drop (p .lent) work) (p .lent) (F .frontLong) in
-      let z : serves (x .next .opening) (p .lent) ≡ true = subst (λ (o : Opening). serves o (p .lent) ≡ true) (sym (opening-same m xs o (p .lent))) v in
-      record { answer = numbers-are; output = sym (d .0); holds = lent-same (fed .session) (x .next) (p .lent) (F .front) work′ z (f ∙ sym g) (d .1) }
+      let g : take (p .lent) work′ ≡ F .front =
+      ap (take (p .lent)) (F .workIs) ∙ take-at (F .front) (drop (p .lent) work) (p .lent) (F .frontLong) in
+      let z : serves (x .next .opening) (p .lent) ≡ true =
+      subst (λ (o : Opening). serves o (p .lent) ≡ true) (sym (opening-same m xs o (p .lent))) v in
+      record {
+        answer = numbers-are;
+        output = sym (d .0);
+        holds = lent-same (fed .session) (x .next) (p .lent) (F .front) work′ z (f ∙ sym g) (d .1);
+      }
 
   by-answer : (y : Answers.Answer Told) → x .reply .answer ≡ y → Calls m (feed xs o (p .lent)) r (F .part) work′
   by-answer (gives t) q = by-giving t q
@@ -117,14 +132,20 @@ module _ (s : EncodeSession) (samples : List ℕ) (work : List ℤ) (out : List 
       subst (λ (c : Named). Makes s c samples work out at (record { session = closed .session; answer = a }) work out) (sym is)
       (record {
         part = [];
-        does = λ m h. record { answer = ap numbersOf (sym (C .counts m (h .stands) .0)) ∙ e; output = close-output m; holds = C .does m work h };
+        does = λ m h. record {
+          answer = ap numbersOf (sym (C .counts m (h .stands) .0)) ∙ e;
+          output = close-output m;
+          holds = C .does m work h;
+        };
         long = refl;
         outIs = sym (ap (λ (k : ℕ). take at out ++ drop k out) (add-zero at) ∙ take-append-drop at out);
         beyond = refl;
       })
 
-  pub fed-makes : (p : Part) → c ≡ Feed p → (fed : EncodeFed) (work′ : List ℤ) (out′ : List ℕ) → FeedsPart s p samples work out at fed work′ out′
-      → numbersOf (fedMeaning (fed .answer)) ≡ threeOf a → Makes s c samples work out at (record { session = fed .session; answer = a }) work′ out′
+  pub fed-makes : (p : Part) → c ≡ Feed p → (fed : EncodeFed) (work′ : List ℤ) (out′ : List ℕ)
+      → FeedsPart s p samples work out at fed work′ out′
+      → numbersOf (fedMeaning (fed .answer)) ≡ threeOf a
+      → Makes s c samples work out at (record { session = fed .session; answer = a }) work′ out′
   fed-makes p is fed work′ out′ F e =
       subst (λ (c : Named). Makes s c samples work out at (record { session = fed .session; answer = a }) work′ out′) (sym is)
       (record {
@@ -168,7 +189,8 @@ follows-start m s cs samples work out answers h =
       answersLong = refl;
     }
 
-module _ (m : Model) (cs : List Call) (samples out₀ answers₀ : List ℕ) (s : EncodeSession) (work : List ℤ) (out answers : List ℕ) (made lent at : ℕ) where
+module _ (m : Model) (cs : List Call) (samples out₀ answers₀ : List ℕ) (s : EncodeSession) (work : List ℤ) (out answers : List ℕ)
+    (made lent at : ℕ) where
   follows-end : Follows m cs samples out₀ answers₀ s work out answers made lent at []
       → Shows m cs out₀ answers₀ (record { session = s; calls = made }) out answers work
   unfolding replies finally callsOf
@@ -181,7 +203,8 @@ module _ (m : Model) (cs : List Call) (samples out₀ answers₀ : List ℕ) (s 
         holds = subst (λ (n : Model). Holds s work n) (sym (f .final)) (f .holds);
       }
 
-  module _ (c : Named) (rest : List Named) (f : Follows m cs samples out₀ answers₀ s work out answers made lent at (c ∷ rest)) (r : Called) (work′ : List ℤ)
+  module _ (c : Named) (rest : List Named) (f : Follows m cs samples out₀ answers₀ s work out answers made lent at (c ∷ rest)) (r : Called)
+      (work′ : List ℤ)
       (out′ : List ℕ) (M : Makes s c samples work out lent r work′ out′) where
     abbrev call : Call
     call = callOf c samples (drop lent out₀)
@@ -201,14 +224,16 @@ module _ (m : Model) (cs : List Call) (samples out₀ answers₀ : List ℕ) (s 
     replies-on : replies m cs ≡ (f .replied ++ (reply ∷ [])) ++ replies next (callsOf rest samples (drop (lent + roomOf c) out₀))
     unfolding replies callsOf
     replies-on =
-        subst (λ (o : List ℕ). replies m cs ≡ (f .replied ++ (reply ∷ [])) ++ replies next (callsOf rest samples o)) (drop-drop (roomOf c) lent out₀)
+        subst (λ (o : List ℕ). replies m cs ≡ (f .replied ++ (reply ∷ [])) ++ replies next (callsOf rest samples o))
+        (drop-drop (roomOf c) lent out₀)
         (f .whole ∙ sym (append-assoc (f .replied) (reply ∷ []) _))
 
     finally-on : finally m cs ≡ finally next (callsOf rest samples (drop (lent + roomOf c) out₀))
     unfolding finally callsOf
     finally-on = subst (λ (o : List ℕ). finally m cs ≡ finally next (callsOf rest samples o)) (drop-drop (roomOf c) lent out₀) (f .final)
 
-    follows-on : Follows m cs samples out₀ answers₀ (r .session) work′ out′ (replaced answers at (threeOf (r .answer))) (made + 1) (lent + roomOf c) (at + 3) rest
+    follows-on : Follows m cs samples out₀ answers₀ (r .session) work′ out′ (replaced answers at (threeOf (r .answer))) (made + 1)
+        (lent + roomOf c) (at + 3) rest
     follows-on =
         let i = f .many in
         let j = f .outLong in
@@ -239,29 +264,34 @@ module _ (m : Model) (cs : List Call) (samples out₀ answers₀ : List ℕ) (s 
 -- ---- the loop
 
 abbrev restOf : List ℕ → List ℕ → List ℤ → List ℕ → List ℕ → ℕ → ℕ → ℕ → List Named
-restOf calls samples work out answers at lent told = named (drop at calls) (length samples) (length out - lent) (length work) (length answers - told)
+restOf calls samples work out answers at lent told =
+    named (drop at calls) (length samples) (length out - lent) (length work) (length answers - told)
 
 abbrev allOf : List ℕ → List ℕ → List ℤ → List ℕ → List ℕ → List Named
 allOf calls samples work out answers = named calls (length samples) (length out) (length work) (length answers)
 
-pub record Sofar (s₀ : EncodeSession) (calls samples : List ℕ) (work₀ : List ℤ) (out₀ answers₀ : List ℕ) (s : EncodeSession) (work : List ℤ) (out answers : List ℕ)
+pub record Sofar (s₀ : EncodeSession) (calls samples : List ℕ) (work₀ : List ℤ) (out₀ answers₀ : List ℕ) (s : EncodeSession) (work : List ℤ)
+    (out answers : List ℕ)
     (made at lent told : ℕ) : Type 0 where
   pub place : At calls (length samples) out₀ answers₀ work₀ out answers work made at lent told
   pub follows : (m : Model) → Holds s₀ work₀ m
       → Follows m (callsOf (allOf calls samples work₀ out₀ answers₀) samples out₀) samples out₀ answers₀ s work out answers made lent told
       (restOf calls samples work out answers at lent told)
 
-pub starts : (s : EncodeSession) (calls samples : List ℕ) (work : List ℤ) (out answers : List ℕ) → Sofar s calls samples work out answers s work out answers 0 0 0 0
+pub starts : (s : EncodeSession) (calls samples : List ℕ) (work : List ℤ) (out answers : List ℕ)
+    → Sofar s calls samples work out answers s work out answers 0 0 0 0
 starts s calls samples work out answers =
     record {
       place = at-start calls (length samples) out answers work;
       follows = λ m h.
-          subst (λ (l : List Named). Follows m (callsOf (allOf calls samples work out answers) samples out) samples out answers s work out answers 0 0 0 l)
+          subst (λ (l : List Named). Follows m
+          (callsOf (allOf calls samples work out answers) samples out) samples out answers s work out answers 0 0 0 l)
           (start-is calls (length samples) out answers work)
           (follows-start m s (allOf calls samples work out answers) samples work out answers h);
     }
 
-module _ (s₀ : EncodeSession) (calls samples : List ℕ) (work₀ : List ℤ) (out₀ answers₀ : List ℕ) (s : EncodeSession) (work : List ℤ) (out answers : List ℕ)
+module _ (s₀ : EncodeSession) (calls samples : List ℕ) (work₀ : List ℤ) (out₀ answers₀ : List ℕ) (s : EncodeSession) (work : List ℤ)
+    (out answers : List ℕ)
     (made at lent told : ℕ) (so : Sofar s₀ calls samples work₀ out₀ answers₀ s work out answers made at lent told) where
   -- the run ends
   pub stops : restOf calls samples work out answers at lent told ≡ []
@@ -277,21 +307,28 @@ module _ (s₀ : EncodeSession) (calls samples : List ℕ) (work₀ : List ℤ) 
 
   -- one call more
   pub onward : (c : Named) → Goes (drop at calls) (length samples) (length out - lent) (length work) (length answers - told) c
-      → (r : Called) (work′ : List ℤ) (out′ : List ℕ) → Makes s c samples work out lent r work′ out′ → length work′ ≡ length work → (answers′ : List ℕ)
+      → (r : Called) (work′ : List ℤ) (out′ : List ℕ) → Makes s c samples work out lent r work′ out′ → length work′ ≡ length work
+      → (answers′ : List ℕ)
       → answers′ ≡ replaced answers told (threeOf (r .answer)) → (k : ℕ) → k ≡ roomOf c
       → Sofar s₀ calls samples work₀ out₀ answers₀ (r .session) work′ out′ answers′ (made + 1) (at + 5) (lent + k) (told + 3)
   onward c g r work′ out′ M l answers′ ea k ek =
-      subst (λ (k : ℕ). Sofar s₀ calls samples work₀ out₀ answers₀ (r .session) work′ out′ answers′ (made + 1) (at + 5) (lent + k) (told + 3)) (sym ek)
-      (subst (λ (x : List ℕ). Sofar s₀ calls samples work₀ out₀ answers₀ (r .session) work′ out′ x (made + 1) (at + 5) (lent + roomOf c) (told + 3)) (sym ea)
+      subst (λ (k : ℕ). Sofar s₀ calls samples work₀ out₀ answers₀ (r .session) work′ out′ answers′ (made + 1) (at + 5) (lent + k)
+      (told + 3)) (sym ek)
+      (subst (λ (x : List ℕ). Sofar s₀ calls samples work₀ out₀ answers₀ (r .session) work′ out′ x (made + 1) (at + 5) (lent + roomOf c)
+      (told + 3)) (sym ea)
       (record {
         place =
-            subst (λ (o : List ℕ). At calls (length samples) out₀ answers₀ work₀ o new work′ (made + 1) (at + 5) (lent + roomOf c) (told + 3)) (sym (M .outIs))
-            (at-on calls (length samples) out₀ answers₀ work₀ out answers work made at lent told (so .place) c g (M .part) three work′ (M .long) refl l
+            subst (λ (o : List ℕ). At calls (length samples) out₀ answers₀ work₀ o new work′ (made + 1) (at + 5) (lent + roomOf c)
+            (told + 3)) (sym (M .outIs))
+            (at-on calls (length samples) out₀ answers₀ work₀ out answers work made at lent told (so .place) c g (M .part) three work′
+            (M .long) refl l
             (M .beyond));
         follows = λ m h.
             let cs = callsOf (allOf calls samples work₀ out₀ answers₀) samples out₀ in
-            follows-on m cs samples out₀ answers₀ s work out answers made lent told c (restOf calls samples work′ out′ new (at + 5) (lent + roomOf c) (told + 3))
-            (subst (λ (l : List Named). Follows m cs samples out₀ answers₀ s work out answers made lent told l) next (so .follows m h)) r work′ out′ M;
+            follows-on m cs samples out₀ answers₀ s work out answers made lent told c
+            (restOf calls samples work′ out′ new (at + 5) (lent + roomOf c) (told + 3))
+            (subst (λ (l : List Named). Follows m cs samples out₀ answers₀ s work out answers made lent told l) next
+            (so .follows m h)) r work′ out′ M;
       }))
     where
       three : List ℕ
@@ -300,12 +337,15 @@ module _ (s₀ : EncodeSession) (calls samples : List ℕ) (work₀ : List ℤ) 
       new : List ℕ
       new = replaced answers told (threeOf (r .answer))
 
-      next : restOf calls samples work out answers at lent told ≡ c ∷ restOf calls samples work′ out′ new (at + 5) (lent + roomOf c) (told + 3)
+      next : restOf calls samples work out answers at lent told
+          ≡ c ∷ restOf calls samples work′ out′ new (at + 5) (lent + roomOf c) (told + 3)
       next =
           next-is calls (length samples) out answers out′ new work work′ at lent told c g
           (ap length (M .outIs)
-          ∙ out-long calls (length samples) out₀ answers₀ work₀ out answers work made at lent told (so .place) c g (M .part) three work′ (M .long) refl l
+          ∙ out-long calls (length samples) out₀ answers₀ work₀ out answers work made at lent told (so .place) c g (M .part) three work′
+          (M .long) refl l
           (M .beyond))
-          (answers-long calls (length samples) out₀ answers₀ work₀ out answers work made at lent told (so .place) c g (M .part) three work′ (M .long) refl l
+          (answers-long calls (length samples) out₀ answers₀ work₀ out answers work made at lent told (so .place) c g (M .part) three work′
+          (M .long) refl l
           (M .beyond))
           l

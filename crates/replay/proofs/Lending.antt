@@ -26,9 +26,11 @@ use Rattle.encode_session.proofs.Answering.{by-feed}
 
 module _ (q : Quantizer) (s : Setting) (xs : List ℕ) (n : ℕ) (work work′ : List ℤ) (same : take n work ≡ take n work′) where
   at-same : (k : ℕ) → k < n → clamp (getD work′ k (pos 0)) ≡ clamp (getD work k (pos 0))
-  at-same k h = ap clamp (sym (getD-take n work′ k (pos 0) h) ∙ ap (λ (l : List ℤ). getD l k (pos 0)) (sym same) ∙ getD-take n work k (pos 0) h)
+  at-same k h = ap clamp (sym (getD-take n work′ k (pos 0) h) ∙ ap (λ (l : List ℤ). getD l k (pos 0)) (sym same)
+      ∙ getD-take n work k (pos 0) h)
 
-  keeps-same : 0 < s .width → (rule : Rule) → roomy rule (s .width) n ≡ true → Keeps rule s xs (stateOf (q .place) work) → Keeps rule s xs (stateOf (q .place) work′)
+  keeps-same : 0 < s .width → (rule : Rule) → roomy rule (s .width) n ≡ true → Keeps rule s xs (stateOf (q .place) work)
+      → Keeps rule s xs (stateOf (q .place) work′)
   keeps-same w (threshold t) r k = k
   keeps-same w (ordered side table) r k = k
   keeps-same w dither r k =
@@ -48,18 +50,21 @@ module _ (q : Quantizer) (s : Setting) (xs : List ℕ) (n : ℕ) (work work′ :
       record { stands = h .stands; keeps = keeps-same (omega arith) (s .rule) r (h .keeps) }
 
 -- a session over another buffer that starts with the same numbers
-pub lent-same : (s : EncodeSession) (m : Model) (n : ℕ) (work work′ : List ℤ) → serves (m .opening) n ≡ true → take n work ≡ take n work′ → Holds s work m → Holds s work′ m
+pub lent-same : (s : EncodeSession) (m : Model) (n : ℕ) (work work′ : List ℤ) → serves (m .opening) n ≡ true → take n work ≡ take n work′
+    → Holds s work m → Holds s work′ m
 lent-same s m n work work′ r e h =
     record { stands = h .stands; keeps = holds-same (s .quantizer) (settingOf (m .opening)) (m .samples) n work work′ e r (h .keeps) }
 
 -- ---- feeding, by its answer
 
 -- the buffer of an accepted call serves
-pub feed-served : (m : Model) (xs out : List ℕ) (n : ℕ) (t : Told) → outcome m (feed xs out n) .reply .answer ≡ gives t → serves (m .opening) n ≡ true
+pub feed-served : (m : Model) (xs out : List ℕ) (n : ℕ) (t : Told) → outcome m (feed xs out n) .reply .answer ≡ gives t
+    → serves (m .opening) n ≡ true
 unfolding outcome
 feed-served m xs out n t = go (m .live) (serves (m .opening) n) refl
   where
-    go : (a b : Bool) → serves (m .opening) n ≡ b → if a (if b (fedBy m xs out) (unaltered m 28 out)) (unaltered m 30 out) .reply .answer ≡ gives t
+    go : (a b : Bool) → serves (m .opening) n ≡ b → if a (if b (fedBy m xs out) (unaltered m 28 out)) (unaltered m 30 out) .reply .answer
+        ≡ gives t
         → serves (m .opening) n ≡ true
     go false b e f = zero-one (cc)
     go true false e f = zero-one (cc)

@@ -83,10 +83,12 @@ module _ (samples room work answers : ℕ) where
     from c e = five ns h ∙ ap (λ (c : Named). if (goesOn c) (behind ns c) []) e
 
     pub no-room : answers < 3 → Nexts ns samples room work answers Next.End
-    no-room k = nexts-end ns (five ns h ∙ if-false _ _ _ (ap (λ (b : Bool). b && isThere (firstOf ns) samples room work) (lt-leb 3 answers k)))
+    no-room k = nexts-end ns (five ns h
+        ∙ if-false _ _ _ (ap (λ (b : Bool). b && isThere (firstOf ns) samples room work) (lt-leb 3 answers k)))
 
     module _ (k : 3 ≤ answers) where
-      goes : (c : Named) → firstOf ns ≡ c → isThere c samples room work ≡ true → There c samples room work → Nexts ns samples room work answers (Next.Call c)
+      goes : (c : Named) → firstOf ns ≡ c → isThere c samples room work ≡ true → There c samples room work
+          → Nexts ns samples room work answers (Next.Call c)
       goes c e t there =
           nexts-call ns c
           (record {

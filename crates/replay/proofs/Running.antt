@@ -30,7 +30,8 @@ within-more n [] c w = (tt, w .0)
 within-more n (a ∷ cs) c w = let v = within-more n cs c (w .1) in ((w .0, v .0), v .1)
 
 -- a list of which the first `n` are `xs`, with a part behind them replaced
-pub grown : (l l₀ xs part : List ℕ) (n k : ℕ) → l ≡ xs ++ drop n l₀ → length xs ≡ n → length part ≡ k → replaced l n part ≡ (xs ++ part) ++ drop (n + k) l₀
+pub grown : (l l₀ xs part : List ℕ) (n k : ℕ) → l ≡ xs ++ drop n l₀ → length xs ≡ n → length part ≡ k → replaced l n part
+    ≡ (xs ++ part) ++ drop (n + k) l₀
 grown l l₀ xs part n k e h p =
     let a : take n l ≡ xs = ap (take n) e ∙ take-at xs (drop n l₀) n h in
     let b : drop n l ≡ drop n l₀ = ap (drop n) e ∙ drop-at xs (drop n l₀) n h in
@@ -46,7 +47,8 @@ pub room-there : (c : Named) (samples room work : ℕ) → There c samples room 
 room-there Close samples room work t = omega arith
 room-there (Feed p) samples room work t = t .output
 
-pub next-is : {A B : Type 0} (calls : List ℕ) (samples : ℕ) (out answers out′ answers′ : List ℕ) (work : List A) (work′ : List B) (at lent told : ℕ) (c : Named)
+pub next-is : {A B : Type 0} (calls : List ℕ) (samples : ℕ) (out answers out′ answers′ : List ℕ) (work : List A) (work′ : List B)
+    (at lent told : ℕ) (c : Named)
     → Goes (drop at calls) samples (length out - lent) (length work) (length answers - told) c
     → length out′ ≡ length out → length answers′ ≡ length answers → length work′ ≡ length work
     → named (drop at calls) samples (length out - lent) (length work) (length answers - told)
@@ -60,7 +62,8 @@ next-is calls samples out answers out′ answers′ work work′ at lent told c 
 left-numbers : (calls : List ℕ) (at : ℕ) → take (length calls - at) (drop at calls) ≡ drop at calls
 left-numbers calls at = take-all (length calls - at) (drop at calls) (rw (length-drop at calls) (omega arith))
 
-module _ (calls : List ℕ) (at samples room work answers : ℕ) (n : Next) (t : Nexts (take (length calls - at) (drop at calls)) samples room work answers n) where
+module _ (calls : List ℕ) (at samples room work answers : ℕ) (n : Next)
+    (t : Nexts (take (length calls - at) (drop at calls)) samples room work answers n) where
   here : Nexts (drop at calls) samples room work answers n
   here = subst (λ (l : List ℕ). Nexts l samples room work answers n) (left-numbers calls at) t
 
@@ -100,13 +103,16 @@ pub record Steps (calls : List ℕ) (samples : ℕ) (out answers : List ℕ) (wo
 
 -- before the first call
 pub start-is : {A : Type 0} (calls : List ℕ) (samples : ℕ) (out answers : List ℕ) (work : List A)
-    → named calls samples (length out) (length work) (length answers) ≡ named calls samples (length out - 0) (length work) (length answers - 0)
+    → named calls samples (length out) (length work) (length answers)
+    ≡ named calls samples (length out - 0) (length work) (length answers - 0)
 start-is calls samples out answers work =
     let p : length out ≡ length out - 0 = omega arith in
     let q : length answers ≡ length answers - 0 = omega arith in
-    ap (λ (n : ℕ). named calls samples n (length work) (length answers)) p ∙ ap (λ (n : ℕ). named calls samples (length out - 0) (length work) n) q
+    ap (λ (n : ℕ). named calls samples n (length work) (length answers)) p
+    ∙ ap (λ (n : ℕ). named calls samples (length out - 0) (length work) n) q
 
-pub at-start : {A : Type 0} (calls : List ℕ) (samples : ℕ) (out answers : List ℕ) (work : List A) → At calls samples out answers work out answers work 0 0 0 0
+pub at-start : {A : Type 0} (calls : List ℕ) (samples : ℕ) (out answers : List ℕ) (work : List A)
+    → At calls samples out answers work out answers work 0 0 0 0
 unfolding roomIn
 at-start calls samples out answers work =
     record {
@@ -156,8 +162,10 @@ module _ {A : Type 0} (calls : List ℕ) (samples : ℕ) (out₀ answers₀ : Li
       record { lentIn = i; there = g .there; atNext = omega arith; lentNext = omega arith; toldNext = omega arith; madeNext = omega arith }
 
   -- one call more
-  module _ (c : Named) (g : Goes (drop at calls) samples (length out - lent) (length work) (length answers - told) c) (part three : List ℕ) (work′ : List A)
-      (p : length part ≡ roomOf c) (t : length three ≡ 3) (w : length work′ ≡ length work) (b : drop (lentOf c) work′ ≡ drop (lentOf c) work) where
+  module _ (c : Named) (g : Goes (drop at calls) samples (length out - lent) (length work) (length answers - told) c) (part three : List ℕ)
+      (work′ : List A)
+      (p : length part ≡ roomOf c) (t : length three ≡ 3) (w : length work′ ≡ length work)
+      (b : drop (lentOf c) work′ ≡ drop (lentOf c) work) where
     room-in : lent + roomOf c ≤ length out
     room-in = let h = room-there c _ _ _ (g .there) in let i = a .lentIn in omega arith
 
@@ -170,7 +178,8 @@ module _ {A : Type 0} (calls : List ℕ) (samples : ℕ) (out₀ answers₀ : Li
     pub answers-long : length (replaced answers told three) ≡ length answers
     answers-long = replaced-long answers told three (let r = three-in in omega arith)
 
-    behind : (l l₀ part : List ℕ) (n k : ℕ) → length part ≡ k → n + k ≤ length l → drop n l ≡ drop n l₀ → drop (n + k) (replaced l n part) ≡ drop (n + k) l₀
+    behind : (l l₀ part : List ℕ) (n k : ℕ) → length part ≡ k → n + k ≤ length l → drop n l ≡ drop n l₀ → drop (n + k) (replaced l n part)
+        ≡ drop (n + k) l₀
     behind l l₀ part n k e h d =
         ap (λ (i : ℕ). drop (n + i) (replaced l n part)) (sym e)
         ∙ replaced-behind l n part (omega arith)
@@ -191,7 +200,8 @@ module _ {A : Type 0} (calls : List ℕ) (samples : ℕ) (out₀ answers₀ : Li
         ∙ ap (λ (i : ℕ). drop i work) e
         ∙ a .workSame n (u .0)
 
-    pub at-on : At calls samples out₀ answers₀ work₀ (replaced out lent part) (replaced answers told three) work′ (made + 1) (at + 5) (lent + roomOf c) (told + 3)
+    pub at-on : At calls samples out₀ answers₀ work₀ (replaced out lent part) (replaced answers told three) work′ (made + 1) (at + 5)
+        (lent + roomOf c) (told + 3)
     at-on =
         let r = room-in in
         let q = three-in in
@@ -201,7 +211,8 @@ module _ {A : Type 0} (calls : List ℕ) (samples : ℕ) (out₀ answers₀ : Li
         let l : length (drop at calls) ≡ length calls - at = length-drop at calls in
         let i = a .toldIs in
         let j = a .many in
-        let s = next-is calls samples out answers (replaced out lent part) (replaced answers told three) work work′ at lent told c g o n w in
+        let s = next-is calls samples out answers (replaced out lent part)
+        (replaced answers told three) work work′ at lent told c g o n w in
         record {
           done = a .done ++ (c ∷ []);
           whole = a .whole ∙ ap (λ (l : List Named). a .done ++ l) s ∙ sym (append-assoc (a .done) (c ∷ []) _);

@@ -33,8 +33,8 @@ abbrev pub isThere : Named → ℕ → ℕ → ℕ → Bool
 isThere Close samples room work = true
 isThere (Feed p) samples room work = hasParts p samples room work
 
--- The calls that are made: the run ends with the numbers, where fewer than three answers have room, and before a call whose parts are not there.
--- A call's output starts behind that of the one before; samples and work are there for each.
+-- The calls that are made: the run ends with the numbers, where fewer than three answers have room, and before a call whose parts are
+-- not there. A call's output starts behind that of the one before; samples and work are there for each.
 unfoldable pub named : List ℕ → ℕ → ℕ → ℕ → ℕ → List Named
 named (what ∷ start ∷ size ∷ room ∷ lent ∷ rest) samples out work answers =
     let c = nameOf what start size room lent in
@@ -65,7 +65,8 @@ abbrev pub over : List ℕ → List ℕ → List ℕ
 over front whole = front ++ drop (length front) whole
 
 -- For every session: so many calls are made, and what stands behind the parts that they are lent is as before.
-pub record Spares {A : Type 0} (cs : List Named) (calls : ℕ) (out answers : List ℕ) (work : List A) (out′ answers′ : List ℕ) (work′ : List A) : Type 0 where
+pub record Spares {A : Type 0} (cs : List Named) (calls : ℕ) (out answers : List ℕ) (work : List A) (out′ answers′ : List ℕ)
+    (work′ : List A) : Type 0 where
   pub made : calls ≡ length cs
   pub outSame : drop (roomIn cs) out′ ≡ drop (roomIn cs) out
   pub answersSame : drop (3 * length cs) answers′ ≡ drop (3 * length cs) answers

@@ -54,7 +54,8 @@ pub record Shows (m : Model) (cs : List Call) (out ext answers : List ℕ) (r : 
   pub stands : Stands (r .session) (finally m cs)
 
 -- a run of the named calls on a session that stands for a model, and on any
-pub record Runs (s : DecodeSession) (cs : List Named) (file out ext answers : List ℕ) (r : DecodeReplayed) (out′ ext′ answers′ : List ℕ) : Type 0 where
+pub record Runs (s : DecodeSession) (cs : List Named) (file out ext answers : List ℕ) (r : DecodeReplayed)
+    (out′ ext′ answers′ : List ℕ) : Type 0 where
   pub does : (m : Model) → Stands s m → Shows m (callsOf m cs file out ext) out ext answers r out′ ext′ answers′
   pub spares : Spares cs (r .calls) out answers ext out′ answers′ ext′
 

@@ -40,7 +40,8 @@ callsOf (c ∷ cs) samples out = callOf c samples out ∷ callsOf cs samples (dr
 -- ---- the contract
 
 -- what the replies of the machine say, and the session after them
-pub record Shows (m : Model) (cs : List Call) (out answers : List ℕ) (r : EncodeReplayed) (out′ answers′ : List ℕ) (work′ : List ℤ) : Type 0 where
+pub record Shows (m : Model) (cs : List Call) (out answers : List ℕ) (r : EncodeReplayed) (out′ answers′ : List ℕ)
+    (work′ : List ℤ) : Type 0 where
   pub calls : r .calls ≡ length (replies m cs)
   pub outputs : out′ ≡ over (joined output (replies m cs)) out
   pub answered : answers′ ≡ over (joined told (replies m cs)) answers

@@ -62,7 +62,8 @@ fn feed_part(
 ) -> DecodeFed
     requires { ⌜ at ≤ length (now out) ⌝ }
     requires { ⌜ Fits part (length (now file)) (length (now out) - at) (length (now ext)) ⌝ }
-    ensures { λ r. ⌜ FeedsPart session part (now (file .entry)) (now (out .entry)) (now (ext .entry)) at r (now (out .exit)) (now (ext .exit)) ⌝ }
+    ensures { λ r. ⌜ FeedsPart session part (now (file .entry)) (now (out .entry)) (now (ext .entry)) at
+        r (now (out .exit)) (now (ext .exit)) ⌝ }
 {
     let start = part.start;
     let end = start + part.size;
@@ -81,7 +82,8 @@ fn make_call(
 ) -> Called
     requires { ⌜ at ≤ length (now out) ⌝ }
     requires { ⌜ There call (length (now file)) (length (now out) - at) (length (now ext)) ⌝ }
-    ensures { λ r. ⌜ Makes session call (now (file .entry)) (now (out .entry)) (now (ext .entry)) at r (now (out .exit)) (now (ext .exit)) ⌝ }
+    ensures { λ r. ⌜ Makes session call (now (file .entry)) (now (out .entry)) (now (ext .entry)) at
+        r (now (out .exit)) (now (ext .exit)) ⌝ }
 {
     match call {
         Named::Close => {
@@ -114,7 +116,8 @@ pub fn replay_decode(
     ext: &mut [u8],
     answers: &mut [usize],
 ) -> DecodeReplayed
-    ensures { λ r. ⌜ Replays session (now (calls .entry)) (now (file .entry)) (now (out .entry)) (now (ext .entry)) (now (answers .entry)) r (now (out .exit)) (now (ext .exit)) (now (answers .exit)) ⌝ }
+    ensures { λ r. ⌜ Replays session (now (calls .entry)) (now (file .entry)) (now (out .entry)) (now (ext .entry)) (now (answers .entry))
+        r (now (out .exit)) (now (ext .exit)) (now (answers .exit)) ⌝ }
 {
     let mut session = session;
     let mut made: usize = 0;

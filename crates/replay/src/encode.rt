@@ -62,7 +62,8 @@ fn feed_part(
 ) -> EncodeFed
     requires { ⌜ at ≤ length (now out) ⌝ }
     requires { ⌜ Fits part (length (now samples)) (length (now out) - at) (length (now work)) ⌝ }
-    ensures { λ r. ⌜ FeedsPart session part (now (samples .entry)) (now (work .entry)) (now (out .entry)) at r (now (work .exit)) (now (out .exit)) ⌝ }
+    ensures { λ r. ⌜ FeedsPart session part (now (samples .entry)) (now (work .entry)) (now (out .entry)) at
+        r (now (work .exit)) (now (out .exit)) ⌝ }
 {
     let start = part.start;
     let end = start + part.size;
@@ -85,7 +86,8 @@ fn make_call(
 ) -> Called
     requires { ⌜ at ≤ length (now out) ⌝ }
     requires { ⌜ There call (length (now samples)) (length (now out) - at) (length (now work)) ⌝ }
-    ensures { λ r. ⌜ Makes session call (now (samples .entry)) (now (work .entry)) (now (out .entry)) at r (now (work .exit)) (now (out .exit)) ⌝ }
+    ensures { λ r. ⌜ Makes session call (now (samples .entry)) (now (work .entry)) (now (out .entry)) at
+        r (now (work .exit)) (now (out .exit)) ⌝ }
 {
     match call {
         Named::Close => {
@@ -118,7 +120,8 @@ pub fn replay_encode(
     out: &mut [u8],
     answers: &mut [usize],
 ) -> EncodeReplayed
-    ensures { λ r. ⌜ Replays session (now (calls .entry)) (now (samples .entry)) (now (work .entry)) (now (out .entry)) (now (answers .entry)) r (now (work .exit)) (now (out .exit)) (now (answers .exit)) ⌝ }
+    ensures { λ r. ⌜ Replays session (now (calls .entry)) (now (samples .entry)) (now (work .entry)) (now (out .entry)) (now (answers .entry))
+        r (now (work .exit)) (now (out .exit)) (now (answers .exit)) ⌝ }
 {
     let mut session = session;
     let mut made: usize = 0;

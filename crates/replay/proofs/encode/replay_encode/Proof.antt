@@ -7,12 +7,6 @@ use Rattle.replay.proofs.Running.{Steps, ends-here, goes-here, steps}
 use Rattle.replay.proofs.Encoding.{Sofar, starts, stops, onward}
 use Rattle.replay.proofs.encode.replay_encode.Statement.{statement}
 use Rattle.replay.proofs.encode.replay_encode.Tie as tie
-use Rattle.replay.proofs.encode.replay_encode.Reads as reads
-use Rattle.replay.proofs.encode.replay_encode.Lts as lts
-use Rattle.replay.proofs.call.next_call.Reads as next-call-reads
-use Rattle.replay.proofs.call.room_of.Reads as room-of-reads
-use Rattle.replay.proofs.call.store.Reads as store-reads
-use Rattle.replay.proofs.encode.make_call.Reads as make-call-reads
 
 abbrev Inv-loop : tie.InvT-loop
 Inv-loop calls samples work₀ out₀ answers₀ session₀ made₀ at₀ lent₀ told₀ work out answers session made at lent told =
@@ -29,11 +23,13 @@ module _ (n : tie.After-next Inv-loop μ-loop) where
       (length (l .loop .answers) - l .loop .told) (n .next .given .0 .0)
   goes =
       let l = n .before .before .before .before in
-      goes-here (l .before .before .before .before .before .args .calls .now) (l .loop .at) _ _ _ _ _ (n .before .before .next-call .ensures) _ (n .next .given .1)
+      goes-here (l .before .before .before .before .before .args .calls .now) (l .loop .at) _ _ _ _ _
+      (n .before .before .next-call .ensures) _ (n .next .given .1)
 
   step : let l = n .before .before .before .before in
       let g = l .before .before .before .before .before .args in
-      Steps (g .calls .now) (length (g .samples .now)) (l .loop .out) (l .loop .answers) (length (l .loop .work)) (l .loop .made) (l .loop .at) (l .loop .lent)
+      Steps (g .calls .now) (length (g .samples .now)) (l .loop .out) (l .loop .answers) (length (l .loop .work)) (l .loop .made)
+      (l .loop .at) (l .loop .lent)
       (l .loop .told) (n .next .given .0 .0)
   step = steps _ _ _ _ _ _ _ _ _ _ _ _ (n .before .before .before .before .loop .inv .place) _ goes
 
@@ -80,7 +76,9 @@ returns : tie.Need-returns Inv-loop μ-loop
 returns c =
     let q = c .before .before in
     let l = q .before .before in
-    stops _ _ _ _ _ _ _ _ _ _ _ _ _ _ (l .loop .inv) (ends-here (l .before .before .before .before .before .args .calls .now) (l .loop .at) _ _ _ _ _ (q .next-call .ensures) (c .enum-told .given .1))
+    stops _ _ _ _ _ _ _ _ _ _ _ _ _ _ (l .loop .inv)
+    (ends-here (l .before .before .before .before .before .args .calls .now) (l .loop .at) _ _ _ _ _ (q .next-call .ensures)
+    (c .enum-told .given .1))
 
 make-call-requires : tie.Need-make-call-requires Inv-loop μ-loop
 make-call-requires c κs =
@@ -117,7 +115,11 @@ add-told c =
     omega (arith, step n .toldNext, l .loop .inv .place .answersLong, l .before .before .before .before .before .good)
 
 loop-less : tie.Need-loop-less Inv-loop μ-loop
-loop-less c = omega (arith, step (c .before .before .before .before .before .before .before .before .before .before .before .before .before .before) .atNext)
+loop-less c = omega (
+  arith,
+  step
+      (c .before .before .before .before .before .before .before .before .before .before .before .before .before .before) .atNext,
+)
 
 loop-again : tie.Need-loop-again Inv-loop μ-loop
 loop-again c =
