@@ -33,8 +33,9 @@ abbrev pub isThere : Named → ℕ → ℕ → ℕ → Bool
 isThere Close samples room work = true
 isThere (Feed p) samples room work = hasParts p samples room work
 
--- The calls that are made: the run ends with the numbers, where fewer than three answers have room, and before a call whose parts are
--- not there. A call's output starts behind that of the one before; samples and work are there for each.
+-- The calls that are made, where there are so many samples, bytes of output, numbers of work, and room for so many answers: the run ends
+-- with the numbers, where fewer than three answers have room, and before a call whose parts are not there. A call's output starts behind
+-- that of the one before; all samples and all of the work are there for each.
 unfoldable pub named : List ℕ → ℕ → ℕ → ℕ → ℕ → List Named
 named (what ∷ start ∷ size ∷ room ∷ lent ∷ rest) samples out work answers =
     let c = nameOf what start size room lent in
@@ -72,13 +73,15 @@ pub record Spares {A : Type 0} (cs : List Named) (calls : ℕ) (out answers : Li
   pub answersSame : drop (3 * length cs) answers′ ≡ drop (3 * length cs) answers
   pub workSame : (n : ℕ) → Within n cs → drop n work′ ≡ drop n work
 
--- ---- what the functions below promise
+-- ---- what the private functions promise
 
+-- the parts are there
 pub record Fits (p : Part) (samples room work : ℕ) : Type 0 where
   pub piece : p .start + p .size ≤ samples
   pub output : p .room ≤ room
   pub buffer : p .lent ≤ work
 
+-- the test of it
 pub record Tests (p : Part) (samples room work : ℕ) (r : Bool) : Type 0 where
   pub is : r ≡ hasParts p samples room work
   pub fits : r ≡ true → Fits p samples room work
@@ -94,10 +97,12 @@ pub record Goes (numbers : List ℕ) (samples room work answers : ℕ) (c : Name
   pub told : 3 ≤ answers
   pub there : There c samples room work
 
+-- what the next call is
 pub record Nexts (numbers : List ℕ) (samples room work answers : ℕ) (r : Next) : Type 0 where
   pub ends : r ≡ Next.End → named numbers samples room work answers ≡ []
   pub goes : (c : Named) → r ≡ Next.Call c → Goes numbers samples room work answers c
 
+-- the numbers that are stored
 abbrev pub threeOf : Answer → List ℕ
 threeOf a = a .refusal ∷ a .taken ∷ a .written ∷ []
 

@@ -15,7 +15,7 @@ use Rattle.replay.specs.declared.call.Part.{Part}
 use Rattle.replay.specs.declared.decode.Called.{Called}
 use Rattle.replay.specs.Calls.{named, roomOf, lentOf, joined, over, Spares, threeOf, replaced}
 
--- the three numbers of an answer
+-- the three numbers that tell an answer
 abbrev pub numbersOf : Answer Told → List ℕ
 numbersOf (gives (took n b)) = 0 ∷ n ∷ b ∷ []
 numbersOf (gives (frames n)) = 0 ∷ n ∷ 0 ∷ []
@@ -37,6 +37,7 @@ abbrev pub callOf : Named → List ℕ → List ℕ → List ℕ → Call
 callOf Close file out ext = close
 callOf (Feed p) file out ext = feed (take (p .size) (drop (p .start) file)) (take (p .room) out) (take (p .lent) ext)
 
+-- the calls that are made
 unfoldable pub callsOf : Model → List Named → List ℕ → List ℕ → List ℕ → List Call
 callsOf m [] file out ext = []
 callsOf m (c ∷ cs) file out ext =
@@ -83,6 +84,7 @@ pub record Calls (m : Model) (call : Call) (r : Called) (part front : List ℕ) 
   pub extension : outcome m call .reply .extension ≡ front
   pub stands : Stands (r .session) (outcome m call .next)
 
+-- one call, named
 pub record Makes (s : DecodeSession) (c : Named) (file out ext : List ℕ) (at : ℕ) (r : Called) (out′ ext′ : List ℕ) : Type 0 where
   pub part : List ℕ
   pub front : List ℕ

@@ -16,7 +16,7 @@ use Rattle.replay.specs.declared.call.Part.{Part}
 use Rattle.replay.specs.declared.encode.Called.{Called}
 use Rattle.replay.specs.Calls.{named, roomOf, lentOf, joined, over, Spares, threeOf, replaced}
 
--- the three numbers of an answer
+-- the three numbers that tell an answer
 abbrev pub numbersOf : Answer Told → List ℕ
 numbersOf (gives (took n b)) = 0 ∷ n ∷ b ∷ []
 numbersOf (gives closed) = 0 ∷ 0 ∷ 0 ∷ []
@@ -33,6 +33,7 @@ abbrev pub callOf : Named → List ℕ → List ℕ → Call
 callOf Close samples out = close
 callOf (Feed p) samples out = feed (take (p .size) (drop (p .start) samples)) (take (p .room) out) (p .lent)
 
+-- the calls that are made
 unfoldable pub callsOf : List Named → List ℕ → List ℕ → List Call
 callsOf [] samples out = []
 callsOf (c ∷ cs) samples out = callOf c samples out ∷ callsOf cs samples (drop (roomOf c) out)
@@ -77,6 +78,7 @@ pub record Calls (m : Model) (call : Call) (r : Called) (part : List ℕ) (work�
   pub output : outcome m call .reply .output ≡ part
   pub holds : Holds (r .session) work′ (outcome m call .next)
 
+-- one call, named
 pub record Makes (s : EncodeSession) (c : Named) (samples : List ℕ) (work : List ℤ) (out : List ℕ) (at : ℕ) (r : Called)
     (work′ : List ℤ) (out′ : List ℕ) : Type 0 where
   pub part : List ℕ

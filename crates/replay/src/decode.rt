@@ -125,13 +125,9 @@ pub fn replay_decode(
     let mut lent: usize = 0;
     let mut told: usize = 0;
     loop {
-        let next = next_call(
-            &calls[at..],
-            file.len(),
-            out.len() - lent,
-            ext.len(),
-            answers.len() - told,
-        );
+        let room = out.len() - lent;
+        let left = answers.len() - told;
+        let next = next_call(&calls[at..], file.len(), room, ext.len(), left);
         let Next::Call(call) = next else {
             return DecodeReplayed {
                 session,

@@ -120,8 +120,8 @@ pub fn replay_encode(
     out: &mut [u8],
     answers: &mut [usize],
 ) -> EncodeReplayed
-    ensures { λ r. ⌜ Replays session (now (calls .entry)) (now (samples .entry)) (now (work .entry)) (now (out .entry)) (now (answers .entry))
-        r (now (work .exit)) (now (out .exit)) (now (answers .exit)) ⌝ }
+    ensures { λ r. ⌜ Replays session (now (calls .entry)) (now (samples .entry)) (now (work .entry)) (now (out .entry))
+        (now (answers .entry)) r (now (work .exit)) (now (out .exit)) (now (answers .exit)) ⌝ }
 {
     let mut session = session;
     let mut made: usize = 0;
@@ -129,13 +129,9 @@ pub fn replay_encode(
     let mut lent: usize = 0;
     let mut told: usize = 0;
     loop {
-        let next = next_call(
-            &calls[at..],
-            samples.len(),
-            out.len() - lent,
-            work.len(),
-            answers.len() - told,
-        );
+        let room = out.len() - lent;
+        let left = answers.len() - told;
+        let next = next_call(&calls[at..], samples.len(), room, work.len(), left);
         let Next::Call(call) = next else {
             return EncodeReplayed {
                 session,

@@ -36,6 +36,12 @@ module _ (n : tie.After-next Inv-loop μ-loop) where
 loop-holds : tie.Need-loop-holds Inv-loop μ-loop
 loop-holds c = starts _ _ _ _ _ _
 
+sub-room : tie.Need-sub-room Inv-loop μ-loop
+sub-room c = search needs
+
+sub-left : tie.Need-sub-left Inv-loop μ-loop
+sub-left c = search needs
+
 mul-next-call : tie.Need-mul-next-call Inv-loop μ-loop
 mul-next-call c = search needs
 
@@ -47,12 +53,6 @@ part-next-call-start c = search needs
 
 part-next-call-end : tie.Need-part-next-call-end Inv-loop μ-loop
 part-next-call-end c = search needs
-
-sub-next-call-2 : tie.Need-sub-next-call-2 Inv-loop μ-loop
-sub-next-call-2 c = search needs
-
-sub-next-call-3 : tie.Need-sub-next-call-3 Inv-loop μ-loop
-sub-next-call-3 c = search needs
 
 next-call-requires : tie.Need-next-call-requires Inv-loop μ-loop
 next-call-requires c κs = search needs
@@ -135,12 +135,12 @@ replay-encode-spec =
     Inv-loop
     μ-loop
     loop-holds
+    sub-room
+    sub-left
     mul-next-call
     sub-next-call
     part-next-call-start
     part-next-call-end
-    sub-next-call-2
-    sub-next-call-3
     next-call-requires
     enum-known-next
     enum-told
