@@ -53,7 +53,7 @@ module _ (q : Quantizer) (s : Setting) (xs : List ℕ) (n : ℕ) (work work′ :
 pub lent-same : (s : EncodeSession) (m : Model) (n : ℕ) (work work′ : List ℤ) → serves (m .opening) n ≡ true → take n work ≡ take n work′
     → Holds s work m → Holds s work′ m
 lent-same s m n work work′ r e h =
-    record { stands = h .stands; keeps = holds-same (s .quantizer) (settingOf (m .opening)) (m .samples) n work work′ e r (h .keeps) }
+    record { stands = h .stands; keeps = λ l. holds-same (s .quantizer) (settingOf (m .opening)) (m .samples) n work work′ e r (h .keeps l) }
 
 -- ---- feeding, by its answer
 
