@@ -7,9 +7,11 @@ mod ext_cases;
 mod file_cases;
 mod header_cases;
 mod list;
+mod list_cases;
 mod mbi_cases;
 mod plane_cases;
 mod random_cases;
+mod random_lists;
 mod scan_cases;
 mod settings_cases;
 mod stated_cases;
@@ -31,7 +33,11 @@ fn main() {
             random_cases::groups(number(seed), number(cases) as usize),
             [list, counts],
         ),
-        _ => panic!("usage: generate LIST COUNTS [SEED CASES]"),
+        [_, list, counts, seed, lists, cards] => (
+            random_lists::groups(number(seed), number(lists) as usize, number(cards) as usize),
+            [list, counts],
+        ),
+        _ => panic!("usage: generate LIST COUNTS [SEED CASES] or LIST COUNTS SEED LISTS CARDS"),
     };
     let mut list = List::new(LINE);
     groups.iter().for_each(|group| list.put_group(group));
@@ -74,18 +80,17 @@ fn counts(groups: &[Group]) -> String {
 
 /// One comparison for a reader's case and for one in place; for a writer's, three where it
 /// accepts (the output exactly long enough, longer and too short) and two where it refuses (no
-/// output and some).
+/// output and some); for a list one for each call, the opening included.
 fn comparisons(group: &Group) -> usize {
     let answers = group
         .sweeps
         .iter()
         .flat_map(|sweep| list::answers(group, sweep));
-    let each = answers.map(
-        |answer| match (group.operation.writes(), answer.output.is_empty()) {
-            (false, _) => 1,
-            (true, false) => 3,
-            (true, true) => 2,
-        },
-    );
+    let each = answers.map(|answer| match group.operation {
+        _ if group.operation.calls() => answer.calls(),
+        _ if !group.operation.writes() => 1,
+        _ if answer.output.is_empty() => 2,
+        _ => 3,
+    });
     each.sum()
 }
