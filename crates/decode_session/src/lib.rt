@@ -24,8 +24,8 @@ mod head;
 // The least length of an extension buffer: no fields are longer.
 pub const EXTENSION_BYTES: usize = 4118;
 
-// Where a reading stands.
-pub(crate) enum Stage {
+// Where a reading stands; named in public so that structs of other crates can hold a session.
+pub enum Stage {
     // In the header: bytes taken, and extension bytes among them.
     Header(HeaderReader, usize, usize),
     // In the body: whole frames, and bytes of the begun one.

@@ -1,5 +1,10 @@
 // What both runs share: the call that the next five numbers name, and its three answers.
 use error::WbmpError;
+ghost use Prim.Native.Nat.{_+_, _≤_};
+ghost use mathlib.Core.Path.{_≡_};
+ghost use mathlib.Core.List.{[], _∷_};
+ghost use lib.ListN.{length};
+ghost use Rattle.replay.specs.Calls.{hasParts, Nexts, roomOf, threeOf, replaced};
 
 // What a feeding call is lent: the piece, so many bytes of output, and so many numbers of work.
 pub(crate) struct Part {
@@ -21,7 +26,9 @@ pub(crate) enum Next {
 }
 
 // Whether so many samples, bytes of output and numbers of work have the parts.
-fn is_there(part: Part, samples: usize, room: usize, work: usize) -> bool {
+fn is_there(part: Part, samples: usize, room: usize, work: usize) -> bool
+    ensures { λ r. ⌜ r ≡ hasParts part samples room work ⌝ }
+{
     if samples < part.start {
         return false;
     }
@@ -41,7 +48,9 @@ pub(crate) fn next_call(
     room: usize,
     work: usize,
     answers: usize,
-) -> Next {
+) -> Next
+    ensures { λ r. ⌜ Nexts (now (numbers .entry)) samples room work answers r ⌝ }
+{
     if numbers.len() < 5 {
         return Next::End;
     }
@@ -64,7 +73,9 @@ pub(crate) fn next_call(
 }
 
 // How many bytes of output a call is lent.
-pub(crate) fn room_of(call: Named) -> usize {
+pub(crate) fn room_of(call: Named) -> usize
+    ensures { λ r. ⌜ r ≡ roomOf call ⌝ }
+{
     match call {
         Named::Close => 0,
         Named::Feed(part) => part.room,
@@ -78,7 +89,9 @@ pub(crate) struct Answer {
     pub(crate) written: usize,
 }
 
-pub(crate) fn refused(e: WbmpError) -> Answer {
+pub(crate) fn refused(e: WbmpError) -> Answer
+    ensures { λ r. ⌜ r ≡ record { refusal = e .code; taken = e .offset; written = 0 } ⌝ }
+{
     Answer {
         refusal: e.code as usize,
         taken: e.offset,
@@ -87,7 +100,10 @@ pub(crate) fn refused(e: WbmpError) -> Answer {
 }
 
 // Stores an answer's three numbers from an index on.
-pub(crate) fn store(answers: &mut [usize], at: usize, answer: Answer) {
+pub(crate) fn store(answers: &mut [usize], at: usize, answer: Answer)
+    requires { ⌜ at + 3 ≤ length (now answers) ⌝ }
+    ensures { λ r. ⌜ now (answers .exit) ≡ replaced (now (answers .entry)) at (threeOf answer) ⌝ }
+{
     answers[at] = answer.refusal;
     answers[at + 1] = answer.taken;
     answers[at + 2] = answer.written;

@@ -12,6 +12,13 @@ use decode_session::DecodeClose;
 use decode_session::DecodeFed;
 use decode_session::DecodeFeed;
 use decode_session::DecodeSession;
+ghost use Prim.Native.Nat.{_-_, _≤_};
+ghost use mathlib.Core.Path.{_≡_};
+ghost use mathlib.Core.Bool.{true};
+ghost use lib.ListN.{length};
+ghost use Rattle.decode_session.specs.Session.{fedMeaning, closedMeaning};
+ghost use Rattle.replay.specs.Calls.{isThere, hasParts, threeOf};
+ghost use Rattle.replay.specs.Decode.{numbersOf, FeedsPart, Makes, Replays};
 
 // The session after a call, and the call's answer.
 struct Called {
@@ -19,7 +26,9 @@ struct Called {
     answer: Answer,
 }
 
-fn fed_answer(answer: DecodeFeed) -> Answer {
+fn fed_answer(answer: DecodeFeed) -> Answer
+    ensures { λ r. ⌜ numbersOf (fedMeaning answer) ≡ threeOf r ⌝ }
+{
     match answer {
         DecodeFeed::Took { taken, written } => Answer {
             refusal: 0,
@@ -30,7 +39,9 @@ fn fed_answer(answer: DecodeFeed) -> Answer {
     }
 }
 
-fn closed_answer(answer: DecodeClose) -> Answer {
+fn closed_answer(answer: DecodeClose) -> Answer
+    ensures { λ r. ⌜ numbersOf (closedMeaning answer) ≡ threeOf r ⌝ }
+{
     match answer {
         DecodeClose::Frames(n) => Answer {
             refusal: 0,
@@ -49,7 +60,11 @@ fn feed_part(
     out: &mut [u8],
     ext: &mut [u8],
     at: usize,
-) -> DecodeFed {
+) -> DecodeFed
+    requires { ⌜ at ≤ length (now out) ⌝ }
+    requires { ⌜ hasParts part (length (now file)) (length (now out) - at) (length (now ext)) ≡ true ⌝ }
+    ensures { λ r. ⌜ FeedsPart session part (now (file .entry)) (now (out .entry)) (now (ext .entry)) at r (now (out .exit)) (now (ext .exit)) ⌝ }
+{
     let start = part.start;
     let end = start + part.size;
     let lent = part.lent;
@@ -64,7 +79,11 @@ fn make_call(
     out: &mut [u8],
     ext: &mut [u8],
     at: usize,
-) -> Called {
+) -> Called
+    requires { ⌜ at ≤ length (now out) ⌝ }
+    requires { ⌜ isThere call (length (now file)) (length (now out) - at) (length (now ext)) ≡ true ⌝ }
+    ensures { λ r. ⌜ Makes session call (now (file .entry)) (now (out .entry)) (now (ext .entry)) at r (now (out .exit)) (now (ext .exit)) ⌝ }
+{
     match call {
         Named::Close => {
             let closed = session.close();
@@ -95,7 +114,9 @@ pub fn replay_decode(
     out: &mut [u8],
     ext: &mut [u8],
     answers: &mut [usize],
-) -> DecodeReplayed {
+) -> DecodeReplayed
+    ensures { λ r. ⌜ Replays session (now (calls .entry)) (now (file .entry)) (now (out .entry)) (now (ext .entry)) (now (answers .entry)) r (now (out .exit)) (now (ext .exit)) (now (answers .exit)) ⌝ }
+{
     let mut session = session;
     let mut made: usize = 0;
     let mut at: usize = 0;

@@ -12,6 +12,13 @@ use encode_session::EncodeFed;
 use encode_session::EncodeFeed;
 use encode_session::EncodeSession;
 use error::Checked;
+ghost use Prim.Native.Nat.{_-_, _≤_};
+ghost use mathlib.Core.Path.{_≡_};
+ghost use mathlib.Core.Bool.{true};
+ghost use lib.ListN.{length};
+ghost use Rattle.encode_session.specs.Session.{fedMeaning, closedMeaning};
+ghost use Rattle.replay.specs.Calls.{isThere, hasParts, threeOf};
+ghost use Rattle.replay.specs.Encode.{numbersOf, FeedsPart, Makes, Replays};
 
 // The session after a call, and the call's answer.
 struct Called {
@@ -19,7 +26,9 @@ struct Called {
     answer: Answer,
 }
 
-fn fed_answer(answer: EncodeFeed) -> Answer {
+fn fed_answer(answer: EncodeFeed) -> Answer
+    ensures { λ r. ⌜ numbersOf (fedMeaning answer) ≡ threeOf r ⌝ }
+{
     match answer {
         EncodeFeed::Took { taken, written } => Answer {
             refusal: 0,
@@ -30,7 +39,9 @@ fn fed_answer(answer: EncodeFeed) -> Answer {
     }
 }
 
-fn closed_answer(answer: Checked) -> Answer {
+fn closed_answer(answer: Checked) -> Answer
+    ensures { λ r. ⌜ numbersOf (closedMeaning answer) ≡ threeOf r ⌝ }
+{
     match answer {
         Checked::Accepted => Answer {
             refusal: 0,
@@ -49,7 +60,11 @@ fn feed_part(
     work: &mut [i16],
     out: &mut [u8],
     at: usize,
-) -> EncodeFed {
+) -> EncodeFed
+    requires { ⌜ at ≤ length (now out) ⌝ }
+    requires { ⌜ hasParts part (length (now samples)) (length (now out) - at) (length (now work)) ≡ true ⌝ }
+    ensures { λ r. ⌜ FeedsPart session part (now (samples .entry)) (now (work .entry)) (now (out .entry)) at r (now (work .exit)) (now (out .exit)) ⌝ }
+{
     let start = part.start;
     let end = start + part.size;
     let lent = part.lent;
@@ -68,7 +83,11 @@ fn make_call(
     work: &mut [i16],
     out: &mut [u8],
     at: usize,
-) -> Called {
+) -> Called
+    requires { ⌜ at ≤ length (now out) ⌝ }
+    requires { ⌜ isThere call (length (now samples)) (length (now out) - at) (length (now work)) ≡ true ⌝ }
+    ensures { λ r. ⌜ Makes session call (now (samples .entry)) (now (work .entry)) (now (out .entry)) at r (now (work .exit)) (now (out .exit)) ⌝ }
+{
     match call {
         Named::Close => {
             let closed = session.close();
@@ -99,7 +118,9 @@ pub fn replay_encode(
     work: &mut [i16],
     out: &mut [u8],
     answers: &mut [usize],
-) -> EncodeReplayed {
+) -> EncodeReplayed
+    ensures { λ r. ⌜ Replays session (now (calls .entry)) (now (samples .entry)) (now (work .entry)) (now (out .entry)) (now (answers .entry)) r (now (work .exit)) (now (out .exit)) (now (answers .exit)) ⌝ }
+{
     let mut session = session;
     let mut made: usize = 0;
     let mut at: usize = 0;

@@ -1,0 +1,60 @@
+use borrow.Author.Needs.{needs}
+use Rattle.replay.proofs.call.store.Statement.{statement}
+use Rattle.replay.proofs.call.store.Tie as tie
+use Rattle.replay.proofs.call.store.Reads as reads
+use Rattle.replay.proofs.call.store.Lts as lts
+
+-- src/call.rt:107:5
+mul-answers : tie.Need-mul-answers
+mul-answers c = search needs
+
+-- src/call.rt:107:5
+slice-write-answers : tie.Need-slice-write-answers
+slice-write-answers c = search needs
+
+-- src/call.rt:108:13
+add-answers : tie.Need-add-answers
+add-answers c = search needs
+
+-- src/call.rt:108:5
+mul-answers-2 : tie.Need-mul-answers-2
+mul-answers-2 c = search needs
+
+-- src/call.rt:108:5
+slice-write-answers-2 : tie.Need-slice-write-answers-2
+slice-write-answers-2 c = ?
+
+-- src/call.rt:109:13
+add-answers-2 : tie.Need-add-answers-2
+add-answers-2 c = search needs
+
+-- src/call.rt:109:5
+mul-answers-3 : tie.Need-mul-answers-3
+mul-answers-3 c = search needs
+
+-- src/call.rt:109:5
+slice-write-answers-3 : tie.Need-slice-write-answers-3
+slice-write-answers-3 c = ?
+
+-- src/call.rt:103:1
+same-length : tie.Need-same-length
+same-length c = search needs
+
+-- src/call.rt:103:1
+returns : tie.Need-returns
+returns c = ?
+
+pub store-spec : {M : Type 1} → statement M
+store-spec =
+    tie.close
+    (tie.spec
+    mul-answers
+    slice-write-answers
+    add-answers
+    mul-answers-2
+    slice-write-answers-2
+    add-answers-2
+    mul-answers-3
+    slice-write-answers-3
+    same-length
+    returns)

@@ -1,0 +1,30 @@
+use borrow.Author.Needs.{needs}
+use Rattle.replay.proofs.decode.fed_answer.Statement.{statement}
+use Rattle.replay.proofs.decode.fed_answer.Tie as tie
+use Rattle.replay.proofs.decode.fed_answer.Reads as reads
+use Rattle.replay.proofs.decode.fed_answer.Lts as lts
+use Rattle.replay.proofs.call.refused.Reads as refused-reads
+
+-- src/decode.rt:33:28
+enum-known-answer : tie.Need-enum-known-answer
+enum-known-answer c = search needs
+
+-- src/decode.rt:38:29
+enum-known-answer-2 : tie.Need-enum-known-answer-2
+enum-known-answer-2 c = search needs
+
+-- src/decode.rt:38:35
+refused-requires : tie.Need-refused-requires
+refused-requires c κs = search needs
+
+-- src/decode.rt:29:1
+returns : tie.Need-returns
+returns c = ?
+
+-- src/decode.rt:29:1
+returns-2 : tie.Need-returns-2
+returns-2 c = ?
+
+pub fed-answer-spec : {M : Type 1} → statement M
+fed-answer-spec =
+    tie.close (tie.spec enum-known-answer enum-known-answer-2 refused-requires returns returns-2)

@@ -1,0 +1,81 @@
+use borrow.Author.Needs.{needs}
+use Rattle.replay.proofs.decode.feed_part.Statement.{statement}
+use Rattle.replay.proofs.decode.feed_part.Tie as tie
+use Rattle.replay.proofs.decode.feed_part.Reads as reads
+use Rattle.replay.proofs.decode.feed_part.Lts as lts
+use Rattle.decode_session.proofs.DecodeSession.feed.Reads as feed-reads
+
+-- src/decode.rt:69:15
+add-end : tie.Need-add-end
+add-end c = ?
+
+-- src/decode.rt:71:19
+add-out-end : tie.Need-add-out-end
+add-out-end c = ?
+
+-- src/decode.rt:72:18
+sub-feed : tie.Need-sub-feed
+sub-feed c = search needs
+
+-- src/decode.rt:72:18
+part-feed-start : tie.Need-part-feed-start
+part-feed-start c = search needs
+
+-- src/decode.rt:72:18
+part-feed-end : tie.Need-part-feed-end
+part-feed-end c = ?
+
+-- src/decode.rt:72:37
+sub-feed-2 : tie.Need-sub-feed-2
+sub-feed-2 c = search needs
+
+-- src/decode.rt:72:37
+part-feed-start-2 : tie.Need-part-feed-start-2
+part-feed-start-2 c = search needs
+
+-- src/decode.rt:72:37
+part-feed-end-2 : tie.Need-part-feed-end-2
+part-feed-end-2 c = ?
+
+-- src/decode.rt:72:60
+slice-relend-prefix-feed : tie.Need-slice-relend-prefix-feed
+slice-relend-prefix-feed c = ?
+
+-- src/decode.rt:72:60
+slice-aggregate-feed : tie.Need-slice-aggregate-feed
+slice-aggregate-feed c = ?
+
+-- src/decode.rt:72:5
+feed-requires : tie.Need-feed-requires
+feed-requires c κs = search needs
+
+-- src/decode.rt:56:1
+same-length : tie.Need-same-length
+same-length c = search needs
+
+-- src/decode.rt:56:1
+same-length-2 : tie.Need-same-length-2
+same-length-2 c = search needs
+
+-- src/decode.rt:56:1
+returns : tie.Need-returns
+returns c = ?
+
+pub feed-part-spec : {M : Type 1} → statement M
+feed-part-spec =
+    tie.close
+    (tie.spec
+    add-end
+    add-out-end
+    sub-feed
+    part-feed-start
+    part-feed-end
+    sub-feed-2
+    part-feed-start-2
+    part-feed-end-2
+    slice-relend-prefix-feed
+    slice-aggregate-feed
+    feed-requires
+    same-length
+    same-length-2
+    returns)

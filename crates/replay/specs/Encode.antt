@@ -1,0 +1,84 @@
+-- A run of calls on a making session: what the plain machine replies to the calls that the numbers name.
+use Prim.Native.Nat.{ℕ}
+use mathlib.Core.Path.{_≡_}
+use mathlib.Core.List.{List, [], _∷_, _++_}
+use lib.IntN.{ℤ}
+use lib.ListN.{length, take, drop}
+use Rattle.error.specs.Answer.{Answer, gives, refuses}
+use Rattle.encode_session.specs.Model.{Model, Call, feed, close, Told, took, closed, Reply, outcome, replies, finally}
+use Rattle.encode_session.specs.Session.{Holds, Feeds}
+use Rattle.encode_session.specs.declared.EncodeFed.{EncodeFed}
+use Rattle.encode_session.specs.declared.EncodeSession.{EncodeSession}
+use Rattle.replay.specs.declared.EncodeReplayed.{EncodeReplayed}
+use Rattle.replay.specs.declared.call.Named.{Named}
+use Rattle.replay.specs.declared.call.Named.the-variants.{Close, Feed}
+use Rattle.replay.specs.declared.call.Part.{Part}
+use Rattle.replay.specs.declared.encode.Called.{Called}
+use Rattle.replay.specs.Calls.{named, roomOf, lentOf, joined, over, Spares, threeOf, replaced}
+
+-- the three numbers of an answer
+abbrev pub numbersOf : Answer Told → List ℕ
+numbersOf (gives (took n b)) = 0 ∷ n ∷ b ∷ []
+numbersOf (gives closed) = 0 ∷ 0 ∷ 0 ∷ []
+numbersOf (refuses code place) = code ∷ place ∷ 0 ∷ []
+
+abbrev pub told : Reply → List ℕ
+told r = numbersOf (r .answer)
+
+abbrev pub output : Reply → List ℕ
+output r = r .output
+
+-- a named call, over the samples and the output that is left to lend
+abbrev pub callOf : Named → List ℕ → List ℕ → Call
+callOf Close samples out = close
+callOf (Feed p) samples out = feed (take (p .size) (drop (p .start) samples)) (take (p .room) out) (p .lent)
+
+unfoldable pub callsOf : List Named → List ℕ → List ℕ → List Call
+callsOf [] samples out = []
+callsOf (c ∷ cs) samples out = callOf c samples out ∷ callsOf cs samples (drop (roomOf c) out)
+
+-- ---- the contract
+
+-- what the replies of the machine say, and the session after them
+pub record Shows (m : Model) (cs : List Call) (out answers : List ℕ) (r : EncodeReplayed) (out′ answers′ : List ℕ) (work′ : List ℤ) : Type 0 where
+  pub calls : r .calls ≡ length (replies m cs)
+  pub outputs : out′ ≡ over (joined output (replies m cs)) out
+  pub answered : answers′ ≡ over (joined told (replies m cs)) answers
+  pub holds : Holds (r .session) work′ (finally m cs)
+
+-- a run of the named calls on a session that stands for a model, and on any
+pub record Runs (s : EncodeSession) (cs : List Named) (samples : List ℕ) (work : List ℤ) (out answers : List ℕ) (r : EncodeReplayed)
+    (work′ : List ℤ) (out′ answers′ : List ℕ) : Type 0 where
+  pub does : (m : Model) → Holds s work m → Shows m (callsOf cs samples out) out answers r out′ answers′ work′
+  pub spares : Spares cs (r .calls) out answers work out′ answers′ work′
+
+abbrev pub Replays : EncodeSession → List ℕ → List ℕ → List ℤ → List ℕ → List ℕ → EncodeReplayed → List ℤ → List ℕ → List ℕ → Type 0
+Replays s numbers samples work out answers r work′ out′ answers′ =
+    Runs s (named numbers (length samples) (length out) (length work) (length answers)) samples work out answers r work′ out′ answers′
+
+-- ---- one call
+
+-- a feeding call that is lent the front of the work and a part of the output
+pub record FeedsPart (s : EncodeSession) (p : Part) (samples : List ℕ) (work : List ℤ) (out : List ℕ) (at : ℕ) (r : EncodeFed)
+    (work′ : List ℤ) (out′ : List ℕ) : Type 0 where
+  pub front : List ℤ
+  pub part : List ℕ
+  pub does : Feeds s (take (p .size) (drop (p .start) samples)) (take (p .room) (drop at out)) (take (p .lent) work) r part front
+  pub partLong : length part ≡ p .room
+  pub frontLong : length front ≡ p .lent
+  pub workIs : work′ ≡ front ++ drop (p .lent) work
+  pub outIs : out′ ≡ replaced out at part
+
+-- what the model says of a call: its numbers, its output, and the model after it
+pub record Calls (m : Model) (call : Call) (r : Called) (part : List ℕ) (work′ : List ℤ) : Type 0 where
+  pub answer : numbersOf (outcome m call .reply .answer) ≡ threeOf (r .answer)
+  pub output : outcome m call .reply .output ≡ part
+  pub holds : Holds (r .session) work′ (outcome m call .next)
+
+pub record Makes (s : EncodeSession) (c : Named) (samples : List ℕ) (work : List ℤ) (out : List ℕ) (at : ℕ) (r : Called)
+    (work′ : List ℤ) (out′ : List ℕ) : Type 0 where
+  pub part : List ℕ
+  pub does : (m : Model) → Holds s work m → Calls m (callOf c samples (drop at out)) r part work′
+  pub long : length part ≡ roomOf c
+  pub outIs : out′ ≡ replaced out at part
+  pub beyond : drop (lentOf c) work′ ≡ drop (lentOf c) work
