@@ -67,7 +67,7 @@ fn stages_of(input: &[u8]) -> usize {
 }
 
 // Replays a list, its outputs one behind the other in `out`.
-pub fn making(list: &[u8], start: usize, input: &[u8], out: &mut [u8]) -> Progress {
+pub fn run_list(list: &[u8], start: usize, input: &[u8], out: &mut [u8]) -> Progress {
     let mut numbers = [work::DIRT; WORK];
     let opened = opened(list, start, input, &mut numbers, out);
     stages(list, input, &mut numbers, out, opened)
@@ -95,14 +95,18 @@ fn opened(list: &[u8], start: usize, input: &[u8], work: &mut [i16], out: &mut [
     }
 }
 
+fn options_of(input: &[u8], ext: usize) -> EncodeOptions {
+    EncodeOptions::new()
+        .with_quantize(rule_of(byte(input, 1), byte_at(input, 10)))
+        .with_ext_fields(presence_of(ext))
+        .with_strict(byte(input, 0) == 1)
+}
+
 fn open(input: &[u8], space: &mut [usize], work: &mut [i16], out: &mut [u8]) -> EncodeOpened {
     let fields = fields_of(input);
     let rest = behind(fields, 3);
     let n = put_lengths(front(rest, short(fields, 1)), space);
-    let options = EncodeOptions::new()
-        .with_quantize(rule_of(byte(input, 1), byte_at(input, 10)))
-        .with_ext_fields(presence_of(byte(fields, 0)))
-        .with_strict(byte(input, 0) == 1);
+    let options = options_of(input, byte(fields, 0));
     open_with(
         input,
         options,
@@ -168,29 +172,50 @@ fn from_stages(opened: Making, next: usize) -> Making {
 }
 
 fn stage(list: &[u8], input: &[u8], work: &mut [i16], out: &mut [u8], before: Making) -> Making {
-    let mut numbers = [0usize; NUMBERS];
-    let mut answers = [0usize; ANSWERS];
     let progress = before.progress;
     let letter = byte(input, progress.at);
     work::refill(work, letter % 8);
+    kept_stage(list, input, letter, work, out, before)
+}
+
+// A stage that leaves alone what it may not alter of the work buffer.
+fn kept_stage(
+    list: &[u8],
+    input: &[u8],
+    letter: usize,
+    work: &mut [i16],
+    out: &mut [u8],
+    before: Making,
+) -> Making {
     let mut kept = [0i16; WORK];
     work::keep(work, &mut kept);
-    let n = put_calls(input, progress.at, &mut numbers);
-    let session = before.session;
-    let next = run(
-        session,
-        input,
-        progress,
-        lengths(&numbers, n),
-        work,
-        out,
-        &mut answers,
-    );
-    let left = stage_as(list, input, progress, &answers, out);
+    let after = run_stage(list, input, work, out, before);
     let alone = work::unaltered_from(work, &kept, used(input, letter));
+    let session = after.session;
+    let progress = after.progress;
+    Making {
+        session,
+        progress: progress.only_if(alone),
+    }
+}
+
+fn run_stage(
+    list: &[u8],
+    input: &[u8],
+    work: &mut [i16],
+    out: &mut [u8],
+    before: Making,
+) -> Making {
+    let mut numbers = [0usize; NUMBERS];
+    let mut answers = [0usize; ANSWERS];
+    let progress = before.progress;
+    let session = before.session;
+    let n = put_calls(input, progress.at, &mut numbers);
+    let calls = lengths(&numbers, n);
+    let next = run(session, input, progress, calls, work, out, &mut answers);
     Making {
         session: next,
-        progress: progress.behind_stage(input, only_if(alone, left)),
+        progress: progress.behind_stage(input, stage_as(list, input, progress, &answers, out)),
     }
 }
 

@@ -51,7 +51,7 @@ pub fn mark_of(input: &[u8]) -> u8 {
 }
 
 // Replays a list over a file, its outputs one behind the other in `out`.
-pub fn list_over(list: &[u8], start: usize, input: &[u8], file: &[u8], out: &mut [u8]) -> Progress {
+pub fn run_list(list: &[u8], start: usize, input: &[u8], file: &[u8], out: &mut [u8]) -> Progress {
     let mut buffer = [mark_of(input); BUFFER];
     let opened = opened(list, start, input, &buffer);
     stages(list, input, file, &mut buffer, out, opened)

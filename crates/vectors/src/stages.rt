@@ -34,6 +34,12 @@ pub struct Progress {
 }
 
 impl Progress {
+    // Right only if `also`.
+    pub fn only_if(mut self, also: bool) -> Progress {
+        self.same = both(self.same, also);
+        self
+    }
+
     // Behind a stage: the calls are counted as comparisons.
     pub fn behind_stage(self, input: &[u8], right: Match) -> Progress {
         let calls = calls_at(input, self.at);

@@ -15,6 +15,7 @@ mod random_lists;
 mod scan_cases;
 mod settings_cases;
 mod stated_cases;
+mod stated_lists;
 mod writer_cases;
 
 use cases::Group;
@@ -63,6 +64,7 @@ fn fixed() -> Vec<Group> {
         api_cases::groups(),
         encoder_cases::groups(),
         stated_cases::groups(),
+        stated_lists::groups(),
     ]
     .concat()
 }

@@ -177,7 +177,11 @@ fn finish_making(random: &mut Random, case: &mut MakingCase) {
     let enough = work_enough(&case.opening);
     while case.at < case.samples.len() && case.stages.out() < OUTPUT {
         let before = case.at;
-        case.feed(1 + random.below(400) as usize, 1 + random.below(60) as usize, enough);
+        case.feed(
+            1 + random.below(400) as usize,
+            1 + random.below(60) as usize,
+            enough,
+        );
         if case.at == before {
             break;
         }
@@ -433,7 +437,9 @@ fn read_stretch(random: &mut Random, case: &mut ReadingCase, start: usize, len: 
     while at < end {
         let piece = 1 + random.below((end - at) as u64) as usize;
         let mut trial = case.session.clone();
-        let [_, _, most] = trial.feed(&case.file[at..at + piece], piece, EXTENSION).answer;
+        let [_, _, most] = trial
+            .feed(&case.file[at..at + piece], piece, EXTENSION)
+            .answer;
         let room = match random.below(3) {
             0 => random.below(most + 1),
             _ => most,
