@@ -2,6 +2,7 @@
 
 mod api_cases;
 mod cases;
+mod cut_lists;
 mod encoder_cases;
 mod ext_cases;
 mod file_cases;
@@ -35,7 +36,7 @@ fn main() {
             [list, counts],
         ),
         [_, list, counts, seed, lists, cards] => (
-            random_lists::groups(number(seed), number(lists) as usize, number(cards) as usize),
+            sessions(number(seed), number(lists) as usize, number(cards) as usize),
             [list, counts],
         ),
         _ => panic!("usage: generate LIST COUNTS [SEED CASES] or LIST COUNTS SEED LISTS CARDS"),
@@ -64,9 +65,20 @@ fn fixed() -> Vec<Group> {
         api_cases::groups(),
         encoder_cases::groups(),
         stated_cases::groups(),
+        cut_lists::groups(false),
+        random_lists::groups(1, 250, 50),
         stated_lists::groups(),
     ]
     .concat()
+}
+
+/// Random lists of calls on sessions and random cards; without them every cut of short files and
+/// scans.
+fn sessions(seed: u64, lists: usize, cards: usize) -> Vec<Group> {
+    match lists + cards {
+        0 => cut_lists::groups(true),
+        _ => random_lists::groups(seed, lists, cards),
+    }
 }
 
 /// A line for each group, its name and its number of comparisons, and one for all.
