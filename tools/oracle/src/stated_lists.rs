@@ -100,6 +100,8 @@ struct Made {
     answer: Vec<u64>,
     header: Vec<u8>,
     list: Typed,
+    /// The stages whose dots are open.
+    open_dots: Vec<usize>,
 }
 
 /// The kind of rule and its number.
@@ -124,6 +126,7 @@ fn make(size: [u32; 2], rule: Rule, lent: [usize; 2], answer: &[u64], header: &[
         answer: answer.to_vec(),
         header: header.to_vec(),
         list: Typed::new(0),
+        open_dots: Vec::new(),
     }
 }
 
@@ -155,6 +158,15 @@ impl Made {
         self
     }
 
+    /// A call before which somebody else writes the work buffer: its dots are not compared.
+    fn foreign(mut self, piece: &[u8], lent: [usize; 2], answer: [u64; 3], letter: u8) -> Made {
+        let written = vec![MARK; answer[2] as usize];
+        self.list.feed(piece, lent, answer, &written);
+        self.list.stages.0.last_mut().expect("a stage").letter = 8 + letter;
+        self.open_dots.push(self.list.left.len() - 1);
+        self
+    }
+
     fn close(mut self, number: u64) -> Made {
         self.list.close([number, 0, 0]);
         self
@@ -165,9 +177,14 @@ impl Made {
         let input = making_input(&self.opening, MARK, self.lent, &self.list.text, stages);
         let mut output = self.header;
         output.resize(self.lent[1], MARK);
+        let mut stages = self.list.left;
+        let machine = oracle::encode_lists::list(&input).stages;
+        for k in self.open_dots {
+            stages[k].out.clone_from(&machine[k].out);
+        }
         let answer = Answer {
             output,
-            stages: self.list.left,
+            stages,
             ..Answer::of(&self.answer)
         };
         (input, answer)
@@ -185,6 +202,7 @@ fn opened() -> Vec<Stated> {
     let fields = |fields: &[u8], strict, number| {
         refused([1, 1], THRESHOLD, [0, 99], number).fields(strict, fields)
     };
+    let overlong = [&[0, 0x80][..], &[0x85; 4096], &[0x05, 1, 1]].concat();
     vec![
         // Width 0, height 0, and 8 before 29 and 28.
         shut(refused([0, 1], THRESHOLD, [0, 9], 8)),
@@ -213,6 +231,10 @@ fn opened() -> Vec<Stated> {
         make([9, 2], THRESHOLD, [0, 4], &[0, 4], b"\x00\x00\x09\x02").stated(),
         make([9, 2], (2, 8), [0, 4], &[0, 4], b"\x00\x00\x09\x02").stated(),
         make([9, 2], DITHER, [18, 9], &[0, 4], b"\x00\x00\x09\x02").stated(),
+        // An overlong field is written.
+        make([1, 1], THRESHOLD, [0, 4101], &[0, 4101], &overlong)
+            .fields(false, &[&[0, 0, 0][..], &[0x05; 4097]].concat())
+            .stated(),
         // Fields of each kind stand behind the FixHeader.
         make(
             [1, 1],
@@ -399,6 +421,14 @@ fn refused_makings() -> Vec<Stated> {
             .refuses(&[128], [1, 0], 30)
             .refuses(&[128], [1, 9], 30)
             .close(30)
+            .stated(),
+        // Somebody else's numbers: the counts stay, and the next frame's dots are right.
+        open([3, 2], DITHER, b"\x00\x00\x03\x02")
+            .feed(&[0, 255], [0, 6], [0, 2, 0], b"")
+            .foreign(&[255, 0], [1, 6], [0, 2, 1], 1)
+            .foreign(&[255, 0, 255, 0], [1, 6], [0, 4, 1], 2)
+            .feed(&[255, 0, 0, 0], [9, 6], [0, 4, 2], b"\xA0\x00")
+            .close(0)
             .stated(),
         // Other rules accept every work buffer.
         open([1, 1], (2, 4), b"\x00\x00\x01\x01")
