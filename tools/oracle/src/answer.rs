@@ -37,12 +37,16 @@ impl Answer {
         Answer::of(&[number_of(error).into(), place as u64])
     }
 
-    /// How many calls a list has, the opening included; the dots of a card are none.
+    /// How many calls a list has, the opening included; a card has two, and its dots are none.
     pub fn calls(&self) -> usize {
-        let opening = usize::from(self.then.is_some() || !self.stages.is_empty());
-        let later = self.then.as_ref().map_or(0, |then| then.calls());
         let fed: usize = self.stages.iter().map(|left| left.answers.len()).sum();
-        opening + fed + later
+        let list = |then: &&Box<Answer>| then.then.is_some();
+        1 + fed
+            + self
+                .then
+                .as_ref()
+                .filter(list)
+                .map_or(0, |then| then.calls())
     }
 
     /// What a writer does: the bytes written, or a refusal, whose place is 0.

@@ -116,6 +116,10 @@ impl Reading {
         }
     }
 
+    pub fn is_open(&self) -> bool {
+        self.open
+    }
+
     pub fn close(&mut self) -> Numbers {
         if !self.open {
             return [30, 0, 0];

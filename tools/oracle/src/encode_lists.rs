@@ -187,6 +187,10 @@ impl Making {
         after as u128 <= FRAMES * self.opening.scan() && finished <= out as u128
     }
 
+    pub fn is_open(&self) -> bool {
+        self.open
+    }
+
     pub fn close(&mut self) -> Numbers {
         if !self.open {
             return [30, 0, 0];

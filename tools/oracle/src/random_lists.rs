@@ -127,6 +127,10 @@ fn making(random: &mut Random) -> Vec<u8> {
     let calls = 2 + random.below(24);
     for _ in 0..calls {
         making_call(random, &mut case);
+        let over = !case.session.is_open() || case.at == case.samples.len();
+        if over && random.once_in(3) {
+            break;
+        }
     }
     if random.below(3) != 0 {
         finish_making(random, &mut case);
@@ -324,6 +328,10 @@ fn reading(random: &mut Random) -> Vec<u8> {
     let calls = 2 + random.below(24);
     for _ in 0..calls {
         reading_call(random, &mut case);
+        let over = !case.session.is_open() || case.at == case.file.len();
+        if over && random.once_in(3) {
+            break;
+        }
     }
     if random.below(3) != 0 {
         finish_reading(random, &mut case);
