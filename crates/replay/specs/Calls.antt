@@ -38,7 +38,7 @@ isThere (Feed p) samples room work = hasParts p samples room work
 unfoldable pub named : List ℕ → ℕ → ℕ → ℕ → ℕ → List Named
 named (what ∷ start ∷ size ∷ room ∷ lent ∷ rest) samples out work answers =
     let c = nameOf what start size room lent in
-    elim (leb 3 answers && isThere c samples out work) [ true ↦ c ∷ named rest samples (out - roomOf c) work (answers - 3) | false ↦ [] ]
+    if (leb 3 answers && isThere c samples out work) (c ∷ named rest samples (out - roomOf c) work (answers - 3)) []
 named [] samples out work answers = []
 named (_ ∷ []) samples out work answers = []
 named (_ ∷ _ ∷ []) samples out work answers = []
@@ -78,16 +78,24 @@ pub record Fits (p : Part) (samples room work : ℕ) : Type 0 where
   pub output : p .room ≤ room
   pub buffer : p .lent ≤ work
 
+pub record Tests (p : Part) (samples room work : ℕ) (r : Bool) : Type 0 where
+  pub is : r ≡ hasParts p samples room work
+  pub fits : r ≡ true → Fits p samples room work
+
+abbrev pub There : Named → ℕ → ℕ → ℕ → Type 0
+There Close samples room work = Unit {0}
+There (Feed p) samples room work = Fits p samples room work
+
 -- the run goes on with a call, and then with the numbers behind its five
 pub record Goes (numbers : List ℕ) (samples room work answers : ℕ) (c : Named) : Type 0 where
   pub is : named numbers samples room work answers ≡ c ∷ named (drop 5 numbers) samples (room - roomOf c) work (answers - 3)
   pub long : 5 ≤ length numbers
   pub told : 3 ≤ answers
-  pub there : isThere c samples room work ≡ true
+  pub there : There c samples room work
 
-abbrev pub Nexts : List ℕ → ℕ → ℕ → ℕ → ℕ → Next → Type 0
-Nexts numbers samples room work answers Next.End = named numbers samples room work answers ≡ []
-Nexts numbers samples room work answers (Next.Call c) = Goes numbers samples room work answers c
+pub record Nexts (numbers : List ℕ) (samples room work answers : ℕ) (r : Next) : Type 0 where
+  pub ends : r ≡ Next.End → named numbers samples room work answers ≡ []
+  pub goes : (c : Named) → r ≡ Next.Call c → Goes numbers samples room work answers c
 
 abbrev pub threeOf : Answer → List ℕ
 threeOf a = a .refusal ∷ a .taken ∷ a .written ∷ []

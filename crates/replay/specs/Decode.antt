@@ -69,6 +69,7 @@ pub record FeedsPart (s : DecodeSession) (p : Part) (file out ext : List ℕ) (a
   pub part : List ℕ
   pub front : List ℕ
   pub does : Feeds s (take (p .size) (drop (p .start) file)) (take (p .room) (drop at out)) (take (p .lent) ext) r part front
+  pub lentLong : length (take (p .lent) ext) ≡ p .lent
   pub partLong : length part ≡ p .room
   pub frontLong : length front ≡ p .lent
   pub outIs : out′ ≡ replaced out at part

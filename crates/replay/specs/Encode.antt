@@ -64,6 +64,7 @@ pub record FeedsPart (s : EncodeSession) (p : Part) (samples : List ℕ) (work :
   pub front : List ℤ
   pub part : List ℕ
   pub does : Feeds s (take (p .size) (drop (p .start) samples)) (take (p .room) (drop at out)) (take (p .lent) work) r part front
+  pub lentLong : length (take (p .lent) work) ≡ p .lent
   pub partLong : length part ≡ p .room
   pub frontLong : length front ≡ p .lent
   pub workIs : work′ ≡ front ++ drop (p .lent) work

@@ -2,9 +2,8 @@
 use error::WbmpError;
 ghost use Prim.Native.Nat.{_+_, _≤_};
 ghost use mathlib.Core.Path.{_≡_};
-ghost use mathlib.Core.List.{[], _∷_};
 ghost use lib.ListN.{length};
-ghost use Rattle.replay.specs.Calls.{hasParts, Nexts, roomOf, threeOf, replaced};
+ghost use Rattle.replay.specs.Calls.{Tests, Nexts, roomOf, threeOf, replaced};
 
 // What a feeding call is lent: the piece, so many bytes of output, and so many numbers of work.
 pub(crate) struct Part {
@@ -27,7 +26,7 @@ pub(crate) enum Next {
 
 // Whether so many samples, bytes of output and numbers of work have the parts.
 fn is_there(part: Part, samples: usize, room: usize, work: usize) -> bool
-    ensures { λ r. ⌜ r ≡ hasParts part samples room work ⌝ }
+    ensures { λ r. ⌜ Tests part samples room work r ⌝ }
 {
     if samples < part.start {
         return false;

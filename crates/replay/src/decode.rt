@@ -14,10 +14,9 @@ use decode_session::DecodeFeed;
 use decode_session::DecodeSession;
 ghost use Prim.Native.Nat.{_-_, _≤_};
 ghost use mathlib.Core.Path.{_≡_};
-ghost use mathlib.Core.Bool.{true};
 ghost use lib.ListN.{length};
 ghost use Rattle.decode_session.specs.Session.{fedMeaning, closedMeaning};
-ghost use Rattle.replay.specs.Calls.{isThere, hasParts, threeOf};
+ghost use Rattle.replay.specs.Calls.{Fits, There, threeOf};
 ghost use Rattle.replay.specs.Decode.{numbersOf, FeedsPart, Makes, Replays};
 
 // The session after a call, and the call's answer.
@@ -62,7 +61,7 @@ fn feed_part(
     at: usize,
 ) -> DecodeFed
     requires { ⌜ at ≤ length (now out) ⌝ }
-    requires { ⌜ hasParts part (length (now file)) (length (now out) - at) (length (now ext)) ≡ true ⌝ }
+    requires { ⌜ Fits part (length (now file)) (length (now out) - at) (length (now ext)) ⌝ }
     ensures { λ r. ⌜ FeedsPart session part (now (file .entry)) (now (out .entry)) (now (ext .entry)) at r (now (out .exit)) (now (ext .exit)) ⌝ }
 {
     let start = part.start;
@@ -81,7 +80,7 @@ fn make_call(
     at: usize,
 ) -> Called
     requires { ⌜ at ≤ length (now out) ⌝ }
-    requires { ⌜ isThere call (length (now file)) (length (now out) - at) (length (now ext)) ≡ true ⌝ }
+    requires { ⌜ There call (length (now file)) (length (now out) - at) (length (now ext)) ⌝ }
     ensures { λ r. ⌜ Makes session call (now (file .entry)) (now (out .entry)) (now (ext .entry)) at r (now (out .exit)) (now (ext .exit)) ⌝ }
 {
     match call {

@@ -14,10 +14,9 @@ use encode_session::EncodeSession;
 use error::Checked;
 ghost use Prim.Native.Nat.{_-_, _≤_};
 ghost use mathlib.Core.Path.{_≡_};
-ghost use mathlib.Core.Bool.{true};
 ghost use lib.ListN.{length};
 ghost use Rattle.encode_session.specs.Session.{fedMeaning, closedMeaning};
-ghost use Rattle.replay.specs.Calls.{isThere, hasParts, threeOf};
+ghost use Rattle.replay.specs.Calls.{Fits, There, threeOf};
 ghost use Rattle.replay.specs.Encode.{numbersOf, FeedsPart, Makes, Replays};
 
 // The session after a call, and the call's answer.
@@ -62,7 +61,7 @@ fn feed_part(
     at: usize,
 ) -> EncodeFed
     requires { ⌜ at ≤ length (now out) ⌝ }
-    requires { ⌜ hasParts part (length (now samples)) (length (now out) - at) (length (now work)) ≡ true ⌝ }
+    requires { ⌜ Fits part (length (now samples)) (length (now out) - at) (length (now work)) ⌝ }
     ensures { λ r. ⌜ FeedsPart session part (now (samples .entry)) (now (work .entry)) (now (out .entry)) at r (now (work .exit)) (now (out .exit)) ⌝ }
 {
     let start = part.start;
@@ -85,7 +84,7 @@ fn make_call(
     at: usize,
 ) -> Called
     requires { ⌜ at ≤ length (now out) ⌝ }
-    requires { ⌜ isThere call (length (now samples)) (length (now out) - at) (length (now work)) ≡ true ⌝ }
+    requires { ⌜ There call (length (now samples)) (length (now out) - at) (length (now work)) ⌝ }
     ensures { λ r. ⌜ Makes session call (now (samples .entry)) (now (work .entry)) (now (out .entry)) at r (now (work .exit)) (now (out .exit)) ⌝ }
 {
     match call {

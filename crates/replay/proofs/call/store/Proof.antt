@@ -1,4 +1,7 @@
+use Rattle.replay.proofs.Parts.{stored}
+use native.Mathlib.Omega.{arith}
 use borrow.Author.Needs.{needs}
+use lib.ListN.{length-set}
 use Rattle.replay.proofs.call.store.Statement.{statement}
 use Rattle.replay.proofs.call.store.Tie as tie
 use Rattle.replay.proofs.call.store.Reads as reads
@@ -22,7 +25,7 @@ mul-answers-2 c = search needs
 
 -- src/call.rt:108:5
 slice-write-answers-2 : tie.Need-slice-write-answers-2
-slice-write-answers-2 c = ?
+slice-write-answers-2 c = simp length-set (omega arith)
 
 -- src/call.rt:109:13
 add-answers-2 : tie.Need-add-answers-2
@@ -34,7 +37,7 @@ mul-answers-3 c = search needs
 
 -- src/call.rt:109:5
 slice-write-answers-3 : tie.Need-slice-write-answers-3
-slice-write-answers-3 c = ?
+slice-write-answers-3 c = simp length-set (omega arith)
 
 -- src/call.rt:103:1
 same-length : tie.Need-same-length
@@ -42,7 +45,7 @@ same-length c = search needs
 
 -- src/call.rt:103:1
 returns : tie.Need-returns
-returns c = ?
+returns c = stored _ _ _ _ _ (c .pre)
 
 pub store-spec : {M : Type 1} → statement M
 store-spec =

@@ -1,3 +1,8 @@
+use mathlib.Core.Path.{sym, ap, _∙_}
+use Rattle.decode_session.specs.declared.DecodeClose.{DecodeClose}
+use Rattle.decode_session.specs.Session.{closedMeaning}
+use Rattle.replay.specs.Calls.{threeOf}
+use Rattle.replay.specs.Decode.{numbersOf}
 use borrow.Author.Needs.{needs}
 use Rattle.replay.proofs.decode.closed_answer.Statement.{statement}
 use Rattle.replay.proofs.decode.closed_answer.Tie as tie
@@ -23,11 +28,11 @@ refused-requires c κs = search needs
 
 -- src/decode.rt:42:1
 returns : tie.Need-returns
-returns c = ?
+returns c = ap (λ (a : DecodeClose). numbersOf (closedMeaning a)) (c .before .answer .given .1)
 
 -- src/decode.rt:42:1
 returns-2 : tie.Need-returns-2
-returns-2 c = ?
+returns-2 c = ap (λ (a : DecodeClose). numbersOf (closedMeaning a)) (c .before .before .answer2 .given .1) ∙ ap threeOf (sym (c .refused .ensures))
 
 pub closed-answer-spec : {M : Type 1} → statement M
 closed-answer-spec =

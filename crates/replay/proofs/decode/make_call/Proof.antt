@@ -1,3 +1,9 @@
+use Prim.Native.Nat.{_-_}
+use mathlib.Core.Path.{subst}
+use lib.ListN.{length}
+use Rattle.replay.specs.declared.call.Named.{Named}
+use Rattle.replay.specs.Calls.{There}
+use Rattle.replay.proofs.Decoding.{closed-makes, fed-makes}
 use borrow.Author.Needs.{needs}
 use Rattle.replay.proofs.decode.make_call.Statement.{statement}
 use Rattle.replay.proofs.decode.make_call.Tie as tie
@@ -26,7 +32,10 @@ enum-known-call c = search needs
 
 -- src/decode.rt:98:17
 feed-part-requires : tie.Need-feed-part-requires
-feed-part-requires c κs = ?
+feed-part-requires c κs =
+    let s = c .before .before .before .before .before .before .before .before in
+    let g = s .args in
+    (s .pre .0, subst (λ (n : Named). There n (length (g .file .now)) (length (g .out .now) - g .at) (length (g .ext .now))) (c .before .before .before .call .given .1) (s .pre .1))
 
 -- src/decode.rt:103:25
 fed-answer-requires : tie.Need-fed-answer-requires
@@ -34,7 +43,8 @@ fed-answer-requires c κs = search needs
 
 -- src/decode.rt:75:1
 returns : tie.Need-returns
-returns c = ?
+returns c =
+    closed-makes _ _ _ _ _ _ _ (c .before .before .before .enum-told .given .1) _ (c .before .before .close .ensures) (c .closed-answer .ensures)
 
 -- src/decode.rt:75:1
 same-length : tie.Need-same-length
@@ -46,7 +56,8 @@ same-length-2 c = search needs
 
 -- src/decode.rt:75:1
 returns-2 : tie.Need-returns-2
-returns-2 c = ?
+returns-2 c =
+    fed-makes _ _ _ _ _ _ _ _ (c .before .before .before .before .before .before .before .before .before .before .call .given .1) _ _ _ (c .before .before .before .before .before .before .feed-part .ensures) (c .fed-answer .ensures)
 
 pub make-call-spec : {M : Type 1} → statement M
 make-call-spec =

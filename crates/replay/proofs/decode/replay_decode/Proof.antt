@@ -1,3 +1,10 @@
+use Prim.Native.Nat.{_-_}
+use native.Mathlib.Omega.{arith}
+use borrow.Author.Needs.{needs}
+use lib.ListN.{length, drop}
+use Rattle.replay.specs.Calls.{Goes}
+use Rattle.replay.proofs.Running.{Steps, ends-here, goes-here, steps}
+use Rattle.replay.proofs.Decoding.{Sofar, starts, stops, onward}
 use Rattle.replay.proofs.decode.replay_decode.Statement.{statement}
 use Rattle.replay.proofs.decode.replay_decode.Tie as tie
 use Rattle.replay.proofs.decode.replay_decode.Reads as reads
@@ -9,103 +16,115 @@ use Rattle.replay.proofs.decode.make_call.Reads as make-call-reads
 
 abbrev Inv-loop : tie.InvT-loop
 Inv-loop calls file out₀ ext₀ answers₀ session₀ made₀ at₀ lent₀ told₀ out ext answers session made at lent told =
-    ?
+    Sofar session₀ calls file out₀ ext₀ answers₀ session out ext answers made at lent told
 
 abbrev μ-loop : tie.MeasureT-loop
-μ-loop calls file out₀ ext₀ answers₀ session₀ made₀ at₀ lent₀ told₀ out ext answers session made at lent told =
-    ?
+μ-loop calls file out₀ ext₀ answers₀ session₀ made₀ at₀ lent₀ told₀ out ext answers session made at lent told = length calls - at
 
--- src/decode.rt:125:5
+-- the next call, and where it starts and ends
+module _ (n : tie.After-next Inv-loop μ-loop) where
+  goes : let l = n .before .before .before .before in
+      let g = l .before .before .before .before .before .before .args in
+      Goes (drop (l .loop .at) (g .calls .now)) (length (g .file .now)) (length (l .loop .out) - l .loop .lent) (length (l .loop .ext))
+      (length (l .loop .answers) - l .loop .told) (n .next .given .0 .0)
+  goes =
+      let l = n .before .before .before .before in
+      goes-here (l .before .before .before .before .before .before .args .calls .now) (l .loop .at) _ _ _ _ _ (n .before .before .next-call .ensures) _ (n .next .given .1)
+
+  step : let l = n .before .before .before .before in
+      let g = l .before .before .before .before .before .before .args in
+      Steps (g .calls .now) (length (g .file .now)) (l .loop .out) (l .loop .answers) (length (l .loop .ext)) (l .loop .made) (l .loop .at) (l .loop .lent)
+      (l .loop .told) (n .next .given .0 .0)
+  step = steps _ _ _ _ _ _ _ _ _ _ _ _ (n .before .before .before .before .loop .inv .place) _ goes
+
 loop-holds : tie.Need-loop-holds Inv-loop μ-loop
-loop-holds c = ?
+loop-holds c = starts _ _ _ _ _ _
 
--- src/decode.rt:127:13
 mul-next-call : tie.Need-mul-next-call Inv-loop μ-loop
-mul-next-call c = ?
+mul-next-call c = search needs
 
--- src/decode.rt:127:13
 sub-next-call : tie.Need-sub-next-call Inv-loop μ-loop
-sub-next-call c = ?
+sub-next-call c = search needs
 
--- src/decode.rt:127:13
 part-next-call-start : tie.Need-part-next-call-start Inv-loop μ-loop
-part-next-call-start c = ?
+part-next-call-start c = search needs
 
--- src/decode.rt:127:13
 part-next-call-end : tie.Need-part-next-call-end Inv-loop μ-loop
-part-next-call-end c = ?
+part-next-call-end c = search needs
 
--- src/decode.rt:129:13
 sub-next-call-2 : tie.Need-sub-next-call-2 Inv-loop μ-loop
-sub-next-call-2 c = ?
+sub-next-call-2 c = search needs
 
--- src/decode.rt:131:13
 sub-next-call-3 : tie.Need-sub-next-call-3 Inv-loop μ-loop
-sub-next-call-3 c = ?
+sub-next-call-3 c = search needs
 
--- src/decode.rt:126:13
 next-call-requires : tie.Need-next-call-requires Inv-loop μ-loop
-next-call-requires c κs = ?
+next-call-requires c κs = search needs
 
--- src/decode.rt:133:24
 enum-known-next : tie.Need-enum-known-next Inv-loop μ-loop
-enum-known-next c = ?
+enum-known-next c = search needs
 
--- src/decode.rt:134:13
 enum-told : tie.Need-enum-told Inv-loop μ-loop
-enum-told c = ?
+enum-told c = search needs
 
--- src/decode.rt:134:13
 same-length : tie.Need-same-length Inv-loop μ-loop
-same-length c = ?
+same-length c = search needs
 
--- src/decode.rt:134:13
 same-length-2 : tie.Need-same-length-2 Inv-loop μ-loop
-same-length-2 c = ?
+same-length-2 c = search needs
 
--- src/decode.rt:134:13
 same-length-3 : tie.Need-same-length-3 Inv-loop μ-loop
-same-length-3 c = ?
+same-length-3 c = search needs
 
--- src/decode.rt:134:13
 returns : tie.Need-returns Inv-loop μ-loop
-returns c = ?
+returns c =
+    let q = c .before .before in
+    let l = q .before .before in
+    stops _ _ _ _ _ _ _ _ _ _ _ _ _ _ (l .loop .inv) (ends-here (l .before .before .before .before .before .before .args .calls .now) (l .loop .at) _ _ _ _ _ (q .next-call .ensures) (c .enum-told .given .1))
 
--- src/decode.rt:139:13
 make-call-requires : tie.Need-make-call-requires Inv-loop μ-loop
-make-call-requires c κs = ?
+make-call-requires c κs =
+    let t = step (c .before .before .before) in
+    (t .lentIn, t .there)
 
--- src/decode.rt:141:9
 store-requires : tie.Need-store-requires Inv-loop μ-loop
-store-requires c κs = ?
+store-requires c κs = step (c .before .before .before .before .before .before .before .before .before .before) .toldNext
 
--- src/decode.rt:143:9
 add-made : tie.Need-add-made Inv-loop μ-loop
-add-made c = ?
+add-made c =
+    let n = c .before .before .before .before .before .before .before .before .before .before .before .before .before .before in
+    let l = n .before .before .before .before in
+    omega (arith, step n .madeNext, l .loop .inv .place .answersLong, l .before .before .before .before .before .before .good)
 
--- src/decode.rt:144:9
 add-at : tie.Need-add-at Inv-loop μ-loop
-add-at c = ?
+add-at c =
+    let n = c .before .before .before .before .before .before .before .before .before .before .before .before .before .before in
+    omega (arith, step n .atNext, n .before .before .before .before .before .before .before .before .before .before .good)
 
--- src/decode.rt:145:17
 room-of-requires : tie.Need-room-of-requires Inv-loop μ-loop
-room-of-requires c κs = ?
+room-of-requires c κs = search needs
 
--- src/decode.rt:145:9
 add-lent : tie.Need-add-lent Inv-loop μ-loop
-add-lent c = ?
+add-lent c =
+    let n = c .before .before .before .before .before .before .before .before .before .before .before .before .before .before .before in
+    let l = n .before .before .before .before in
+    omega (arith, step n .lentNext, l .loop .inv .place .outLong, l .before .before .before .before .before .before .good, c .room-of .ensures)
 
--- src/decode.rt:146:9
 add-told : tie.Need-add-told Inv-loop μ-loop
-add-told c = ?
+add-told c =
+    let n = c .before .before .before .before .before .before .before .before .before .before .before .before .before .before .before in
+    let l = n .before .before .before .before in
+    omega (arith, step n .toldNext, l .loop .inv .place .answersLong, l .before .before .before .before .before .before .good)
 
--- src/decode.rt:125:5
 loop-less : tie.Need-loop-less Inv-loop μ-loop
-loop-less c = ?
+loop-less c = omega (arith, step (c .before .before .before .before .before .before .before .before .before .before .before .before .before .before .before) .atNext)
 
--- src/decode.rt:125:5
 loop-again : tie.Need-loop-again Inv-loop μ-loop
-loop-again c = ?
+loop-again c =
+    let n = c .before .before .before .before .before .before .before .before .before .before .before .before .before .before .before in
+    let m = c .before .before .before .before .before .before .before .before .before .before .before .make-call in
+    onward _ _ _ _ _ _ _ _ _ _ _ _ _ _ (n .before .before .before .before .loop .inv) _ (goes n) _ _ _ (m .ensures) (m .kept .1 .1 .1 .1 .0) _
+    (c .before .before .before .before .store .ensures) _ (c .room-of .ensures)
 
 pub replay-decode-spec : {M : Type 1} → statement M
 replay-decode-spec =

@@ -1,3 +1,8 @@
+use mathlib.Core.Path.{sym, ap, _∙_}
+use Rattle.error.specs.declared.Checked.{Checked}
+use Rattle.encode_session.specs.Session.{closedMeaning}
+use Rattle.replay.specs.Calls.{threeOf}
+use Rattle.replay.specs.Encode.{numbersOf}
 use borrow.Author.Needs.{needs}
 use Rattle.replay.proofs.encode.closed_answer.Statement.{statement}
 use Rattle.replay.proofs.encode.closed_answer.Tie as tie
@@ -19,11 +24,11 @@ refused-requires c κs = search needs
 
 -- src/encode.rt:42:1
 returns : tie.Need-returns
-returns c = ?
+returns c = ap (λ (a : Checked). numbersOf (closedMeaning a)) (c .enum-told .given .1)
 
 -- src/encode.rt:42:1
 returns-2 : tie.Need-returns-2
-returns-2 c = ?
+returns-2 c = ap (λ (a : Checked). numbersOf (closedMeaning a)) (c .before .before .answer .given .1) ∙ ap threeOf (sym (c .refused .ensures))
 
 pub closed-answer-spec : {M : Type 1} → statement M
 closed-answer-spec =

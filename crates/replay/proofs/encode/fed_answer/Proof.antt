@@ -1,3 +1,8 @@
+use mathlib.Core.Path.{sym, ap, _∙_}
+use Rattle.encode_session.specs.declared.EncodeFeed.{EncodeFeed}
+use Rattle.encode_session.specs.Session.{fedMeaning}
+use Rattle.replay.specs.Calls.{threeOf}
+use Rattle.replay.specs.Encode.{numbersOf}
 use borrow.Author.Needs.{needs}
 use Rattle.replay.proofs.encode.fed_answer.Statement.{statement}
 use Rattle.replay.proofs.encode.fed_answer.Tie as tie
@@ -19,11 +24,11 @@ refused-requires c κs = search needs
 
 -- src/encode.rt:29:1
 returns : tie.Need-returns
-returns c = ?
+returns c = ap (λ (a : EncodeFeed). numbersOf (fedMeaning a)) (c .before .answer .given .1)
 
 -- src/encode.rt:29:1
 returns-2 : tie.Need-returns-2
-returns-2 c = ?
+returns-2 c = ap (λ (a : EncodeFeed). numbersOf (fedMeaning a)) (c .before .before .answer2 .given .1) ∙ ap threeOf (sym (c .refused .ensures))
 
 pub fed-answer-spec : {M : Type 1} → statement M
 fed-answer-spec =

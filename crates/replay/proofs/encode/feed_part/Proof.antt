@@ -1,3 +1,7 @@
+use mathlib.Core.Path.{sym}
+use native.Mathlib.Omega.{arith}
+use lib.Seq.{length-take-le}
+use Rattle.replay.proofs.Encoding.{fed-part}
 use borrow.Author.Needs.{needs}
 use Rattle.replay.proofs.encode.feed_part.Statement.{statement}
 use Rattle.replay.proofs.encode.feed_part.Tie as tie
@@ -7,11 +11,11 @@ use Rattle.encode_session.proofs.EncodeSession.feed.Reads as feed-reads
 
 -- src/encode.rt:69:15
 add-end : tie.Need-add-end
-add-end c = ?
+add-end c = search needs
 
 -- src/encode.rt:71:19
 add-out-end : tie.Need-add-out-end
-add-out-end c = ?
+add-out-end c = search needs
 
 -- src/encode.rt:73:9
 sub-feed : tie.Need-sub-feed
@@ -23,15 +27,15 @@ part-feed-start c = search needs
 
 -- src/encode.rt:73:9
 part-feed-end : tie.Need-part-feed-end
-part-feed-end c = ?
+part-feed-end c = search needs
 
 -- src/encode.rt:74:9
 slice-relend-prefix-feed : tie.Need-slice-relend-prefix-feed
-slice-relend-prefix-feed c = ?
+slice-relend-prefix-feed c = search needs
 
 -- src/encode.rt:74:9
 slice-aggregate-feed : tie.Need-slice-aggregate-feed
-slice-aggregate-feed c = ?
+slice-aggregate-feed c = sym (length-take-le _ _ (c .before .before .before .before .before .before .pre .1 .buffer))
 
 -- src/encode.rt:75:9
 sub-feed-2 : tie.Need-sub-feed-2
@@ -43,7 +47,7 @@ part-feed-start-2 c = search needs
 
 -- src/encode.rt:75:9
 part-feed-end-2 : tie.Need-part-feed-end-2
-part-feed-end-2 c = ?
+part-feed-end-2 c = search needs
 
 -- src/encode.rt:72:5
 feed-requires : tie.Need-feed-requires
@@ -59,7 +63,12 @@ same-length-2 c = search needs
 
 -- src/encode.rt:56:1
 returns : tie.Need-returns
-returns c = ?
+returns c =
+    let s = c .before .before .before .before .before .before .before .before .before .before .before in
+    let g = s .args in
+    let f = c .before .before .before .feed in
+    fed-part (g .session) (g .part) (g .samples .now) (g .work .now) (g .out .now) (g .at) (f .result) (f .last .1 .1 .0) (f .last .1 .1 .1 .0)
+    (let p = s .pre in omega arith) (s .pre .1 .buffer) (f .ensures) (f .kept .1 .1 .1 .0) (f .kept .1 .1 .0)
 
 pub feed-part-spec : {M : Type 1} → statement M
 feed-part-spec =

@@ -1,0 +1,311 @@
+-- Runs on a making session: one call, and the run so far.
+-- Assumes nothing.
+use Prim.Native.Nat.{ℕ, _+_, _-_, _≤_}
+use mathlib.Core.Path.{_≡_, refl, sym, ap, subst, _∙_}
+use mathlib.Core.Bool.{true}
+use mathlib.Core.List.{List, [], _∷_, _++_, append-assoc, append-nil}
+use native.Mathlib.Nat.{add-zero}
+use native.Mathlib.Omega.{arith}
+use lib.IntN.{ℤ}
+use lib.ListN.{length, take, drop, length-append, take-append-drop}
+use borrow.Rule.Slice.PartMut.{midOf, putMid}
+use lib.Seq.{length-take-le, take-all, take-take, take-at, drop-at, drop-drop}
+use Rattle.error.specs.Answer.{gives, refuses}
+use Rattle.error.specs.Answer as Answers
+use Rattle.encode_session.specs.Model.{Opening, serves, Model, Call, feed, close, Told, Reply, Outcome, outcome, replies, finally}
+use Rattle.encode_session.specs.Session.{fedMeaning, closedMeaning, Stands, Holds, Feeds, Closes}
+use Rattle.encode_session.specs.declared.EncodeFed.{EncodeFed}
+use Rattle.encode_session.specs.declared.EncodeClosed.{EncodeClosed}
+use Rattle.encode_session.specs.declared.EncodeSession.{EncodeSession}
+use Rattle.encode_session.proofs.Answering.{by-close, feed-refused}
+use Rattle.replay.specs.declared.EncodeReplayed.{EncodeReplayed}
+use Rattle.replay.specs.declared.call.Answer.{Answer}
+use Rattle.replay.specs.declared.call.Named.{Named}
+use Rattle.replay.specs.declared.call.Named.the-variants.{Close, Feed}
+use Rattle.replay.specs.declared.call.Part.{Part}
+use Rattle.replay.specs.declared.encode.Called.{Called}
+use Rattle.replay.specs.Calls.{roomOf, lentOf, named, joined, over, Goes, threeOf, replaced}
+use Rattle.replay.specs.Encode.{numbersOf, told, output, callOf, callsOf, Shows, Runs, Replays, FeedsPart, Calls, Makes}
+use Rattle.replay.proofs.Lending.{lent-same, feed-served, opening-same}
+use Rattle.replay.proofs.Parts.{size-is, part-long, put-is}
+use Rattle.replay.proofs.Running.{joined-more, grown, next-is, At, start-is, at-start, spares, out-long, answers-long, at-on}
+
+-- ---- one call
+
+-- a feeding call over parts
+pub fed-part : (s : EncodeSession) (p : Part) (samples : List ℕ) (work : List ℤ) (out : List ℕ) (at : ℕ) (r : EncodeFed) (front : List ℤ) (part : List ℕ)
+    → at + p .room ≤ length out → p .lent ≤ length work
+    → Feeds s (midOf (p .start) (p .start + p .size - p .start) samples) (midOf at (at + p .room - at) out) (take (p .lent) work) r part front
+    → length part ≡ length (midOf at (at + p .room - at) out) → length front ≡ length (take (p .lent) work)
+    → FeedsPart s p samples work out at r (front ++ drop (p .lent) work) (putMid at (at + p .room - at) out part)
+fed-part s p samples work out at r front part h k F e f =
+    let n = part-long at (p .room) out part h e in
+    let l = length-take-le (p .lent) work k in
+    record {
+      front = front;
+      part = part;
+      does =
+          subst (λ (k : ℕ). Feeds s (take (p .size) (drop (p .start) samples)) (take k (drop at out)) (take (p .lent) work) r part front) (size-is at (p .room))
+          (subst (λ (n : ℕ). Feeds s (take n (drop (p .start) samples)) (take (at + p .room - at) (drop at out)) (take (p .lent) work) r part front)
+          (size-is (p .start) (p .size)) F);
+      lentLong = l;
+      partLong = n;
+      frontLong = f ∙ l;
+      workIs = refl;
+      outIs = put-is at (p .room) out part h n;
+    }
+
+close-output : (m : Model) → outcome m close .reply .output ≡ []
+close-output m = by-close m (λ (x : Outcome). x .reply .output ≡ []) refl refl (λ _. refl)
+
+-- what the model says of a feeding call
+module _ (s : EncodeSession) (p : Part) (samples : List ℕ) (work : List ℤ) (out : List ℕ) (at : ℕ) (fed : EncodeFed) (work′ : List ℤ) (out′ : List ℕ)
+    (F : FeedsPart s p samples work out at fed work′ out′) (a : Answer) (e : numbersOf (fedMeaning (fed .answer)) ≡ threeOf a) (m : Model) (h : Holds s work m) where
+  abbrev xs : List ℕ
+  xs = take (p .size) (drop (p .start) samples)
+
+  abbrev o : List ℕ
+  o = take (p .room) (drop at out)
+
+  abbrev x : Outcome
+  x = outcome m (feed xs o (p .lent))
+
+  abbrev r : Called
+  r = record { session = fed .session; answer = a }
+
+  answer-is : fedMeaning (fed .answer) ≡ x .reply .answer
+  answer-is = subst (λ (n : ℕ). fedMeaning (fed .answer) ≡ outcome m (feed xs o n) .reply .answer) (F .lentLong) (F .does .counts m (h .stands) .0)
+
+  numbers-are : numbersOf (x .reply .answer) ≡ threeOf a
+  numbers-are = ap numbersOf (sym answer-is) ∙ e
+
+  by-refusal : (code place : ℕ) → x .reply .answer ≡ refuses code place → Calls m (feed xs o (p .lent)) r (F .part) work′
+  by-refusal code place q =
+      let i = feed-refused m xs o (p .lent) code place q in
+      let u = F .does .refused code place (answer-is ∙ q) in
+      let w : work′ ≡ work = F .workIs ∙ ap (λ (l : List ℤ). l ++ drop (p .lent) work) (u .1 .1) ∙ take-append-drop (p .lent) work in
+      record {
+        answer = numbers-are;
+        output = i .0 ∙ sym (u .1 .0);
+        holds =
+            subst (λ (z : EncodeSession). Holds z work′ (x .next)) (sym (u .0))
+            (subst (λ (l : List ℤ). Holds s l (x .next)) (sym w) (subst (λ (n : Model). Holds s work n) (sym (i .1)) h));
+      }
+
+  by-giving : (t : Told) → x .reply .answer ≡ gives t → Calls m (feed xs o (p .lent)) r (F .part) work′
+  by-giving t q =
+      let v = feed-served m xs o (p .lent) t q in
+      let k : Holds s (take (p .lent) work) m = lent-same s m (p .lent) work (take (p .lent) work) v (sym (take-take (p .lent) (p .lent) work (omega arith))) h in
+      let d = subst (λ (n : ℕ). (F .part ≡ outcome m (feed xs o n) .reply .output) × Holds (fed .session) (F .front) (outcome m (feed xs o n) .next)) (F .lentLong)
+      (F .does .does m k) in
+      let f : take (p .lent) (F .front) ≡ F .front = take-all (p .lent) (F .front) (let l = F .frontLong in omega arith) in
+      let g : take (p .lent) work′ ≡ F .front = ap (take (p .lent)) (F .workIs) ∙ take-at (F .front) (drop (p .lent) work) (p .lent) (F .frontLong) in
+      let z : serves (x .next .opening) (p .lent) ≡ true = subst (λ (o : Opening). serves o (p .lent) ≡ true) (sym (opening-same m xs o (p .lent))) v in
+      record { answer = numbers-are; output = sym (d .0); holds = lent-same (fed .session) (x .next) (p .lent) (F .front) work′ z (f ∙ sym g) (d .1) }
+
+  by-answer : (y : Answers.Answer Told) → x .reply .answer ≡ y → Calls m (feed xs o (p .lent)) r (F .part) work′
+  by-answer (gives t) q = by-giving t q
+  by-answer (refuses code place) q = by-refusal code place q
+
+  fed-calls : Calls m (feed xs o (p .lent)) r (F .part) work′
+  fed-calls = by-answer (x .reply .answer) refl
+
+module _ (s : EncodeSession) (samples : List ℕ) (work : List ℤ) (out : List ℕ) (at : ℕ) (a : Answer) (c : Named) where
+  pub closed-makes : c ≡ Close → (closed : EncodeClosed) → Closes s closed → numbersOf (closedMeaning (closed .answer)) ≡ threeOf a
+      → Makes s c samples work out at (record { session = closed .session; answer = a }) work out
+  closed-makes is closed C e =
+      subst (λ (c : Named). Makes s c samples work out at (record { session = closed .session; answer = a }) work out) (sym is)
+      (record {
+        part = [];
+        does = λ m h. record { answer = ap numbersOf (sym (C .counts m (h .stands) .0)) ∙ e; output = close-output m; holds = C .does m work h };
+        long = refl;
+        outIs = sym (ap (λ (k : ℕ). take at out ++ drop k out) (add-zero at) ∙ take-append-drop at out);
+        beyond = refl;
+      })
+
+  pub fed-makes : (p : Part) → c ≡ Feed p → (fed : EncodeFed) (work′ : List ℤ) (out′ : List ℕ) → FeedsPart s p samples work out at fed work′ out′
+      → numbersOf (fedMeaning (fed .answer)) ≡ threeOf a → Makes s c samples work out at (record { session = fed .session; answer = a }) work′ out′
+  fed-makes p is fed work′ out′ F e =
+      subst (λ (c : Named). Makes s c samples work out at (record { session = fed .session; answer = a }) work′ out′) (sym is)
+      (record {
+        part = F .part;
+        does = fed-calls s p samples work out at fed work′ out′ F a e;
+        long = F .partLong;
+        outIs = F .outIs;
+        beyond = ap (drop (p .lent)) (F .workIs) ∙ drop-at (F .front) (drop (p .lent) work) (p .lent) (F .frontLong);
+      })
+
+-- ---- the run so far, as the model's
+
+-- the replies so far, and the model that the session stands for; `rest` are the calls that are left
+pub record Follows (m : Model) (cs : List Call) (samples out₀ answers₀ : List ℕ) (s : EncodeSession) (work : List ℤ) (out answers : List ℕ)
+    (made lent at : ℕ) (rest : List Named) : Type 0 where
+  pub now : Model
+  pub replied : List Reply
+  pub holds : Holds s work now
+  pub whole : replies m cs ≡ replied ++ replies now (callsOf rest samples (drop lent out₀))
+  pub final : finally m cs ≡ finally now (callsOf rest samples (drop lent out₀))
+  pub many : length replied ≡ made
+  pub outIs : out ≡ joined output replied ++ drop lent out₀
+  pub outLong : length (joined output replied) ≡ lent
+  pub answersIs : answers ≡ joined told replied ++ drop at answers₀
+  pub answersLong : length (joined told replied) ≡ at
+
+follows-start : (m : Model) (s : EncodeSession) (cs : List Named) (samples : List ℕ) (work : List ℤ) (out answers : List ℕ) → Holds s work m
+    → Follows m (callsOf cs samples out) samples out answers s work out answers 0 0 0 cs
+unfolding joined
+follows-start m s cs samples work out answers h =
+    record {
+      now = m;
+      replied = [];
+      holds = h;
+      whole = refl;
+      final = refl;
+      many = refl;
+      outIs = refl;
+      outLong = refl;
+      answersIs = refl;
+      answersLong = refl;
+    }
+
+module _ (m : Model) (cs : List Call) (samples out₀ answers₀ : List ℕ) (s : EncodeSession) (work : List ℤ) (out answers : List ℕ) (made lent at : ℕ) where
+  follows-end : Follows m cs samples out₀ answers₀ s work out answers made lent at []
+      → Shows m cs out₀ answers₀ (record { session = s; calls = made }) out answers work
+  unfolding replies finally callsOf
+  follows-end f =
+      let e : replies m cs ≡ f .replied = f .whole ∙ append-nil (f .replied) in
+      record {
+        calls = sym (ap length e ∙ f .many);
+        outputs = rw (e, f .outLong) (f .outIs);
+        answered = rw (e, f .answersLong) (f .answersIs);
+        holds = subst (λ (n : Model). Holds s work n) (sym (f .final)) (f .holds);
+      }
+
+  module _ (c : Named) (rest : List Named) (f : Follows m cs samples out₀ answers₀ s work out answers made lent at (c ∷ rest)) (r : Called) (work′ : List ℤ)
+      (out′ : List ℕ) (M : Makes s c samples work out lent r work′ out′) where
+    abbrev call : Call
+    call = callOf c samples (drop lent out₀)
+
+    abbrev next : Model
+    next = outcome (f .now) call .next
+
+    abbrev reply : Reply
+    reply = outcome (f .now) call .reply
+
+    out-left : drop lent out ≡ drop lent out₀
+    out-left = ap (drop lent) (f .outIs) ∙ drop-at (joined output (f .replied)) (drop lent out₀) lent (f .outLong)
+
+    says : Calls (f .now) call r (M .part) work′
+    says = subst (λ (o : List ℕ). Calls (f .now) (callOf c samples o) r (M .part) work′) out-left (M .does (f .now) (f .holds))
+
+    replies-on : replies m cs ≡ (f .replied ++ (reply ∷ [])) ++ replies next (callsOf rest samples (drop (lent + roomOf c) out₀))
+    unfolding replies callsOf
+    replies-on =
+        subst (λ (o : List ℕ). replies m cs ≡ (f .replied ++ (reply ∷ [])) ++ replies next (callsOf rest samples o)) (drop-drop (roomOf c) lent out₀)
+        (f .whole ∙ sym (append-assoc (f .replied) (reply ∷ []) _))
+
+    finally-on : finally m cs ≡ finally next (callsOf rest samples (drop (lent + roomOf c) out₀))
+    unfolding finally callsOf
+    finally-on = subst (λ (o : List ℕ). finally m cs ≡ finally next (callsOf rest samples o)) (drop-drop (roomOf c) lent out₀) (f .final)
+
+    follows-on : Follows m cs samples out₀ answers₀ (r .session) work′ out′ (replaced answers at (threeOf (r .answer))) (made + 1) (lent + roomOf c) (at + 3) rest
+    follows-on =
+        let i = f .many in
+        let j = f .outLong in
+        let k = f .answersLong in
+        let p = M .long in
+        let o : joined output (f .replied ++ (reply ∷ [])) ≡ joined output (f .replied) ++ M .part =
+        joined-more output (f .replied) reply ∙ ap (λ (x : List ℕ). joined output (f .replied) ++ x) (says .output) in
+        let t : joined told (f .replied ++ (reply ∷ [])) ≡ joined told (f .replied) ++ threeOf (r .answer) =
+        joined-more told (f .replied) reply ∙ ap (λ (x : List ℕ). joined told (f .replied) ++ x) (says .answer) in
+        record {
+          now = next;
+          replied = f .replied ++ (reply ∷ []);
+          holds = says .holds;
+          whole = replies-on;
+          final = finally-on;
+          many = length-append (f .replied) (reply ∷ []) ∙ omega arith;
+          outIs =
+              M .outIs
+              ∙ grown out out₀ (joined output (f .replied)) (M .part) lent (roomOf c) (f .outIs) j p
+              ∙ ap (λ (x : List ℕ). x ++ drop (lent + roomOf c) out₀) (sym o);
+          outLong = ap length o ∙ length-append (joined output (f .replied)) (M .part) ∙ omega arith;
+          answersIs =
+              grown answers answers₀ (joined told (f .replied)) (threeOf (r .answer)) at 3 (f .answersIs) k refl
+              ∙ ap (λ (x : List ℕ). x ++ drop (at + 3) answers₀) (sym t);
+          answersLong = ap length t ∙ length-append (joined told (f .replied)) (threeOf (r .answer)) ∙ omega arith;
+        }
+
+-- ---- the loop
+
+abbrev restOf : List ℕ → List ℕ → List ℤ → List ℕ → List ℕ → ℕ → ℕ → ℕ → List Named
+restOf calls samples work out answers at lent told = named (drop at calls) (length samples) (length out - lent) (length work) (length answers - told)
+
+abbrev allOf : List ℕ → List ℕ → List ℤ → List ℕ → List ℕ → List Named
+allOf calls samples work out answers = named calls (length samples) (length out) (length work) (length answers)
+
+pub record Sofar (s₀ : EncodeSession) (calls samples : List ℕ) (work₀ : List ℤ) (out₀ answers₀ : List ℕ) (s : EncodeSession) (work : List ℤ) (out answers : List ℕ)
+    (made at lent told : ℕ) : Type 0 where
+  pub place : At calls (length samples) out₀ answers₀ work₀ out answers work made at lent told
+  pub follows : (m : Model) → Holds s₀ work₀ m
+      → Follows m (callsOf (allOf calls samples work₀ out₀ answers₀) samples out₀) samples out₀ answers₀ s work out answers made lent told
+      (restOf calls samples work out answers at lent told)
+
+pub starts : (s : EncodeSession) (calls samples : List ℕ) (work : List ℤ) (out answers : List ℕ) → Sofar s calls samples work out answers s work out answers 0 0 0 0
+starts s calls samples work out answers =
+    record {
+      place = at-start calls (length samples) out answers work;
+      follows = λ m h.
+          subst (λ (l : List Named). Follows m (callsOf (allOf calls samples work out answers) samples out) samples out answers s work out answers 0 0 0 l)
+          (start-is calls (length samples) out answers work)
+          (follows-start m s (allOf calls samples work out answers) samples work out answers h);
+    }
+
+module _ (s₀ : EncodeSession) (calls samples : List ℕ) (work₀ : List ℤ) (out₀ answers₀ : List ℕ) (s : EncodeSession) (work : List ℤ) (out answers : List ℕ)
+    (made at lent told : ℕ) (so : Sofar s₀ calls samples work₀ out₀ answers₀ s work out answers made at lent told) where
+  -- the run ends
+  pub stops : restOf calls samples work out answers at lent told ≡ []
+      → Replays s₀ calls samples work₀ out₀ answers₀ (record { session = s; calls = made }) work out answers
+  stops e =
+      record {
+        does = λ m h.
+            let cs = callsOf (allOf calls samples work₀ out₀ answers₀) samples out₀ in
+            follows-end m cs samples out₀ answers₀ s work out answers made lent told
+            (subst (λ (l : List Named). Follows m cs samples out₀ answers₀ s work out answers made lent told l) e (so .follows m h));
+        spares = spares calls (length samples) out₀ answers₀ work₀ out answers work made at lent told (so .place) e;
+      }
+
+  -- one call more
+  pub onward : (c : Named) → Goes (drop at calls) (length samples) (length out - lent) (length work) (length answers - told) c
+      → (r : Called) (work′ : List ℤ) (out′ : List ℕ) → Makes s c samples work out lent r work′ out′ → length work′ ≡ length work → (answers′ : List ℕ)
+      → answers′ ≡ replaced answers told (threeOf (r .answer)) → (k : ℕ) → k ≡ roomOf c
+      → Sofar s₀ calls samples work₀ out₀ answers₀ (r .session) work′ out′ answers′ (made + 1) (at + 5) (lent + k) (told + 3)
+  onward c g r work′ out′ M l answers′ ea k ek =
+      subst (λ (k : ℕ). Sofar s₀ calls samples work₀ out₀ answers₀ (r .session) work′ out′ answers′ (made + 1) (at + 5) (lent + k) (told + 3)) (sym ek)
+      (subst (λ (x : List ℕ). Sofar s₀ calls samples work₀ out₀ answers₀ (r .session) work′ out′ x (made + 1) (at + 5) (lent + roomOf c) (told + 3)) (sym ea)
+      (record {
+        place =
+            subst (λ (o : List ℕ). At calls (length samples) out₀ answers₀ work₀ o new work′ (made + 1) (at + 5) (lent + roomOf c) (told + 3)) (sym (M .outIs))
+            (at-on calls (length samples) out₀ answers₀ work₀ out answers work made at lent told (so .place) c g (M .part) three work′ (M .long) refl l
+            (M .beyond));
+        follows = λ m h.
+            let cs = callsOf (allOf calls samples work₀ out₀ answers₀) samples out₀ in
+            follows-on m cs samples out₀ answers₀ s work out answers made lent told c (restOf calls samples work′ out′ new (at + 5) (lent + roomOf c) (told + 3))
+            (subst (λ (l : List Named). Follows m cs samples out₀ answers₀ s work out answers made lent told l) next (so .follows m h)) r work′ out′ M;
+      }))
+    where
+      three : List ℕ
+      three = threeOf (r .answer)
+
+      new : List ℕ
+      new = replaced answers told (threeOf (r .answer))
+
+      next : restOf calls samples work out answers at lent told ≡ c ∷ restOf calls samples work′ out′ new (at + 5) (lent + roomOf c) (told + 3)
+      next =
+          next-is calls (length samples) out answers out′ new work work′ at lent told c g
+          (ap length (M .outIs)
+          ∙ out-long calls (length samples) out₀ answers₀ work₀ out answers work made at lent told (so .place) c g (M .part) three work′ (M .long) refl l
+          (M .beyond))
+          (answers-long calls (length samples) out₀ answers₀ work₀ out answers work made at lent told (so .place) c g (M .part) three work′ (M .long) refl l
+          (M .beyond))
+          l

@@ -1,0 +1,6 @@
+pub mod Naming
+pub mod Parts
+pub mod Running
+pub mod Decoding
+pub mod Lending
+pub mod Encoding
