@@ -19,6 +19,8 @@ use oracle::lists::Left;
 
 /// The size of a block.
 const BLOCK: usize = 65536;
+/// The longest text that the program holds.
+const TEXT: usize = 8192;
 /// The most bytes that a part's name, operation and counts take.
 const HEAD: usize = 64;
 /// The longest part that is looked for as a repeated one.
@@ -156,6 +158,7 @@ fn put_number(list: &mut Vec<u8>, number: u64) {
 }
 
 fn put_text(list: &mut Vec<u8>, text: &[u8]) {
+    assert!(text.len() <= TEXT, "a text of {} bytes", text.len());
     let parts = parts_of(text);
     put_number(list, parts.len() as u64);
     for (times, part) in parts {

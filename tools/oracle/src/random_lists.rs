@@ -25,11 +25,13 @@ pub fn groups(seed: u64, lists: usize, cards: usize) -> Vec<Group> {
     let makings = (0..lists).map(|_| making(&mut random)).collect();
     let readings = (0..lists).map(|_| reading(&mut random)).collect();
     let cards = (0..cards).map(|_| card(&mut random)).collect();
-    vec![
+    let mut groups = vec![
         group("making lists random", Operation::MakingList, makings),
         group("reading lists random", Operation::ReadingList, readings),
         group("cards random", Operation::Card, cards),
-    ]
+    ];
+    groups.retain(|group| !group.sweeps.is_empty());
+    groups
 }
 
 /// A rule: its kind and number.
@@ -383,18 +385,13 @@ fn finish_reading(random: &mut Random, case: &mut ReadingCase) {
 
 /// A card: whole frames made under a random cut, and the file read under another.
 fn card(random: &mut Random) -> Vec<u8> {
-    let mut opening = opening(random);
-    opening.width = opening.width.clamp(1, 100);
-    opening.height = opening.height.clamp(1, 8);
-    opening.fields = crate::encoder_cases::fields()[random.below(6) as usize].clone();
-    if opening.kind == 2 {
-        opening.number = random.one_of(&[2, 4, 8]);
-    }
+    let opening = card_opening(random);
+    let long = opening.fields.len() > 100;
     let scan = opening.width as usize * opening.height as usize;
-    let most = (1500 / scan).clamp(1, 16) as u64;
-    let frames = 1 + random.below(most) as usize;
+    let most = if long { 300 } else { 1500 };
+    let frames = 1 + random.below((most / scan).clamp(1, 16) as u64) as usize;
     let samples = random.bytes(scan * frames);
-    let lent = [work_enough(&opening), 100];
+    let lent = [work_enough(&opening), 14 + opening.fields.len()];
     let mut making = MakingCase::new(opening, random.next() as u8, lent, samples);
     while making.at < making.samples.len() {
         let work = work_enough(&making.opening);
@@ -406,6 +403,21 @@ fn card(random: &mut Random) -> Vec<u8> {
     let reading = card_read(random, &input);
     let len = oracle::lists::two(input.len());
     [&len[..], &input, &reading].concat()
+}
+
+/// An accepted opening of a card; now and then its fields are the longest octets that can be read.
+fn card_opening(random: &mut Random) -> Opening {
+    let mut opening = opening(random);
+    opening.width = opening.width.clamp(1, 100);
+    opening.height = opening.height.clamp(1, 8);
+    opening.fields = crate::encoder_cases::fields()[random.below(6) as usize].clone();
+    if random.once_in(50) {
+        opening.fields = [&[0, 0, 0], &[random.next() as u8 & 0x7F; 4096][..]].concat();
+    }
+    if opening.kind == 2 {
+        opening.number = random.one_of(&[2, 4, 8]);
+    }
+    opening
 }
 
 /// The made file, which stands in the making's output in stretches, read.
