@@ -23,6 +23,7 @@ use crate::stages::NUMBERS;
 use crate::stages::Progress;
 use crate::stages::answers_as;
 use crate::stages::bytes_as;
+use crate::stages::calls_at;
 use crate::stages::marked;
 use crate::stages::only_if;
 use crate::stages::out_at;
@@ -33,6 +34,7 @@ use crate::writers::presence_of;
 use encode_session::EncodeOpened;
 use encode_session::EncodeSession;
 use options::EncodeOptions;
+use replay::EncodeReplayed;
 use replay::replay_encode;
 
 // Where the fields start in the input.
@@ -212,14 +214,17 @@ fn run_stage(
     let session = before.session;
     let n = put_calls(input, progress.at, &mut numbers);
     let calls = lengths(&numbers, n);
-    let next = run(session, input, progress, calls, work, out, &mut answers);
+    let ran = run(session, input, progress, calls, work, out, &mut answers);
+    let next = ran.session;
+    let all = ran.calls == calls_at(input, progress.at);
+    let right = only_if(all, stage_as(list, input, progress, &answers, out));
     Making {
         session: next,
-        progress: progress.behind_stage(input, stage_as(list, input, progress, &answers, out)),
+        progress: progress.behind_stage(input, right),
     }
 }
 
-// The session after the stage's calls.
+// The session after the stage's calls, and how many were made.
 fn run(
     session: EncodeSession,
     input: &[u8],
@@ -228,22 +233,20 @@ fn run(
     work: &mut [i16],
     out: &mut [u8],
     answers: &mut [usize],
-) -> EncodeSession {
+) -> EncodeReplayed {
     let samples = samples_of(input);
     let start = least(progress.from, out.len());
     let rest = &mut out[start..];
     let begin = 0;
     let end = least(out_at(input, progress.at), rest.len());
-    let ran = replay_encode(
+    replay_encode(
         session,
         calls,
         samples,
         work,
         &mut rest[begin..end],
         answers,
-    );
-    let next = ran.session;
-    next
+    )
 }
 
 // Whether the answers are as the block has them, each byte of the stage's output unless its letter

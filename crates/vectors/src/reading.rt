@@ -18,6 +18,7 @@ use crate::stages::NUMBERS;
 use crate::stages::Progress;
 use crate::stages::answers_as;
 use crate::stages::bytes_as;
+use crate::stages::calls_at;
 use crate::stages::marked;
 use crate::stages::only_if;
 use crate::stages::out_at;
@@ -25,6 +26,7 @@ use crate::stages::put_calls;
 use crate::stages::then;
 use decode_session::DecodeOpened;
 use decode_session::DecodeSession;
+use replay::DecodeReplayed;
 use replay::replay_decode;
 
 // Where the file starts in the input.
@@ -131,7 +133,7 @@ fn stage(
     let session = before.session;
     let n = put_calls(input, progress.at, &mut numbers);
     let calls = lengths(&numbers, n);
-    let next = run(
+    let ran = run(
         session,
         input,
         file,
@@ -141,16 +143,16 @@ fn stage(
         out,
         &mut answers,
     );
+    let next = ran.session;
+    let all = ran.calls == calls_at(input, progress.at);
+    let right = only_if(all, stage_as(list, input, progress, &answers, buffer, out));
     Reading {
         session: next,
-        progress: progress.behind_stage(
-            input,
-            stage_as(list, input, progress, &answers, buffer, out),
-        ),
+        progress: progress.behind_stage(input, right),
     }
 }
 
-// The session after the stage's calls.
+// The session after the stage's calls, and how many were made.
 fn run(
     session: DecodeSession,
     input: &[u8],
@@ -160,14 +162,12 @@ fn run(
     buffer: &mut [u8],
     out: &mut [u8],
     answers: &mut [usize],
-) -> DecodeSession {
+) -> DecodeReplayed {
     let start = least(progress.from, out.len());
     let rest = &mut out[start..];
     let begin = 0;
     let end = least(out_at(input, progress.at), rest.len());
-    let ran = replay_decode(session, calls, file, &mut rest[begin..end], buffer, answers);
-    let next = ran.session;
-    next
+    replay_decode(session, calls, file, &mut rest[begin..end], buffer, answers)
 }
 
 // Whether the answers, each byte of the stage's output and of the extension buffer are as the block

@@ -215,6 +215,9 @@ fn opened() -> Vec<Stated> {
         // One number of work short; 28 before fields and 25.
         shut(refused([2, 1], DITHER, [3, 9], 28)),
         shut(refused([2, 1], DITHER, [0, 0], 28).fields(false, &[3, 0, 0])),
+        // Twice the width is past 32 bits.
+        shut(refused([1 << 31, 1], DITHER, [256, 9], 28)),
+        shut(refused([u32::MAX, 1], DITHER, [256, 9], 28)),
         // Fields: 31, 23, 24, 11, 12 and, strict, 14 and 15; before 25.
         shut(fields(&[3, 0, 2, 1, 1, b'k'], false, 31)),
         shut(fields(&[0, 0, 0], false, 23)),
@@ -388,6 +391,12 @@ fn rules() -> Vec<Stated> {
         open([9, 1], (0, 0), b"\x00\x00\x09\x01")
             .feed(&[0; 4], [0, 0], [0, 4, 0], b"")
             .feed(&[0; 5], [2, 0], [0, 5, 2], b"\xFF\x80")
+            .close(0)
+            .stated(),
+        // Side 2: the bounds of row 0 are 32 and 160, of row 1 224 and 96.
+        open([2, 2], (2, 2), b"\x00\x00\x02\x02")
+            .feed(&[200, 200, 200], [1, 0], [0, 3, 1], b"\xC0")
+            .feed(&[200], [1, 0], [0, 1, 1], b"\x40")
             .close(0)
             .stated(),
         // Thresholds 255 and 1.
