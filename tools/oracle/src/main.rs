@@ -11,12 +11,17 @@ mod list;
 mod list_cases;
 mod mbi_cases;
 mod plane_cases;
+mod random_cards;
 mod random_cases;
 mod random_lists;
+mod random_makings;
+mod random_readings;
 mod scan_cases;
 mod settings_cases;
 mod stated_cases;
 mod stated_lists;
+mod stated_makings;
+mod stated_readings;
 mod writer_cases;
 
 use cases::Group;
