@@ -44,8 +44,8 @@ alter "count of a list altered" "$call" 2 '\x06'
 alter "output of a list altered" "$call" 8 '\x81'
 # The first extension byte after a call that takes 3 bytes, 81 made 82.
 alter "extension byte altered" '\x03\x00\x03\x00\x00\x02\x01\x01\x81' 8 '\x82'
-# A call on a dithering session whose dots are 40, made C0; the refusal of a short work buffer, 28
-# made 30, with what stands in its output behind it.
+# A call on a making session that takes a sample and writes 40, made C0; the refusal of a short work
+# buffer, 28 made 30, then a byte of the output that it has to leave alone.
 alter "dot of a list altered" '\x03\x00\x01\x01\x01\x01\x01\x40\x00' 7 '\xC0'
 call='\x03\x1C\x00\x00\x01\x01\x03\xA5\xA5\xA5\x00'
 alter "refusal of a list altered" "$call" 1 '\x1E'
