@@ -12,6 +12,7 @@ use crate::input::lengths;
 use crate::input::short;
 use crate::list::byte_at;
 use crate::list::number;
+use crate::readers::fields_of;
 use crate::settings::reading;
 use crate::stages::ANSWERS;
 use crate::stages::NUMBERS;
@@ -26,6 +27,8 @@ use crate::stages::put_calls;
 use crate::stages::then;
 use decode_session::DecodeOpened;
 use decode_session::DecodeSession;
+use decode_session::HeaderSeen;
+use header::ParsedHeader;
 use replay::DecodeReplayed;
 use replay::replay_decode;
 
@@ -56,7 +59,51 @@ pub fn mark_of(input: &[u8]) -> u8 {
 pub fn run_list(list: &[u8], start: usize, input: &[u8], file: &[u8], out: &mut [u8]) -> Progress {
     let mut buffer = [mark_of(input); BUFFER];
     let opened = opened(list, start, input, &buffer);
-    stages(list, input, file, &mut buffer, out, opened)
+    let ended = stages(list, input, file, &mut buffer, out, opened);
+    let session = ended.session;
+    let progress = ended.progress;
+    progress.behind_answer(header_as(list, progress.next, session.header()))
+}
+
+// Whether the header that the session ends with is as the block has it; its text is empty, and it
+// has no stages.
+fn header_as(list: &[u8], start: usize, seen: HeaderSeen) -> Match {
+    let right = accepted(list, start, &header_numbers(seen));
+    let bytes = bytes_as(list, right.next, b"");
+    let none = number(list, bytes.next);
+    Match {
+        same: right.same,
+        next: none.next,
+    }
+}
+
+fn header_numbers(seen: HeaderSeen) -> [usize; 11] {
+    match seen {
+        HeaderSeen::Unread => [0; 11],
+        HeaderSeen::Header(h) => sizes(h),
+    }
+}
+
+// 1, the sizes, where the body starts, the FixHeader and the fields.
+fn sizes(h: ParsedHeader) -> [usize; 11] {
+    let ext = h.ext_fields;
+    let width = h.width as usize;
+    let height = h.height as usize;
+    let fix = h.fix_header as usize;
+    let f = fields_of(ext);
+    [
+        1,
+        width,
+        height,
+        h.data_offset,
+        fix,
+        f[0],
+        f[1],
+        f[2],
+        f[3],
+        0,
+        0,
+    ]
 }
 
 // The opening's answer; its text is empty.
@@ -89,7 +136,7 @@ fn stages(
     buffer: &mut [u8],
     out: &mut [u8],
     opened: Reading,
-) -> Progress {
+) -> Reading {
     let progress = opened.progress;
     let head = number(list, progress.next);
     let count = head.value;
@@ -99,8 +146,7 @@ fn stages(
         reading = stage(list, input, file, buffer, out, reading);
         i += 1;
     }
-    let ended = reading.progress;
-    ended
+    reading
 }
 
 // The list where its stages start in the block.

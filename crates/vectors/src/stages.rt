@@ -40,6 +40,13 @@ impl Progress {
         self
     }
 
+    // Behind an answer that is no call's.
+    pub fn behind_answer(mut self, right: Match) -> Progress {
+        self.next = right.next;
+        self.same = both(self.same, right.same);
+        self
+    }
+
     // Behind a stage: the calls are counted as comparisons.
     pub fn behind_stage(self, input: &[u8], right: Match) -> Progress {
         let calls = calls_at(input, self.at);

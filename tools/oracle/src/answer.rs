@@ -37,10 +37,11 @@ impl Answer {
         Answer::of(&[number_of(error).into(), place as u64])
     }
 
-    /// How many calls a list has, the opening included; a card has two, and its dots are none.
+    /// How many calls a list has, the opening included. A card has two lists; what is told behind
+    /// them has no stages.
     pub fn calls(&self) -> usize {
         let fed: usize = self.stages.iter().map(|left| left.answers.len()).sum();
-        let list = |then: &&Box<Answer>| then.then.is_some();
+        let list = |then: &&Box<Answer>| !then.stages.is_empty();
         1 + fed
             + self
                 .then

@@ -11,14 +11,13 @@ use crate::lists::short;
 pub fn card(input: &[u8]) -> Answer {
     let (making, reading) = input[2..].split_at(short(input, 0));
     let made = encode_lists::list(making);
-    let read = decode_lists::list_over(reading, &output(&made));
+    let mut read = decode_lists::list_over(reading, &output(&made));
     let (opening, rest) = opening_at(making);
     let samples = &rest[..short(making, 18)];
+    let header = read.then.as_mut().expect("the header");
+    header.then = Some(Box::new(dots(&opening, samples)));
     Answer {
-        then: Some(Box::new(Answer {
-            then: Some(Box::new(dots(&opening, samples))),
-            ..read
-        })),
+        then: Some(Box::new(read)),
         ..made
     }
 }

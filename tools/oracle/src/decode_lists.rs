@@ -146,6 +146,22 @@ impl Reading {
         }
     }
 
+    /// The header, once its last size byte is taken and nothing is refused: 1, width, height, where
+    /// the body starts, FixHeader, and kind, start, length and pairs of the fields.
+    fn header(&self) -> Answer {
+        let strict = self.options.strict;
+        match replay::read(&self.taken, !strict, strict) {
+            (Ok(h), at) if self.met.is_none() => {
+                let [kind, start, len, pairs] = at.fields(&h, &self.taken);
+                let sizes = [h.width, h.height, h.fix_header.into()].map(u64::from);
+                let [width, height, fix] = sizes;
+                let body = h.data_offset as u64;
+                Answer::of(&[1, width, height, body, fix, kind, start, len, pairs])
+            }
+            _ => Answer::of(&[]),
+        }
+    }
+
     /// How many plane bytes there are: those behind the header, up to 16 planes.
     fn plane_bytes(&self, bytes: &[u8]) -> usize {
         let Ok(header) = parse_header_for(bytes, self.options.strict) else {
@@ -250,17 +266,19 @@ pub fn list(input: &[u8]) -> Answer {
     list_over(input, file)
 }
 
-/// What a list over a file answers and leaves: the opening's number, then the stages.
+/// What a list over a file answers and leaves: the opening's number, then the stages, then the
+/// header as the session ends with it.
 pub fn list_over(input: &[u8], file: &[u8]) -> Answer {
     let mark = input[SETTINGS];
     let (mut session, number) = Reading::open(reading(input), short(input, SETTINGS + 1));
     let stages = stages_at(&input[FILE + short(input, SETTINGS + 3)..]);
     let mut buffer = vec![mark; BUFFER];
+    let left = stages
+        .iter()
+        .map(|stage| session.stage(stage, file, mark, &mut buffer));
     Answer {
-        stages: stages
-            .iter()
-            .map(|stage| session.stage(stage, file, mark, &mut buffer))
-            .collect(),
+        stages: left.collect(),
+        then: Some(Box::new(session.header())),
         ..Answer::of(&[number])
     }
 }

@@ -11,7 +11,8 @@
 //! it answers: how many acceptable answers, each its count of numbers and the numbers, then the
 //! text written. A list of calls on a session goes on with the number of its stages, and for each
 //! the number of its answers' numbers, these, and the texts of its output and of the extension
-//! buffer; a card has such answers for making and for reading, and one that tells its dots.
+//! buffer; behind a reading stands the header that it ends with, in the form of an answer, and
+//! behind a card's making and reading its dots.
 
 use crate::cases::{Group, Sweep};
 use oracle::answer::Answer;
@@ -200,7 +201,9 @@ fn repetition(text: &[u8]) -> (usize, usize) {
             .take_while(|part| *part == front)
             .count()
     };
+    let again = |&size: &usize| size == 1 || text.get(size) == Some(&text[0]);
     (1..=LONGEST_PART.min(text.len()))
+        .filter(again)
         .map(|size| (times(size), size))
         .max_by_key(|&(times, size)| (times * size - size, usize::MAX - size))
         .expect("a text that is not empty")

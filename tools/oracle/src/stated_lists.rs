@@ -27,6 +27,9 @@ fn group(name: &'static str, operation: Operation, lists: Vec<Stated>) -> Group 
         assert_eq!(answer.accepted, stated.accepted, "{name} {k}, opening");
         assert_eq!(answer.output, stated.output, "{name} {k}, opening");
         assert_eq!(answer.stages, stated.stages, "{name} {k}");
+        if let (Some(header), Some(seen)) = (&stated.then, &answer.then) {
+            assert_eq!(seen.accepted, header.accepted, "{name} {k}, header");
+        }
         Sweep::one(input)
     };
     Group {

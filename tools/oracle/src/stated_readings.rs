@@ -22,6 +22,8 @@ struct Read {
     list: Typed,
     /// How many extension bytes the buffer holds.
     kept: usize,
+    /// The header that the session ends with, where it is stated.
+    header: Option<Vec<u64>>,
 }
 
 /// A reading in a format, lenient or strict.
@@ -36,6 +38,7 @@ fn read_with(settings: Vec<u8>, ext: usize, refusal: u64) -> Read {
         refusal,
         list: Typed::new(BUFFER),
         kept: 0,
+        header: None,
     }
 }
 
@@ -65,11 +68,19 @@ impl Read {
         self
     }
 
+    /// 1, width, height, body, FixHeader, and kind, start, length and pairs of the fields; nothing
+    /// if there is no header.
+    fn shows(mut self, header: &[u64]) -> Stated {
+        self.header = Some(header.to_vec());
+        self.stated()
+    }
+
     fn stated(self) -> Stated {
         let (stages, file) = (&self.list.stages.0, &self.list.text);
         let input = reading_input(&self.settings, MARK, self.ext, file, stages);
         let answer = Answer {
             stages: self.list.left,
+            then: self.header.map(|header| Box::new(Answer::of(&header))),
             ..Answer::of(&[self.refusal])
         };
         (input, answer)
@@ -299,16 +310,16 @@ fn fields() -> Vec<Stated> {
             .brings(b"\x01", [0, 1, 0], b"")
             .feed(b"\x80", 1, [0, 1, 1], b"\x80")
             .close([0, 1, 0])
-            .stated(),
+            .shows(&[1, 1, 1, 7, 0x80, 1, 2, 3]),
         lenient()
             .brings(b"\x00\xA0\xFF\x01\x01", [0, 5, 0], b"\xFF")
             .close([20, 5, 0])
-            .stated(),
+            .shows(&[1, 1, 1, 5, 0xA0, 2, 2, 1]),
         lenient()
             .brings(b"\x00\xC0", [0, 2, 0], b"")
             .brings(b"\x7F", [0, 1, 0], b"\x7F")
             .close([1, 3, 0])
-            .stated(),
+            .shows(&[]),
         // P5 byte by byte.
         lenient()
             .brings(b"\x00\xE0\x12", [0, 3, 0], b"\x12")
@@ -316,7 +327,7 @@ fn fields() -> Vec<Stated> {
             .brings(b"2\x09", [0, 2, 0], b"2")
             .brings(b"\x02", [0, 1, 0], b"")
             .close([20, 8, 0])
-            .stated(),
+            .shows(&[1, 9, 2, 8, 0xE0, 4, 2, 4, 1]),
         // The classes are not tested.
         lenient()
             .brings(b"\x00\xE0\x11\x80-\x01\x01", [0, 7, 0], b"\x11\x80-")
@@ -328,7 +339,7 @@ fn fields() -> Vec<Stated> {
             .brings(b"\x00\xE0\x91k", [0, 4, 0], b"\x91k")
             .brings(b"v\x01w", [11, 6, 0], b"v\x01")
             .close([11, 6, 0])
-            .stated(),
+            .shows(&[]),
         lenient()
             .brings(b"\x00\xE0\x10kv", [12, 3, 0], b"\x10")
             .close([12, 3, 0])
