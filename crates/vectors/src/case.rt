@@ -2,6 +2,7 @@
 // that it has to leave alone; a plane that is changed in place.
 use crate::answer::accepted;
 use crate::answer::both;
+use crate::card::replay_lists;
 use crate::input::least;
 use crate::list::TEXT;
 use crate::list::number;
@@ -20,8 +21,11 @@ pub struct Replayed {
     pub next: usize,
 }
 
-// Operations from 32 on are writers; 64 works in place.
+// Operations from 32 on are writers; 64 works in place; from 96 on they are lists of calls.
 pub fn replay(list: &[u8], start: usize, operation: usize, input: &[u8]) -> Replayed {
+    if operation >= 96 {
+        return replay_lists(list, start, operation, input);
+    }
     if operation >= 64 {
         return replay_in_place(list, start, input);
     }

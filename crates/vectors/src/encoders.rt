@@ -34,7 +34,7 @@ fn fields_of(input: &[u8]) -> &[u8] {
     behind(behind(input, BODY), short(input, 22))
 }
 
-fn rule_of(kind: usize, number: u8) -> Quantize {
+pub fn rule_of(kind: usize, number: u8) -> Quantize {
     match kind {
         0 => Quantize::Threshold(number),
         1 => Quantize::Dither,

@@ -53,7 +53,7 @@ pub fn put_lengths(bytes: &[u8], out: &mut [usize]) -> usize {
     count
 }
 
-fn put_length(out: &mut [usize], at: usize, length: usize) {
+pub fn put_length(out: &mut [usize], at: usize, length: usize) {
     if at < out.len() {
         out[at] = length;
     }

@@ -1,19 +1,24 @@
 // Replays the list on standard input, made by tools/oracle, and prints for each group how many
 // comparisons it made; a wrong answer prints its case.
 mod answer;
+mod card;
 mod case;
 mod encoders;
 mod files;
 mod group;
 mod input;
 mod list;
+mod making;
 mod planes;
 mod readers;
+mod reading;
 mod report;
 mod scans;
 mod settings;
+mod stages;
 mod sweep;
 mod tally;
+mod work;
 mod writers;
 
 use tally::Tally;

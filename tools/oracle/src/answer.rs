@@ -2,6 +2,7 @@
 
 use crate::error::WbmpError;
 use crate::ext::ExtFields;
+use crate::lists::Left;
 use crate::numbers::number_of;
 
 #[derive(Clone, PartialEq, Eq)]
@@ -9,16 +10,17 @@ pub struct Answer {
     /// The acceptable answers; only a lookup may have more than one. A refusal is its number
     /// and place, an acceptance is 0 and the values given; zeros at the end are left out.
     pub accepted: Vec<Vec<u64>>,
-    /// The bytes written; none by a reader or a refusal.
+    /// The bytes written; none by a reader or a refusal. Of a list the output lent to the opening.
     pub output: Vec<u8>,
+    /// What the stages of a list leave.
+    pub stages: Vec<Left>,
+    /// The answer of what follows, where a case is of several parts.
+    pub then: Option<Box<Answer>>,
 }
 
 impl Answer {
     pub fn of(numbers: &[u64]) -> Answer {
-        Answer {
-            accepted: vec![trimmed(numbers)],
-            output: Vec::new(),
-        }
+        Answer::any_of(&[numbers.to_vec()])
     }
 
     pub fn any_of(answers: &[Vec<u64>]) -> Answer {
@@ -26,6 +28,8 @@ impl Answer {
         Answer {
             accepted,
             output: Vec::new(),
+            stages: Vec::new(),
+            then: None,
         }
     }
 
@@ -33,12 +37,25 @@ impl Answer {
         Answer::of(&[number_of(error).into(), place as u64])
     }
 
+    /// How many calls a list has, the opening included. A card has two lists; what is told behind
+    /// them has no stages.
+    pub fn calls(&self) -> usize {
+        let fed: usize = self.stages.iter().map(|left| left.answers.len()).sum();
+        let list = |then: &&Box<Answer>| !then.stages.is_empty();
+        1 + fed
+            + self
+                .then
+                .as_ref()
+                .filter(list)
+                .map_or(0, |then| then.calls())
+    }
+
     /// What a writer does: the bytes written, or a refusal, whose place is 0.
     pub fn written(result: Result<(), WbmpError>, output: Vec<u8>) -> Answer {
         match result {
             Ok(()) => Answer {
-                accepted: vec![trimmed(&[0, output.len() as u64])],
-                output,
+                output: output.clone(),
+                ..Answer::of(&[0, output.len() as u64])
             },
             Err(error) => Answer::refused(&error, 0),
         }

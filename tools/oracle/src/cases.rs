@@ -1,7 +1,10 @@
 //! Groups of cases: an operation and the inputs it is tried on.
 
 use oracle::answer::Answer;
-use oracle::{encoders, files, planes, readers, replay, scans, settings, writers};
+use oracle::{
+    cards, decode_lists, encode_lists, encoders, files, planes, readers, replay, scans, settings,
+    writers,
+};
 
 #[derive(Clone, Copy)]
 pub enum Operation {
@@ -31,10 +34,13 @@ pub enum Operation {
     DecodeFrames,
     EncodeImages,
     EncodeGray,
+    MakingList,
+    ReadingList,
+    Card,
 }
 
 impl Operation {
-    /// Its number in the list; writers have 32 to 63, and what works in place 64.
+    /// Its number in the list; writers have 32 to 63, what works in place 64, lists 96 and more.
     pub fn number(self) -> u8 {
         match self {
             Operation::Integer { strict } => u8::from(strict),
@@ -63,11 +69,19 @@ impl Operation {
             Operation::EncodeImages => 44,
             Operation::EncodeGray => 45,
             Operation::ConvertFormat => 64,
+            Operation::MakingList => 96,
+            Operation::ReadingList => 97,
+            Operation::Card => 98,
         }
     }
 
     pub fn writes(self) -> bool {
         (32..64).contains(&self.number())
+    }
+
+    /// Whether its cases are lists of calls.
+    pub fn calls(self) -> bool {
+        self.number() >= 96
     }
 
     pub fn answer(self, input: &[u8]) -> Answer {
@@ -98,6 +112,9 @@ impl Operation {
             Operation::DecodeFrames => files::frames(input),
             Operation::EncodeImages => encoders::images(input),
             Operation::EncodeGray => encoders::gray(input),
+            Operation::MakingList => encode_lists::list(input),
+            Operation::ReadingList => decode_lists::list(input),
+            Operation::Card => cards::card(input),
         }
     }
 }

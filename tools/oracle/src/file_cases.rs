@@ -34,7 +34,7 @@ pub fn groups() -> Vec<Group> {
 }
 
 /// Settings with limits of the kind `which`, which may go by the size given.
-fn settings(which: u8, width: u32, height: u32) -> Vec<u8> {
+pub fn settings(which: u8, width: u32, height: u32) -> Vec<u8> {
     let plane = u64::from(width.div_ceil(8)) * u64::from(height);
     let sizes = [width.to_be_bytes(), height.to_be_bytes()].concat();
     [&[which], &sizes[..], &plane.to_be_bytes(), &[0; 6]].concat()

@@ -39,8 +39,12 @@ pub mod quantize;
 pub use error::WbmpError;
 
 pub mod answer;
+pub mod cards;
+pub mod decode_lists;
+pub mod encode_lists;
 pub mod encoders;
 pub mod files;
+pub mod lists;
 pub mod numbers;
 pub mod planes;
 pub mod readers;

@@ -9,13 +9,19 @@
 //! Case number n has the digits of n to the base of the alphabet's length, most significant
 //! first, put over the base text. An answer stands behind the number of successive cases that
 //! it answers: how many acceptable answers, each its count of numbers and the numbers, then the
-//! text written.
+//! text written. A list of calls on a session goes on with the number of its stages, and for each
+//! the number of its answers' numbers, these, and the texts of its output and of the extension
+//! buffer; behind a reading stands the header that it ends with, in the form of an answer, and
+//! behind a card's making and reading its dots.
 
 use crate::cases::{Group, Sweep};
 use oracle::answer::Answer;
+use oracle::lists::Left;
 
 /// The size of a block.
 const BLOCK: usize = 65536;
+/// The longest text that the program holds.
+const TEXT: usize = 8192;
 /// The most bytes that a part's name, operation and counts take.
 const HEAD: usize = 64;
 /// The longest part that is looked for as a repeated one.
@@ -91,7 +97,8 @@ fn put_part(block: &mut Vec<u8>, group: &Group, sweeps: &[Vec<u8>], last: bool) 
 /// A sweep of the group, in parts by its first letter where it is too long for a block.
 fn encoded(group: &Group, sweep: &Sweep) -> Vec<Vec<u8>> {
     let mut bytes = Vec::new();
-    put_sweep(&mut bytes, sweep, &answers(group, sweep));
+    let calls = group.operation.calls();
+    put_sweep(&mut bytes, sweep, &answers(group, sweep), calls);
     if bytes.len() <= BLOCK / 4 {
         return vec![bytes];
     }
@@ -105,7 +112,7 @@ pub fn answers(group: &Group, sweep: &Sweep) -> Vec<Answer> {
     inputs.map(|input| group.operation.answer(&input)).collect()
 }
 
-fn put_sweep(list: &mut Vec<u8>, sweep: &Sweep, answers: &[Answer]) {
+fn put_sweep(list: &mut Vec<u8>, sweep: &Sweep, answers: &[Answer], calls: bool) {
     put_text(list, &sweep.base);
     put_number(list, sweep.at as u64);
     put_number(list, sweep.digits as u64);
@@ -114,11 +121,11 @@ fn put_sweep(list: &mut Vec<u8>, sweep: &Sweep, answers: &[Answer]) {
     put_number(list, answers.len() as u64);
     for run in answers.chunk_by(|a, b| a == b) {
         put_number(list, run.len() as u64);
-        put_answer(list, &run[0]);
+        put_answer(list, &run[0], calls);
     }
 }
 
-fn put_answer(list: &mut Vec<u8>, answer: &Answer) {
+fn put_answer(list: &mut Vec<u8>, answer: &Answer, calls: bool) {
     put_number(list, answer.accepted.len() as u64);
     for numbers in &answer.accepted {
         put_number(list, numbers.len() as u64);
@@ -127,6 +134,23 @@ fn put_answer(list: &mut Vec<u8>, answer: &Answer) {
         }
     }
     put_text(list, &answer.output);
+    if calls {
+        put_stages(list, &answer.stages);
+    }
+    if let Some(then) = &answer.then {
+        put_answer(list, then, calls);
+    }
+}
+
+fn put_stages(list: &mut Vec<u8>, stages: &[Left]) {
+    put_number(list, stages.len() as u64);
+    for stage in stages {
+        let numbers = stage.answers.concat();
+        put_number(list, numbers.len() as u64);
+        numbers.iter().for_each(|&number| put_number(list, number));
+        put_text(list, &stage.out);
+        put_text(list, &stage.buffer);
+    }
 }
 
 fn put_number(list: &mut Vec<u8>, number: u64) {
@@ -135,6 +159,7 @@ fn put_number(list: &mut Vec<u8>, number: u64) {
 }
 
 fn put_text(list: &mut Vec<u8>, text: &[u8]) {
+    assert!(text.len() <= TEXT, "a text of {} bytes", text.len());
     let parts = parts_of(text);
     put_number(list, parts.len() as u64);
     for (times, part) in parts {
@@ -176,7 +201,9 @@ fn repetition(text: &[u8]) -> (usize, usize) {
             .take_while(|part| *part == front)
             .count()
     };
+    let again = |&size: &usize| size == 1 || text.get(size) == Some(&text[0]);
     (1..=LONGEST_PART.min(text.len()))
+        .filter(again)
         .map(|size| (times(size), size))
         .max_by_key(|&(times, size)| (times * size - size, usize::MAX - size))
         .expect("a text that is not empty")

@@ -2,17 +2,26 @@
 
 mod api_cases;
 mod cases;
+mod cut_lists;
 mod encoder_cases;
 mod ext_cases;
 mod file_cases;
 mod header_cases;
 mod list;
+mod list_cases;
 mod mbi_cases;
 mod plane_cases;
+mod random_cards;
 mod random_cases;
+mod random_lists;
+mod random_makings;
+mod random_readings;
 mod scan_cases;
 mod settings_cases;
 mod stated_cases;
+mod stated_lists;
+mod stated_makings;
+mod stated_readings;
 mod writer_cases;
 
 use cases::Group;
@@ -31,7 +40,11 @@ fn main() {
             random_cases::groups(number(seed), number(cases) as usize),
             [list, counts],
         ),
-        _ => panic!("usage: generate LIST COUNTS [SEED CASES]"),
+        [_, list, counts, seed, lists, cards] => (
+            sessions(number(seed), number(lists) as usize, number(cards) as usize),
+            [list, counts],
+        ),
+        _ => panic!("usage: generate LIST COUNTS [SEED CASES] or LIST COUNTS SEED LISTS CARDS"),
     };
     let mut list = List::new(LINE);
     groups.iter().for_each(|group| list.put_group(group));
@@ -57,8 +70,20 @@ fn fixed() -> Vec<Group> {
         api_cases::groups(),
         encoder_cases::groups(),
         stated_cases::groups(),
+        cut_lists::groups(false),
+        random_lists::groups(1, 250, 50),
+        stated_lists::groups(),
     ]
     .concat()
+}
+
+/// Random lists of calls on sessions and random cards; without them every cut of short files and
+/// scans.
+fn sessions(seed: u64, lists: usize, cards: usize) -> Vec<Group> {
+    match lists + cards {
+        0 => cut_lists::groups(true),
+        _ => random_lists::groups(seed, lists, cards),
+    }
 }
 
 /// A line for each group, its name and its number of comparisons, and one for all.
@@ -74,18 +99,17 @@ fn counts(groups: &[Group]) -> String {
 
 /// One comparison for a reader's case and for one in place; for a writer's, three where it
 /// accepts (the output exactly long enough, longer and too short) and two where it refuses (no
-/// output and some).
+/// output and some); for a list one for each call, the opening included.
 fn comparisons(group: &Group) -> usize {
     let answers = group
         .sweeps
         .iter()
         .flat_map(|sweep| list::answers(group, sweep));
-    let each = answers.map(
-        |answer| match (group.operation.writes(), answer.output.is_empty()) {
-            (false, _) => 1,
-            (true, false) => 3,
-            (true, true) => 2,
-        },
-    );
+    let each = answers.map(|answer| match group.operation {
+        _ if group.operation.calls() => answer.calls(),
+        _ if !group.operation.writes() => 1,
+        _ if answer.output.is_empty() => 2,
+        _ => 3,
+    });
     each.sum()
 }

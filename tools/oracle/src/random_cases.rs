@@ -5,7 +5,7 @@ use crate::encoder_cases::{Front, fields};
 
 /// Two groups of so many cases each.
 pub fn groups(seed: u64, cases: usize) -> Vec<Group> {
-    let mut random = Random(seed.wrapping_mul(2).wrapping_add(1));
+    let mut random = Random::new(seed);
     let images = (0..cases).map(|_| image(&mut random)).collect();
     let scans = (0..cases).map(|_| scan(&mut random)).collect();
     let group = |name, operation, inputs: Vec<Vec<u8>>| Group {
@@ -20,10 +20,14 @@ pub fn groups(seed: u64, cases: usize) -> Vec<Group> {
 }
 
 /// Marsaglia's xorshift, its state never 0.
-struct Random(u64);
+pub struct Random(u64);
 
 impl Random {
-    fn next(&mut self) -> u64 {
+    pub fn new(seed: u64) -> Random {
+        Random(seed.wrapping_mul(2).wrapping_add(1))
+    }
+
+    pub fn next(&mut self) -> u64 {
         self.0 ^= self.0 << 13;
         self.0 ^= self.0 >> 7;
         self.0 ^= self.0 << 17;
@@ -31,21 +35,21 @@ impl Random {
     }
 
     /// A number below `n`.
-    fn below(&mut self, n: u64) -> u64 {
+    pub fn below(&mut self, n: u64) -> u64 {
         self.next() % n
     }
 
     /// One time of `n`.
-    fn once_in(&mut self, n: u64) -> bool {
+    pub fn once_in(&mut self, n: u64) -> bool {
         self.below(n) == 0
     }
 
-    fn one_of<T: Copy>(&mut self, choice: &[T]) -> T {
+    pub fn one_of<T: Copy>(&mut self, choice: &[T]) -> T {
         choice[self.below(choice.len() as u64) as usize]
     }
 
     /// Noise, or a flat or two-valued stretch.
-    fn bytes(&mut self, len: usize) -> Vec<u8> {
+    pub fn bytes(&mut self, len: usize) -> Vec<u8> {
         let few = [self.next() as u8, self.next() as u8];
         match self.below(4) {
             0 => (0..len).map(|_| self.one_of(&few)).collect(),
@@ -55,7 +59,7 @@ impl Random {
     }
 
     /// Mostly none or good ones.
-    fn fields(&mut self) -> Vec<u8> {
+    pub fn fields(&mut self) -> Vec<u8> {
         let choice = fields();
         let kind = match self.below(8) {
             0 => self.below(choice.len() as u64),

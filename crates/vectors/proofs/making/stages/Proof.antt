@@ -1,0 +1,60 @@
+-- `vectors::making::stages` is safe and ends. The measure is what is left to count; `work` and `out` keep their lengths.
+use borrow.Author.Needs.{needs}
+use Prim.Native.Nat.{_-_}
+use mathlib.Core.Path.{_≡_}
+use lib.ListN.{length}
+use Rattle.vectors.proofs.making.stages.Statement.{statement}
+use Rattle.vectors.proofs.making.stages.Tie as tie
+
+abbrev Inv-loop : tie.InvT-loop
+Inv-loop list input work₀ out₀ count making₀ i₀ work out making i = (length work ≡ length work₀) × (length out ≡ length out₀)
+
+abbrev μ-loop : tie.MeasureT-loop
+μ-loop list input work₀ out₀ count making₀ i₀ work out making i = count - i
+
+number-requires : tie.Need-number-requires Inv-loop μ-loop
+number-requires c κs = search needs
+
+from-stages-requires : tie.Need-from-stages-requires Inv-loop μ-loop
+from-stages-requires c κs = search needs
+
+loop-holds : tie.Need-loop-holds Inv-loop μ-loop
+loop-holds c = search needs
+
+stage-requires : tie.Need-stage-requires Inv-loop μ-loop
+stage-requires c κs = search needs
+
+add-i : tie.Need-add-i Inv-loop μ-loop
+add-i c = search needs
+
+loop-less : tie.Need-loop-less Inv-loop μ-loop
+loop-less c = search needs
+
+loop-again : tie.Need-loop-again Inv-loop μ-loop
+loop-again c = search needs
+
+same-length : tie.Need-same-length Inv-loop μ-loop
+same-length c = search needs
+
+same-length-2 : tie.Need-same-length-2 Inv-loop μ-loop
+same-length-2 c = search needs
+
+returns : tie.Need-returns Inv-loop μ-loop
+returns c = search needs
+
+pub stages-spec : {M : Type 1} → statement M
+stages-spec =
+    tie.close
+    (tie.spec
+    Inv-loop
+    μ-loop
+    number-requires
+    from-stages-requires
+    loop-holds
+    stage-requires
+    add-i
+    loop-less
+    loop-again
+    same-length
+    same-length-2
+    returns)
