@@ -35,7 +35,15 @@ fn make_card(
     ensures { λ r. ⌜ MakesCard (opening options width height [] []) (now (samples .entry)) (now (work .entry)) (now (head .entry)) (now (out .entry)) r (now (work .exit)) (now (head .exit)) (now (out .exit)) ⌝ }
 {
     let lengths = [0usize; 0];
-    let opened = EncodeSession::open(width, height, options, b"", &lengths, &work[..], head);
+    let opened = EncodeSession::open_lengths(
+        width,
+        height,
+        options,
+        b"",
+        &lengths,
+        &work[..],
+        head,
+    );
     let header = opened.answer;
     let begun = opened.session;
     let fed = begun.feed(samples, work, out);

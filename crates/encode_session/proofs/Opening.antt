@@ -9,10 +9,13 @@ use native.Mathlib.Omega.{arith}
 use borrow.Author.Tests.{le-leb, ne-eqb, eqb-false}
 use lib.Dec.{eqb}
 use lib.IntN.{ℤ}
+use lib.ListN.{length}
 use Rattle.error.specs.Choice.{if}
 use Rattle.error.specs.Answer.{Answer, gives, refuses, written}
 use Rattle.error.specs.Emits.{Emits, emitted}
 use Rattle.error.specs.declared.Written.{Written}
+use Rattle.ext.specs.Left.{Left, none-left}
+use Rattle.ext.specs.declared.PairsBegun.{PairsBegun}
 use Rattle.laws.proofs.Tests.{zero-one}
 use Rattle.header.specs.Write.{extHeader}
 use Rattle.options.specs.declared.Quantize.{Quantize}
@@ -85,16 +88,20 @@ module _ (a : Opening) (work : ℕ) where
       go false false true true e1 e2 e3 e4 z =
           record { given = given; wide = omega (arith, eqb-false (a .width) 0 e1); high = omega (arith, eqb-false (a .height) 0 e2); known = e3; served = e4; headed = z }
 
-  -- a refusal by the tests
-  pub emits-no : (code : ℕ) → header a work ≡ refuses code 0 → (r : Answer ℕ) → r ≡ refuses code 0 → (out : List ℕ)
-      → Emits (header a work) r out out
-  emits-no code e r f out =
-      subst (λ (x : Answer ℕ). Emits (header a work) x out out) (sym f)
-      (subst (λ (x : Answer (List ℕ)). Emits x (refuses code 0) out out) (sym e) (record { answer = refl; bytes = refl }))
+  -- a refusal by the tests leaves no pairs to put
+  pub left-no : (code : ℕ) → header a work ≡ refuses code 0 → (b : PairsBegun) (out : List ℕ) → (b .to ≡ length out) × (written (b .answer) ≡ refuses code 0)
+      → Left (a .options .strict) (a .text) (a .lengths) out b (Emits (header a work) (written (b .answer)) out)
+  left-no code e b out f =
+      none-left (f .0)
+      (subst (λ (x : Answer ℕ). Emits (header a work) x out out) (sym (f .1))
+      (subst (λ (x : Answer (List ℕ)). Emits x (refuses code 0) out out) (sym e) (record { answer = refl; bytes = refl })))
 
   -- the header's own answer
-  pub emits-as : header a work ≡ fields → (r : Answer ℕ) (old new : List ℕ) → Emits fields r old new → Emits (header a work) r old new
-  emits-as e r old new h = subst (λ (x : Answer (List ℕ)). Emits x r old new) (sym e) h
+  pub left-as : header a work ≡ fields → (b : PairsBegun) (old new : List ℕ)
+      → Left (a .options .strict) (a .text) (a .lengths) new b (Emits fields (written (b .answer)) old)
+      → Left (a .options .strict) (a .text) (a .lengths) new b (Emits (header a work) (written (b .answer)) old)
+  left-as e b old new h =
+      subst (λ (x : Answer (List ℕ)). Left (a .options .strict) (a .text) (a .lengths) new b (Emits x (written (b .answer)) old)) (sym e) h
 
   pub opens : (q : Quantizer) (live : Bool) (r : Written) (old new : List ℕ)
       → QOpens (a .options .quantize) (a .width) (a .height) 16 q → live ≡ isGiven (written r) → Emits (header a work) (written r) old new

@@ -8,8 +8,13 @@ use lib.ListN.{length}
 use Rattle.error.specs.Answer.{Answer, gives, refuses, refusal, written as meantWritten}
 use Rattle.error.specs.Emits.{Emits}
 use Rattle.error.specs.declared.Checked.{Checked}
+use Rattle.error.specs.declared.Written.{Written}
+use Rattle.ext.specs.Left.{Left, ChecksPairs}
+use Rattle.ext.specs.declared.FieldsCheck.{FieldsCheck}
+use Rattle.ext.specs.declared.PairsBegun.{PairsBegun}
+use Rattle.options.specs.declared.EncodeOptions.{EncodeOptions}
 use Rattle.quantize.specs.Engine.{Runs, Stands as QStands, Holds as QHolds}
-use Rattle.encode_session.specs.Model.{Opening, settingOf, header, Model, opened, framesDone, shut, feed, close, Told, took, closed, outcome}
+use Rattle.encode_session.specs.Model.{Opening, opening, settingOf, header, Model, opened, framesDone, shut, feed, close, Told, took, closed, outcome}
 use Rattle.encode_session.specs.declared.EncodeSession.{EncodeSession}
 use Rattle.encode_session.specs.declared.EncodeOpened.{EncodeOpened}
 use Rattle.encode_session.specs.declared.EncodeFeed.{EncodeFeed}
@@ -56,6 +61,18 @@ pub record Opens (a : Opening) (work : ℕ) (r : EncodeOpened) (old new : List �
   pub emits : Emits (header a work) (meantWritten (r .answer)) old new
   pub holds : (n : ℕ) → meantWritten (r .answer) ≡ gives n → (any : List ℤ) → Holds (r .session) any (opened a)
   pub refused : (code place : ℕ) → meantWritten (r .answer) ≡ refuses code place → (any : List ℤ) → Holds (r .session) any (shut (opened a))
+
+-- Opening begun: all but the pairs of the header is written, and what is left of them is named. `found` is the answer of the pairs' check.
+abbrev pub BeginsOpening : EncodeOptions → ℕ → ℕ → List ℕ → FieldsCheck → ℕ → List ℕ → List ℕ → PairsBegun → Type 0
+BeginsOpening o width height text found work old new b =
+    (lengths : List ℕ) → ChecksPairs (o .strict) text lengths found
+    → Left (o .strict) text lengths new b (Emits (header (opening o width height text lengths) work) (meantWritten (b .answer)) old)
+
+-- What opening hands back, by its answer: where that is a header's, it is an opening.
+abbrev pub OpensBy : EncodeOptions → ℕ → ℕ → Written → EncodeOpened → Type 0
+OpensBy o width height answer r =
+    (text lengths : List ℕ) (work : ℕ) (old new : List ℕ) → Emits (header (opening o width height text lengths) work) (meantWritten answer) old new
+    → Opens (opening o width height text lengths) work r old new
 
 -- Feeding. Answers and counts are the model's whatever the work buffer holds; the bytes are too where it is as the last call left it. What
 -- the engine does with other numbers is its own contract, `Runs`: one outside -128..128 counts as the nearer end.

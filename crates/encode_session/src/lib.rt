@@ -7,6 +7,9 @@ use error::UNKNOWN_SETTING;
 use error::WbmpError;
 use error::Written;
 use error::ZERO_DIMENSION;
+use ext::FieldsCheck;
+use ext::PairsBegun;
+use ext::Parameter;
 use options::EncodeOptions;
 use options::Quantize;
 use quantize::Quantizer;
@@ -15,11 +18,11 @@ ghost use mathlib.Core.Path.{_≡_};
 ghost use mathlib.Core.Bool.{true};
 ghost use lib.ListN.{length};
 ghost use Rattle.error.specs.Answer.{refuses, written};
-ghost use Rattle.error.specs.Emits.{Emits};
+ghost use Rattle.ext.specs.Write.{flattened};
 ghost use Rattle.options.specs.declared.Quantize.{Quantize};
 ghost use Rattle.quantize.specs.Engine.{meaning, roomy};
-ghost use Rattle.encode_session.specs.Model.{opening, header};
-ghost use Rattle.encode_session.specs.Session.{isGiven, refusedFed, refusedClosed, Opens, Feeds, Closes, TellsClosed, TellsFrames};
+ghost use Rattle.encode_session.specs.Model.{opening};
+ghost use Rattle.encode_session.specs.Session.{isGiven, refusedFed, refusedClosed, BeginsOpening, OpensBy, Opens, Feeds, Closes, TellsClosed, TellsFrames};
 
 // The main image and at most 15 that follow it.
 const MAX_FRAMES: u32 = 16;
@@ -31,7 +34,7 @@ pub fn work_numbers(width: u32) -> usize
     2 * (width as usize)
 }
 
-// An opened session; only `open` makes one.
+// An opened session; only `open` and `open_lengths` make one.
 pub struct EncodeSession {
     quantizer: Quantizer,
     live: bool,
@@ -61,12 +64,6 @@ pub struct EncodeClosed {
 }
 
 // Refusals, place 0; a refused call hands the session back as it was.
-fn refused(code: u8) -> Written
-    ensures { λ r. ⌜ written r ≡ refuses code 0 ⌝ }
-{
-    Written::Refused(WbmpError { code, offset: 0 })
-}
-
 fn unfed(session: EncodeSession, code: u8) -> EncodeFed
     ensures { λ r. ⌜ r ≡ refusedFed session code ⌝ }
 {
@@ -85,33 +82,43 @@ fn unclosed(session: EncodeSession, code: u8) -> EncodeClosed
     }
 }
 
-// The header at the front of the lent output, if the rule and so many numbers of work serve.
-fn write_opening(
+// A refusal, where no pairs are left to put in an output of so many bytes.
+fn unopened(to: usize, code: u8) -> PairsBegun
+    ensures { λ r. ⌜ (r .to ≡ to) × (written (r .answer) ≡ refuses code 0) ⌝ }
+{
+    PairsBegun {
+        to,
+        answer: Written::Refused(WbmpError { code, offset: 0 }),
+    }
+}
+
+// The header at the front of the lent output, up to its pairs, which were checked before, if the rule and so many numbers of work serve.
+fn begin_opening(
     width: u32,
     height: u32,
     options: EncodeOptions,
     text: &[u8],
-    lengths: &[usize],
+    found: FieldsCheck,
     work: usize,
     out: &mut [u8],
-) -> Written
-    ensures { λ r. ⌜ Emits (header (opening options width height (now (text .entry)) (now (lengths .entry))) work) (written r) (now (out .entry)) (now (out .exit)) ⌝ }
+) -> PairsBegun
+    ensures { λ r. ⌜ BeginsOpening options width height (now (text .entry)) found work (now (out .entry)) (now (out .exit)) r ⌝ }
 {
     if width == 0 {
-        return refused(ZERO_DIMENSION);
+        return unopened(out.len(), ZERO_DIMENSION);
     }
     if height == 0 {
-        return refused(ZERO_DIMENSION);
+        return unopened(out.len(), ZERO_DIMENSION);
     }
     let rule = options.quantize;
     if !quantize::known_rule(rule) {
-        return refused(UNKNOWN_SETTING);
+        return unopened(out.len(), UNKNOWN_SETTING);
     }
     if !quantize::roomy(rule, width, work) {
-        return refused(BUFFER_TOO_SHORT);
+        return unopened(out.len(), BUFFER_TOO_SHORT);
     }
     let ext = options.ext;
-    header::write_header_ext_lengths(width, height, ext, text, lengths, options.strict, out)
+    header::begin_header(width, height, ext, text, found, out)
 }
 
 fn is_given(answer: Written) -> bool
@@ -123,9 +130,43 @@ fn is_given(answer: Written) -> bool
     }
 }
 
+// What opening hands back, by what it answers: the session is open where the answer is bytes.
+fn opened(width: u32, height: u32, options: EncodeOptions, answer: Written) -> EncodeOpened
+    ensures { λ r. ⌜ OpensBy options width height answer r ⌝ }
+{
+    let rule = options.quantize;
+    let quantizer = Quantizer::new(rule, width, height, MAX_FRAMES);
+    let live = is_given(answer);
+    EncodeOpened {
+        session: EncodeSession {
+            quantizer: quantizer,
+            live: live,
+        },
+        answer: answer,
+    }
+}
+
 impl EncodeSession {
-    // Writes the header. The work buffer is only measured; feeding calls are lent it again.
+    // Writes the header, whose pairs are lent as records. The work buffer is only measured; feeding calls are lent it again.
     pub fn open(
+        width: u32,
+        height: u32,
+        options: EncodeOptions,
+        text: &[u8],
+        parameters: &[Parameter],
+        work: &[i16],
+        out: &mut [u8],
+    ) -> EncodeOpened
+        ensures { λ r. ⌜ Opens (opening options width height (now (text .entry)) (flattened (now (parameters .entry)))) (length (now (work .entry))) r (now (out .entry)) (now (out .exit)) ⌝ }
+    {
+        let found = ext::check_parameters(text, parameters, options.strict);
+        let begun = begin_opening(width, height, options, text, found, work.len(), &mut *out);
+        let answer = ext::put_parameters(text, parameters, begun, out);
+        opened(width, height, options, answer)
+    }
+
+    // The same, with the lengths of the pairs lent as numbers.
+    pub fn open_lengths(
         width: u32,
         height: u32,
         options: EncodeOptions,
@@ -136,17 +177,10 @@ impl EncodeSession {
     ) -> EncodeOpened
         ensures { λ r. ⌜ Opens (opening options width height (now (text .entry)) (now (lengths .entry))) (length (now (work .entry))) r (now (out .entry)) (now (out .exit)) ⌝ }
     {
-        let rule = options.quantize;
-        let quantizer = Quantizer::new(rule, width, height, MAX_FRAMES);
-        let answer = write_opening(width, height, options, text, lengths, work.len(), out);
-        let live = is_given(answer);
-        EncodeOpened {
-            session: EncodeSession {
-                quantizer: quantizer,
-                live: live,
-            },
-            answer: answer,
-        }
+        let found = ext::check_lengths(text, lengths, options.strict);
+        let begun = begin_opening(width, height, options, text, found, work.len(), &mut *out);
+        let answer = ext::put_lengths(text, lengths, begun, out);
+        opened(width, height, options, answer)
     }
 
     // Takes the most samples whose finished bytes fit the lent output, none past 16 frames.

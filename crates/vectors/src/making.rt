@@ -132,7 +132,7 @@ fn open_with(
     let end = least(short(input, 14), out.len());
     let width = long(input, 2);
     let height = long(input, 6);
-    EncodeSession::open(
+    EncodeSession::open_lengths(
         width,
         height,
         options,
