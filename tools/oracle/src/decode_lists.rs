@@ -98,15 +98,15 @@ impl Reading {
         }
     }
 
-    /// Takes the most bytes whose plane bytes fit the output.
+    /// Takes the most bytes whose plane bytes fit the output. Plane bytes only grow with the bytes,
+    /// so the counts that fit come first.
     fn take(&mut self, all: &[u8], out: usize) -> Fed {
         let before = self.taken.len();
-        let most = (before..=all.len()).rev().find(|&n| {
-            let plane_bytes = self.plane_bytes(&all[..n]) - self.plane_bytes(&self.taken);
-            plane_bytes <= out
-        });
-        let now = &all[..most.expect("no byte fits")];
-        let written = self.planes(now)[self.plane_bytes(&self.taken)..].to_vec();
+        let written = self.plane_bytes(&self.taken);
+        let counts: Vec<usize> = (before..=all.len()).collect();
+        let fit = counts.partition_point(|&n| self.plane_bytes(&all[..n]) - written <= out);
+        let now = &all[..counts[fit - 1]];
+        let written = self.planes(now)[written..].to_vec();
         let extension = self.extension(now);
         self.taken = now.to_vec();
         Fed {
