@@ -1,12 +1,14 @@
 //! Times the Rust and this codec in one run, on the same buffers: medians of interleaved rounds.
 //! Whole reading in both formats with memcpy of the file beside it, sniffing, info, threshold
 //! and dithering, for random, gradient and line art. The last size has rows with padding.
+//! Then sessions in pieces against whole calls; with the argument `sessions` these alone.
 
 #[path = "../capi.rs"]
 mod capi;
 mod kernels;
 mod pictures;
 mod rounds;
+mod sessions;
 
 use capi::{Asked, Image, Info};
 use oracle::calls;
@@ -19,6 +21,13 @@ use std::hint::black_box;
 const SIZES: [(u32, u32); 3] = [(128, 64), (1024, 1024), (1021, 1024)];
 
 fn main() {
+    if std::env::args().nth(1).as_deref() != Some("sessions") {
+        whole_calls();
+    }
+    sessions::lines();
+}
+
+fn whole_calls() {
     println!(
         "{:<13} {:>9} {:<8} {:>10} {:>10} {:>6} {:>9}",
         "call", "size", "picture", "Rust ns", "ours ns", "ratio", "memcpy ns"
