@@ -5,4 +5,5 @@ pub mod Begin
 pub mod Machine
 pub mod Represents
 pub mod Phase
+pub mod Run
 pub mod Pieces
