@@ -33,8 +33,7 @@ pub extern "C" fn bench_read_pieces(
     read_pieces(session, size, file, out, ext)
 }
 
-fn rule(dithered: bool) -> Quantize
-{
+fn rule(dithered: bool) -> Quantize {
     if dithered {
         Quantize::Dither
     } else {
@@ -82,8 +81,7 @@ pub extern "C" fn bench_make(
     dithered: bool,
     work: &mut [i16],
     out: &mut [u8],
-) -> usize
-{
+) -> usize {
     let options = EncodeOptions::new().with_quantize(rule(dithered));
     let text = [0u8; 1];
     let lengths = [0usize; 1];

@@ -4,6 +4,7 @@ pub mod Grown
 pub mod Places
 pub mod Stored
 pub mod Going
+pub mod Running
 pub mod BodyBytes
 pub mod Fitting
 pub mod Headers
