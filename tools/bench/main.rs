@@ -73,22 +73,27 @@ fn pair(rust: &mut dyn FnMut(), ours: &mut dyn FnMut()) -> Times {
     Times { rust, ours, copy }
 }
 
-/// A buffer of `len` bytes that starts elsewhere in a page each time, so that the times do not
-/// hang on one placement.
+/// A buffer of `len` bytes that starts `step` bytes on in a page each time, so that the times do
+/// not hang on one placement.
 struct Lent {
     bytes: Vec<u8>,
     len: usize,
+    step: usize,
     at: usize,
 }
 
 impl Lent {
-    fn new(len: usize) -> Lent {
-        let bytes = vec![0; len + 4096];
-        Lent { bytes, len, at: 0 }
+    fn new(len: usize, step: usize) -> Lent {
+        Lent {
+            bytes: vec![0; len + 4096],
+            len,
+            step,
+            at: 0,
+        }
     }
 
     fn next(&mut self) -> &mut [u8] {
-        self.at = (self.at + 64) % 4096;
+        self.at = (self.at + self.step) % 4096;
         &mut self.bytes[self.at..self.at + self.len]
     }
 
@@ -109,8 +114,8 @@ fn read(file: &[u8], format: u32) -> Times {
     };
     let options = DecodeOptions::new().with_format([MonoBlack, MonoWhite][format as usize]);
     let decoded = || calls::decode_frames(black_box(file), &options).expect("a good file");
-    let mut out = Lent::new(file.len());
-    let mut copied = Lent::new(file.len());
+    let mut out = Lent::new(file.len(), 64);
+    let mut copied = Lent::new(file.len(), 64);
     let mut image = Image {
         width: 0,
         height: 0,

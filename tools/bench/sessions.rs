@@ -1,6 +1,8 @@
 //! Times sessions in pieces against whole calls on the same buffers: reading in both formats,
-//! threshold and dithering, and long extension fields of both kinds.
+//! threshold and dithering, and long extension fields of both kinds. The pieces of a session's
+//! output start anywhere in a word, so the buffers of both sides do.
 
+use crate::Lent;
 use crate::capi::{self, Asked, Image};
 use crate::kernels;
 use crate::pictures::{file_of, gray_of};
@@ -28,8 +30,16 @@ pub fn lines() {
             line("read native", file.len(), read(&file, 0, piece));
             line("read inverted", file.len(), read(&file, 1, piece));
             let plane = file.len() - header_of(width, height);
-            line("threshold", gray.len(), made(width, height, &gray, false, piece, plane));
-            line("dither", gray.len(), made(width, height, &gray, true, piece, plane));
+            line(
+                "threshold",
+                gray.len(),
+                made(width, height, &gray, false, piece, plane),
+            );
+            line(
+                "dither",
+                gray.len(),
+                made(width, height, &gray, true, piece, plane),
+            );
         }
     }
     let (width, height) = SMALL;
@@ -37,9 +47,19 @@ pub fn lines() {
     let file = file_of("gradient", width, height, &gray);
     told("read native", "128x64", 1, file.len(), read(&file, 0, 1));
     told("read inverted", "128x64", 1, file.len(), read(&file, 1, 1));
-    for (name, file) in [("octets", octets()), ("pairs", pairs()), ("wide pairs", wide_pairs())] {
+    for (name, file) in [
+        ("octets", octets()),
+        ("pairs", pairs()),
+        ("wide pairs", wide_pairs()),
+    ] {
         for piece in [256, 4096, 65536] {
-            told(name, "8x1", piece, file.len().div_ceil(piece), read(&file, 0, piece));
+            told(
+                name,
+                "8x1",
+                piece,
+                file.len().div_ceil(piece),
+                read(&file, 0, piece),
+            );
         }
     }
 }
@@ -47,12 +67,17 @@ pub fn lines() {
 fn told(call: &str, size: &str, piece: usize, calls: usize, times: [f64; 2]) {
     let [whole, session] = times;
     let (ratio, each) = (session / whole, session / calls as f64);
-    println!("{call:<18} {size:>9} {piece:>6} {whole:>10.0} {session:>10.0} {ratio:>6.2} {each:>8.1}");
+    println!(
+        "{call:<18} {size:>9} {piece:>6} {whole:>10.0} {session:>10.0} {ratio:>6.2} {each:>8.1}"
+    );
 }
 
 /// How many bytes the header of a file without fields has.
 fn header_of(width: u32, height: u32) -> usize {
-    2 + [width, height].map(|n| if n < 128 { 1 } else { 2 }).iter().sum::<usize>()
+    2 + [width, height]
+        .map(|n| if n < 128 { 1 } else { 2 })
+        .iter()
+        .sum::<usize>()
 }
 
 /// Fields of 4,096 octets, the most that are read, before a frame of one byte.
@@ -103,32 +128,63 @@ fn read(file: &[u8], format: u32, piece: usize) -> [f64; 2] {
         frames: 0,
         written: 0,
     };
-    let mut whole = vec![0; file.len()];
-    let mut out = vec![0; file.len()];
+    let mut whole = Lent::new(file.len(), 17);
+    let mut out = Lent::new(file.len(), 17);
     let mut ext = vec![0; 4118];
     let mut written = 0;
     let times = medians([
-        &mut || assert_eq!(capi::read(black_box(file), &asked, &mut whole, &mut image), 0),
-        &mut || written = kernels::read_pieces(black_box(file), format == 1, piece, &mut out, &mut ext),
+        &mut || {
+            assert_eq!(
+                capi::read(black_box(file), &asked, whole.next(), &mut image),
+                0
+            )
+        },
+        &mut || {
+            let inverted = format == 1;
+            written = kernels::read_pieces(black_box(file), inverted, piece, out.next(), &mut ext);
+        },
     ]);
-    assert!(whole[..image.written] == out[..written], "reading differs");
+    assert!(
+        whole.last()[..image.written] == out.last()[..written],
+        "reading differs"
+    );
     times
 }
 
 /// Whole making, and the same scan by a session.
-fn made(width: u32, height: u32, gray: &[u8], dithered: bool, piece: usize, plane: usize) -> [f64; 2] {
+fn made(
+    width: u32,
+    height: u32,
+    gray: &[u8],
+    dithered: bool,
+    piece: usize,
+    plane: usize,
+) -> [f64; 2] {
     let mut whole = vec![0; plane + 32];
     let mut out = vec![0; plane];
     let mut work = vec![0; 2 * width as usize];
     let mut other = vec![0; 2 * width as usize];
     let (mut length, mut written) = (0, 0);
     let times = medians([
-        &mut || length = kernels::make(width, height, black_box(gray), dithered, &mut work, &mut whole),
+        &mut || {
+            length = kernels::make(
+                width,
+                height,
+                black_box(gray),
+                dithered,
+                &mut work,
+                &mut whole,
+            )
+        },
         &mut || {
             let gray = black_box(gray);
-            written = kernels::make_pieces(width, height, gray, dithered, piece, &mut other, &mut out);
+            written =
+                kernels::make_pieces(width, height, gray, dithered, piece, &mut other, &mut out);
         },
     ]);
-    assert!(whole[length - plane..length] == out[..written], "making differs");
+    assert!(
+        whole[length - plane..length] == out[..written],
+        "making differs"
+    );
     times
 }

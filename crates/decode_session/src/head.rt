@@ -1,4 +1,5 @@
-// The header's part of a piece: its bytes go to the header's reader, one by one or in runs, and those of extension fields to the lent buffer too.
+// The header's part of a piece: its bytes go to the header's reader, one by one or in runs, and those of extension fields to the lent buffer
+// too.
 use error::WbmpError;
 use header::HeaderReader;
 use header::HeaderStep;
@@ -101,8 +102,8 @@ fn run_on(reader: HeaderReader, kept: usize, from: usize, piece: &[u8], ext: &mu
     }
 }
 
-// Feeds a piece to the header's reader, up to the header's last byte or a refusal. `at` bytes came before the piece, and `kept` extension bytes
-// among them.
+// Feeds a piece to the header's reader, up to the header's last byte or a refusal. `at` bytes came before the piece, and `kept` extension
+// bytes among them.
 pub(crate) fn feed_header(
     reader: HeaderReader,
     at: usize,

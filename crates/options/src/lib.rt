@@ -15,7 +15,7 @@ ghost use Rattle.options.specs.Settings;
 
 pub mod limits;
 
-// A limit is absent, or the largest number that it admits. `set` is 0 or 1: a whole word, so that a copy of the settings has no padding in it.
+// A limit is absent, or the largest number that it admits. `set` is 0 or 1, a whole word: so no copy of the settings carries padding.
 pub struct Limit {
     set: u64,
     most: u64,
