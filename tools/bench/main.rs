@@ -1,12 +1,14 @@
 //! Times the Rust and this codec in one run, on the same buffers: medians of interleaved rounds.
 //! Whole reading in both formats with memcpy of the file beside it, sniffing, info, threshold
 //! and dithering, for random, gradient and line art. The last size has rows with padding.
+//! Then sessions in pieces against whole calls; with the argument `sessions` these alone.
 
 #[path = "../capi.rs"]
 mod capi;
 mod kernels;
 mod pictures;
 mod rounds;
+mod sessions;
 
 use capi::{Asked, Image, Info};
 use oracle::calls;
@@ -19,6 +21,13 @@ use std::hint::black_box;
 const SIZES: [(u32, u32); 3] = [(128, 64), (1024, 1024), (1021, 1024)];
 
 fn main() {
+    if std::env::args().nth(1).as_deref() != Some("sessions") {
+        whole_calls();
+    }
+    sessions::lines();
+}
+
+fn whole_calls() {
     println!(
         "{:<13} {:>9} {:<8} {:>10} {:>10} {:>6} {:>9}",
         "call", "size", "picture", "Rust ns", "ours ns", "ratio", "memcpy ns"
@@ -64,22 +73,27 @@ fn pair(rust: &mut dyn FnMut(), ours: &mut dyn FnMut()) -> Times {
     Times { rust, ours, copy }
 }
 
-/// A buffer of `len` bytes that starts elsewhere in a page each time, so that the times do not
-/// hang on one placement.
+/// A buffer of `len` bytes that starts `step` bytes on in a page each time, so that the times do
+/// not hang on one placement.
 struct Lent {
     bytes: Vec<u8>,
     len: usize,
+    step: usize,
     at: usize,
 }
 
 impl Lent {
-    fn new(len: usize) -> Lent {
-        let bytes = vec![0; len + 4096];
-        Lent { bytes, len, at: 0 }
+    fn new(len: usize, step: usize) -> Lent {
+        Lent {
+            bytes: vec![0; len + 4096],
+            len,
+            step,
+            at: 0,
+        }
     }
 
     fn next(&mut self) -> &mut [u8] {
-        self.at = (self.at + 64) % 4096;
+        self.at = (self.at + self.step) % 4096;
         &mut self.bytes[self.at..self.at + self.len]
     }
 
@@ -100,8 +114,8 @@ fn read(file: &[u8], format: u32) -> Times {
     };
     let options = DecodeOptions::new().with_format([MonoBlack, MonoWhite][format as usize]);
     let decoded = || calls::decode_frames(black_box(file), &options).expect("a good file");
-    let mut out = Lent::new(file.len());
-    let mut copied = Lent::new(file.len());
+    let mut out = Lent::new(file.len(), 64);
+    let mut copied = Lent::new(file.len(), 64);
     let mut image = Image {
         width: 0,
         height: 0,

@@ -10,4 +10,4 @@ mkdir -p target/tools
 rustc --edition 2024 -O -D warnings --crate-name bench --extern oracle=target/oracle/liboracle.rlib \
     -L native=target/staticlib -l static=capi -l static=bench \
     tools/bench/main.rs -o target/tools/bench
-target/tools/bench
+target/tools/bench "$@"

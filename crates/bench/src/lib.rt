@@ -1,10 +1,13 @@
-// Threshold and dithering under C names, for tools/bench, which times them. They are no part of include/wbmp.h.
+// Threshold and dithering, sessions and whole making under C names, for tools/bench, which times them. They are no part of include/wbmp.h.
 use error::Written;
 ghost use mathlib.Core.Path.{_≡_};
 ghost use Rattle.error.specs.Answer.{written};
 ghost use Rattle.options.specs.declared.Quantize.the-variants.{Threshold};
 ghost use Rattle.quantize.specs.Whole.{quantized};
 ghost use Rattle.bench.specs.Made.{codeOf, Made, Dithered};
+
+mod pieces;
+mod sessions;
 
 fn number(w: Written) -> u8
     ensures { λ r. ⌜ r ≡ codeOf (written w) ⌝ }

@@ -4,6 +4,7 @@ pub mod FieldsGrown
 pub mod Places
 pub mod FieldsStored
 pub mod HeaderLoop
+pub mod Running
 pub mod BodyBytes
 pub mod MostTaken
 pub mod Headers

@@ -9,7 +9,9 @@ use crate::head::HeadEnd;
 use crate::head::feed_header;
 use error::Checked;
 use error::WbmpError;
+use ext::ExtFields;
 use header::FieldsSeen;
+use header::HeaderFields;
 use header::HeaderReader;
 use header::ParsedHeader;
 use image::PlaneLayout;
@@ -48,6 +50,38 @@ fn met(options: DecodeOptions, e: WbmpError, known: FieldsSeen) -> DecodeFed
     DecodeFed { session, answer }
 }
 
+// The same, built anew from its numbers: a copy of the whole would carry its padding bytes from call to call.
+fn rebuilt_fields(fields: HeaderFields) -> HeaderFields
+    ensures { λ r. ⌜ r ≡ fields ⌝ }
+{
+    match fields {
+        HeaderFields::Absent => HeaderFields::Absent,
+        HeaderFields::Fields(f) => {
+            let ext_type = f.ext_type;
+            HeaderFields::Fields(ExtFields {
+                ext_type,
+                start: f.start,
+                len: f.len,
+                pairs: f.pairs,
+            })
+        }
+    }
+}
+
+fn rebuilt(h: ParsedHeader) -> ParsedHeader
+    ensures { λ r. ⌜ r ≡ h ⌝ }
+{
+    let fields = h.ext_fields;
+    let ext_fields = rebuilt_fields(fields);
+    ParsedHeader {
+        width: h.width,
+        height: h.height,
+        data_offset: h.data_offset,
+        fix_header: h.fix_header,
+        ext_fields,
+    }
+}
+
 // The body behind the first `from` bytes of a piece.
 pub(crate) fn feed_planes(
     options: DecodeOptions,
@@ -72,7 +106,8 @@ pub(crate) fn feed_planes(
         &piece[from..],
         out,
     );
-    let stage = Stage::Body(h, fed.whole, fed.begun);
+    let header = rebuilt(h);
+    let stage = Stage::Body(header, fed.whole, fed.begun);
     took(options, stage, from + fed.taken, fed.written)
 }
 

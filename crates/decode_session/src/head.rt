@@ -1,4 +1,5 @@
-// The header's part of a piece: each byte goes to the header's reader, and those of extension fields to the lent buffer too.
+// The header's part of a piece: its bytes go to the header's reader, one by one or in runs, and those of extension fields to the lent buffer
+// too.
 use error::WbmpError;
 use header::HeaderReader;
 use header::HeaderStep;
@@ -7,6 +8,7 @@ ghost use Prim.Native.Nat.{_+_, _≤_};
 ghost use mathlib.Core.Path.{_≡_};
 ghost use lib.ListN.{length};
 ghost use Rattle.decode_session.specs.Head.{isKept, Keeps, Heads};
+ghost use Rattle.decode_session.specs.HeadRun.{KeepsRun, RunsOn};
 
 // How the header's part of a piece ends: the header goes on, it ended, or it is refused.
 pub enum HeadEnd {
@@ -57,8 +59,51 @@ fn keep(ext: &mut [u8], kept: usize, byte: u8, wanted: bool) -> usize
     kept
 }
 
-// Feeds a piece to the header's reader, up to the header's last byte or a refusal. `at` bytes came before the piece, and `kept` extension bytes
-// among them.
+// How far into a piece a reader has come, and how many extension bytes are kept by then.
+pub struct HeadRun {
+    pub taken: usize,
+    pub kept: usize,
+    pub reader: HeaderReader,
+}
+
+// Stores a run of bytes behind those kept, where it has room, and says how many are kept then.
+fn keep_run(ext: &mut [u8], kept: usize, run: &[u8]) -> usize
+    ensures { λ r. ⌜ KeepsRun kept (now (run .entry)) (now (ext .entry)) r (now (ext .exit)) ⌝ }
+{
+    let n = run.len();
+    if ext.len() < n {
+        return kept;
+    }
+    if ext.len() - n < kept {
+        return kept;
+    }
+    let mut i: usize = 0;
+    while i < n {
+        let to = kept + i;
+        ext[to] = run[i];
+        i += 1;
+    }
+    kept + n
+}
+
+// Takes and stores the bytes from byte `from` of a piece on that the reader takes at once.
+fn run_on(reader: HeaderReader, kept: usize, from: usize, piece: &[u8], ext: &mut [u8]) -> HeadRun
+    requires { ⌜ from ≤ length (now piece) ⌝ }
+    ensures { λ r. ⌜ RunsOn reader kept from (now (piece .entry)) (now (ext .entry)) r (now (ext .exit)) ⌝ }
+{
+    let run = reader.run(&piece[from..]);
+    let taken = from + run.taken;
+    let kept = keep_run(ext, kept, &piece[from..taken]);
+    let reader = run.reader;
+    HeadRun {
+        taken,
+        kept,
+        reader,
+    }
+}
+
+// Feeds a piece to the header's reader, up to the header's last byte or a refusal. `at` bytes came before the piece, and `kept` extension
+// bytes among them.
 pub(crate) fn feed_header(
     reader: HeaderReader,
     at: usize,
@@ -81,7 +126,10 @@ pub(crate) fn feed_header(
         taken += 1;
         match step {
             HeaderStep::More(next) => {
-                reader = next;
+                let run = run_on(next, kept, taken, piece, ext);
+                reader = run.reader;
+                kept = run.kept;
+                taken = run.taken;
             }
             HeaderStep::Done(header) => {
                 let end = HeadEnd::Done(header);

@@ -1,4 +1,5 @@
 pub mod Machine
+pub mod Running
 pub mod IntegerByte
 pub mod Keeps
 pub mod Taken

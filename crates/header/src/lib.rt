@@ -9,12 +9,14 @@ mod integers;
 mod phase;
 mod read;
 mod reader;
+mod run;
 mod write;
 
 pub use read::parse_header_ext_inner;
 pub use read::parse_header_inner;
 pub use read::parse_header_mode;
 pub use reader::HeaderReader;
+pub use reader::HeaderRun;
 pub use reader::HeaderStep;
 pub use write::begin_header;
 pub use write::write_header;

@@ -4,12 +4,14 @@ use crate::HeaderMode;
 use crate::ParsedHeader;
 use crate::phase::Phase;
 use crate::phase::PhaseStep;
+use crate::run::run_phase;
 use error::WbmpError;
 ghost use mathlib.Core.Path.{_≡_};
 ghost use Rattle.header.specs.Settings.{Settings, settings};
 ghost use Rattle.header.specs.Machine.{State, start, inFields};
 ghost use Rattle.header.specs.Represents.{Represents, Stepped, Ended};
 ghost use Rattle.header.specs.Known.{Knows};
+ghost use Rattle.header.specs.Run.{Runs};
 
 pub struct HeaderReader {
     mode: HeaderMode,
@@ -21,6 +23,12 @@ pub enum HeaderStep {
     More(HeaderReader),
     Done(ParsedHeader),
     Refused(WbmpError),
+}
+
+// How many bytes of a piece were taken at once, and the reader behind them.
+pub struct HeaderRun {
+    pub taken: usize,
+    pub reader: HeaderReader,
 }
 
 impl HeaderReader {
@@ -49,6 +57,27 @@ impl HeaderReader {
             }
         } else {
             HeaderStep::More(self)
+        }
+    }
+
+    // Many bytes more, where the piece starts with bytes of extension fields behind which the fields go on; else none.
+    pub fn run(self, piece: &[u8]) -> HeaderRun
+        ensures { λ r. ⌜ Runs self (now (piece .entry)) r ⌝ }
+    {
+        let mode = self.mode;
+        let phase = self.phase;
+        if phase.within() {
+            let run = run_phase(phase, mode, piece);
+            let next = run.phase;
+            let reader = HeaderReader { mode, phase: next };
+            return HeaderRun {
+                taken: run.taken,
+                reader,
+            };
+        }
+        HeaderRun {
+            taken: 0,
+            reader: self,
         }
     }
 

@@ -1,7 +1,7 @@
 -- The settings of reading and their limits (document 01, options.rs and limits.rs).
 use Prim.Native.Nat.{ℕ, _*_}
 use mathlib.Core.Bool.{Bool, true, false}
-use lib.Dec.{leb}
+use lib.Dec.{leb, ltb}
 use Rattle.error.specs.Choice.{if}
 use Rattle.error.specs.Answer.{Answer, gives, refuses}
 use Rattle.image.specs.declared.PixelFormat.{PixelFormat}
@@ -58,7 +58,7 @@ checkLimits d width height bytes start =
 
 -- what the code's values mean
 abbrev pub bound : Limit → Bound
-bound l = if (l .set) (atMost (l .most)) absent
+bound l = if (ltb 0 (l .set)) (atMost (l .most)) absent
 
 abbrev pub modeOf : DecodeMode → Mode
 modeOf Lenient = lenient

@@ -15,9 +15,9 @@ ghost use Rattle.options.specs.Settings;
 
 pub mod limits;
 
-// A limit is absent, or the largest number that it admits.
+// A limit is absent, or the largest number that it admits. `set` is 0 or 1, a whole word: so no copy of the settings carries padding.
 pub struct Limit {
-    set: bool,
+    set: u64,
     most: u64,
 }
 
@@ -25,22 +25,19 @@ impl Limit {
     pub fn absent() -> Limit
         ensures { λ r. ⌜ bound r ≡ absent ⌝ }
     {
-        Limit {
-            set: false,
-            most: 0,
-        }
+        Limit { set: 0, most: 0 }
     }
 
     pub fn at_most(most: u64) -> Limit
         ensures { λ r. ⌜ bound r ≡ atMost most ⌝ }
     {
-        Limit { set: true, most }
+        Limit { set: 1, most }
     }
 
     fn admits(self, n: u64) -> bool
         ensures { λ r. ⌜ r ≡ admits (bound self) n ⌝ }
     {
-        if self.set { n <= self.most } else { true }
+        if 0 < self.set { n <= self.most } else { true }
     }
 }
 

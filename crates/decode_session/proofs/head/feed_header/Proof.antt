@@ -8,6 +8,7 @@ use denote.Ref.{now}
 use Rattle.header.specs.Settings.{Settings}
 use Rattle.decode_session.specs.Head.{Reached}
 use Rattle.decode_session.proofs.HeaderLoop.{Going, Turn, turn-more, turn-done, turn-refused, going-first, going-last, ends}
+use Rattle.decode_session.proofs.Running.{going-run}
 use Rattle.decode_session.proofs.head.feed_header.Statement.{statement}
 use Rattle.decode_session.proofs.head.feed_header.Tie as tie
 
@@ -62,16 +63,22 @@ add-taken c = search needs
 enum-known-step : tie.Need-enum-known-step Inv-loop μ-loop
 enum-known-step c = search needs
 
+run-on-requires : tie.Need-run-on-requires Inv-loop μ-loop
+run-on-requires c κs = search needs
+
 loop-less : tie.Need-loop-less Inv-loop μ-loop
 loop-less c = search needs
 
 loop-again : tie.Need-loop-again Inv-loop μ-loop
 loop-again c =
-    let k = c .before .before .before .before .before in
+    let u = c .before .before .before in
+    let k = u .before .before .before .before .before .before .before in
     let l = k .before .before .before .before .before .before .before .loop in (
-      omega arith,
-      k .keep .kept .0 ∙ l .inv .1,
-      λ o bytes h. turn-more o bytes _ _ _ _ _ _ _ _ _ _ _ (l .inv .2 o bytes h) (turn k) _ (c .before .step2 .given .1),
+      u .run-on .ensures .within,
+      u .run-on .kept .1 .1 .1 .1 .0 ∙ k .keep .kept .0 ∙ l .inv .1,
+      λ o bytes h. going-run o bytes _ _ _ _ _ _ _ _ _ _
+          (turn-more o bytes _ _ _ _ _ _ _ _ _ _ _ (l .inv .2 o bytes h) (turn k) _ (c .before .before .before .before .before .before .step2 .given .1))
+          (u .run-on .ensures) (omega (arith, turn k .big, k .keep .kept .0)),
     )
 
 enum-known-step-2 : tie.Need-enum-known-step-2 Inv-loop μ-loop
@@ -124,6 +131,7 @@ feed-header-spec =
     keep-requires
     add-taken
     enum-known-step
+    run-on-requires
     loop-less
     loop-again
     enum-known-step-2
