@@ -59,7 +59,7 @@ pub extern "C" fn bench_make_pieces(
     let text = [0u8; 1];
     let lengths = [0usize; 1];
     let mut head = [0u8; 32];
-    let opened = EncodeSession::open(
+    let opened = EncodeSession::open_lengths(
         width,
         height,
         options,
