@@ -25,7 +25,7 @@ use Rattle.decoder.specs.Image.{imageSettings}
 use Rattle.decoder.proofs.Headed.{image-by}
 use Rattle.decode_session.specs.Head.{Reached}
 use Rattle.decode_session.specs.Model.{Model, frames, closing}
-use Rattle.decode_session.specs.Session.{wholeIn, framesDone, InBody, Unread, StageOf, Stands, TellsClosed, Counts, SeesFields}
+use Rattle.decode_session.specs.Session.{wholeIn, framesDone, InBody, Unread, StageOf, Stands, TellsClosed, TellsFrames, SeesFields}
 use Rattle.decode_session.specs.declared.Stage.{Stage}
 use Rattle.decode_session.specs.declared.DecodeSession.{DecodeSession}
 use Rattle.decode_session.proofs.Headers.{unread-end}
@@ -84,14 +84,14 @@ module _ (s : DecodeSession) where
   closed-is = record { is = refl; does = λ m st. ap not (st .live) }
 
   module _ (r : HeaderReader) (at kept : ℕ) (g : s .stage ≡ Stage.Header r at kept) where
-    pub header-frames : Counts s 0
+    pub header-frames : TellsFrames s 0
     header-frames = record { does = λ m st. sym (none-done m r at kept (staged m g (st .stage) .1)) }
 
     pub header-fields : (f : FieldsSeen) → Knows r f → SeesFields s f
     header-fields f k = record { does = λ m st. unread-so m r at kept f (staged m g (st .stage) .1) k .fields }
 
   module _ (p : ParsedHeader) (whole begun : ℕ) (g : s .stage ≡ Stage.Body p whole begun) where
-    pub body-frames : (n : ℕ) → (n ≡ whole) ⊎ (n ≡ 16) → n ≤ whole → Counts s n
+    pub body-frames : (n : ℕ) → (n ≡ whole) ⊎ (n ≡ 16) → n ≤ whole → TellsFrames s n
     body-frames n i l =
         record {
           does =
@@ -110,7 +110,7 @@ module _ (s : DecodeSession) where
     unread : (m : Model) → Stands s m → Unread m f
     unread m st = staged m g (st .stage) .1
 
-    pub refused-frames : Counts s 0
+    pub refused-frames : TellsFrames s 0
     refused-frames = record { does = λ m st. sym (unread m st .none) }
 
     pub refused-fields : SeesFields s f

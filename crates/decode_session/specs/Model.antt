@@ -29,7 +29,7 @@ pub record Model : Type 0 where
 abbrev pub opened : Decoding → Model
 opened d = record { options = d; live = true; bytes = []; met = nothing }
 
--- the settings are tested, and then "Opening a reading gives 28", where the extension buffer is below 4,118
+-- the settings are tested, which refuses none, and then "Opening a reading gives 28", where the extension buffer is below 4,118
 abbrev pub opening : Decoding → ℕ → Answer (Unit {0})
 opening d extension = bind (settled d) (λ _. if (leb 4118 extension) (gives tt) (refuses 28 0))
 

@@ -126,7 +126,7 @@ pub record TellsClosed (s : DecodeSession) (r : Bool) : Type 0 where
   pub does : (m : Model) → Stands s m → r ≡ not (m .live)
 
 -- how many frames are done
-pub record Counts (s : DecodeSession) (r : ℕ) : Type 0 where
+pub record TellsFrames (s : DecodeSession) (r : ℕ) : Type 0 where
   pub does : (m : Model) → Stands s m → r ≡ framesDone m
 
 -- the extension fields, before the sizes are read and after a refusal too

@@ -4,7 +4,7 @@ use crate::Stage;
 use crate::body::MAX_FRAMES;
 use crate::body::least;
 use header::FieldsSeen;
-ghost use Rattle.decode_session.specs.Session.{TellsClosed, Counts, SeesFields};
+ghost use Rattle.decode_session.specs.Session.{TellsClosed, TellsFrames, SeesFields};
 
 impl DecodeSession {
     pub fn is_closed(self) -> bool
@@ -15,7 +15,7 @@ impl DecodeSession {
 
     // How many frames are done.
     pub fn frames(self) -> u32
-        ensures { λ r. ⌜ Counts self r ⌝ }
+        ensures { λ r. ⌜ TellsFrames self r ⌝ }
     {
         let stage = self.stage;
         match stage {
@@ -25,7 +25,7 @@ impl DecodeSession {
         }
     }
 
-    // The extension fields by their span in the file, once their last byte was taken.
+    // The extension fields by their span in the file, once their last byte was taken; a call that meets a refusal takes none.
     pub fn fields(self) -> FieldsSeen
         ensures { λ r. ⌜ SeesFields self r ⌝ }
     {

@@ -93,8 +93,11 @@ pub record Closes (s : EncodeSession) (r : EncodeClosed) : Type 0 where
 
 -- ---- what can be asked of a session
 
-abbrev pub TellsClosed : EncodeSession → Bool → Type 0
-TellsClosed s r = (m : Model) → Stands s m → r ≡ not (m .live)
+-- whether it is closed, of every session, and so of every machine that it stands for
+pub record TellsClosed (s : EncodeSession) (r : Bool) : Type 0 where
+  pub is : r ≡ not (s .live)
+  pub does : (m : Model) → Stands s m → r ≡ not (m .live)
 
-abbrev pub TellsFrames : EncodeSession → ℕ → Type 0
-TellsFrames s r = (m : Model) → Stands s m → r ≡ framesDone m
+-- how many frames are done, open or closed
+pub record TellsFrames (s : EncodeSession) (r : ℕ) : Type 0 where
+  pub does : (m : Model) → Stands s m → r ≡ framesDone m

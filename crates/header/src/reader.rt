@@ -60,7 +60,8 @@ impl HeaderReader {
         }
     }
 
-    // Many bytes more, where the piece starts with bytes of extension fields behind which the fields go on; else none.
+    // Many bytes of extension fields at once, if the fields go on behind them: octets, or whole pairs where no classes are tested. It may
+    // take none; `step` then goes on.
     pub fn run(self, piece: &[u8]) -> HeaderRun
         ensures { λ r. ⌜ Runs self (now (piece .entry)) r ⌝ }
     {

@@ -20,10 +20,10 @@ sub-result : tie.Need-sub-result
 sub-result c = search needs
 
 returns : tie.Need-returns
-returns c m t = omega (arith, t .left, ap (λ (x : Spot). x .frames) (c .before .before .before .spot .ensures))
+returns c = record { does = λ m t. omega (arith, t .left, ap (λ (x : Spot). x .frames) (c .before .before .before .spot .ensures)) }
 
 returns-2 : tie.Need-returns-2
-returns-2 c m t = omega (arith, t .left, ap (λ (x : Spot). x .frames) (c .before .before .spot .ensures))
+returns-2 c = record { does = λ m t. omega (arith, t .left, ap (λ (x : Spot). x .frames) (c .before .before .spot .ensures)) }
 
 pub frames-spec : {M : Type 1} → statement M
 frames-spec = tie.close (tie.spec spot-requires cast-if1 cast-result sub-result returns returns-2)
