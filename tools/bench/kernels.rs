@@ -26,76 +26,83 @@ pub fn dither(width: u32, height: u32, gray: &[u8], work: &mut [i16], out: &mut 
     }
 }
 
-/// Reads a file by a session in pieces of `size` bytes: how many bytes were written.
-pub fn read_pieces(
-    file: &[u8],
+/// Reads a file by the calls of a list on a session: how many were made.
+pub fn read_list(
     inverted: bool,
-    size: usize,
+    calls: &[usize],
+    file: &[u8],
     out: &mut [u8],
     ext: &mut [u8],
+    answers: &mut [usize],
 ) -> usize {
-    let (from, to, fields) = (file.as_ptr(), out.as_mut_ptr(), ext.as_mut_ptr());
+    let (to, fields, told) = (out.as_mut_ptr(), ext.as_mut_ptr(), answers.as_mut_ptr());
     // SAFETY: the pointers and lengths are those of slices, which do not overlap.
     unsafe {
-        bench_read_pieces(
-            from,
-            file.len(),
+        bench_read_list(
             inverted,
-            size,
+            calls.as_ptr(),
+            calls.len(),
+            file.as_ptr(),
+            file.len(),
             to,
             out.len(),
             fields,
             ext.len(),
+            told,
+            answers.len(),
         )
     }
 }
 
-/// Makes a file by a session in pieces of `size` samples: how many bytes of its body were written.
-pub fn make_pieces(
-    width: u32,
-    height: u32,
+/// What is made: of this size, dithered or by threshold 128.
+#[derive(Clone, Copy)]
+pub struct Making {
+    pub width: u32,
+    pub height: u32,
+    pub dithered: bool,
+}
+
+/// Makes the body of a file by the calls of a list on a session: how many were made.
+pub fn make_list(
+    making: Making,
+    calls: &[usize],
     gray: &[u8],
-    dithered: bool,
-    size: usize,
     work: &mut [i16],
     out: &mut [u8],
+    answers: &mut [usize],
 ) -> usize {
-    let (from, to, kept) = (gray.as_ptr(), out.as_mut_ptr(), work.as_mut_ptr());
+    let (to, kept, told) = (out.as_mut_ptr(), work.as_mut_ptr(), answers.as_mut_ptr());
     // SAFETY: the pointers and lengths are those of slices, which do not overlap.
     unsafe {
-        bench_make_pieces(
-            width,
-            height,
-            from,
+        bench_make_list(
+            making.width,
+            making.height,
+            making.dithered,
+            calls.as_ptr(),
+            calls.len(),
+            gray.as_ptr(),
             gray.len(),
-            dithered,
-            size,
             kept,
             work.len(),
             to,
             out.len(),
+            told,
+            answers.len(),
         )
     }
 }
 
-/// Makes the same file whole: how long it is.
-pub fn make(
-    width: u32,
-    height: u32,
-    gray: &[u8],
-    dithered: bool,
-    work: &mut [i16],
-    out: &mut [u8],
-) -> usize {
+/// Makes the same file whole: the number of a refusal, 0 where there is none.
+pub fn make(making: Making, gray: &[u8], work: &mut [i16], out: &mut [u8]) -> u8 {
     let (from, to, kept) = (gray.as_ptr(), out.as_mut_ptr(), work.as_mut_ptr());
     // SAFETY: the pointers and lengths are those of slices, which do not overlap.
     unsafe {
         bench_make(
-            width,
-            height,
+            making.width,
+            making.height,
             from,
             gray.len(),
-            dithered,
+            making.dithered,
             kept,
             work.len(),
             to,
@@ -105,27 +112,33 @@ pub fn make(
 }
 
 unsafe extern "C" {
-    fn bench_read_pieces(
+    fn bench_read_list(
+        inverted: bool,
+        calls: *const usize,
+        calls_len: usize,
         file: *const u8,
         file_len: usize,
-        inverted: bool,
-        size: usize,
         out: *mut u8,
         out_len: usize,
         ext: *mut u8,
         ext_len: usize,
+        answers: *mut usize,
+        answers_len: usize,
     ) -> usize;
-    fn bench_make_pieces(
+    fn bench_make_list(
         width: u32,
         height: u32,
+        dithered: bool,
+        calls: *const usize,
+        calls_len: usize,
         gray: *const u8,
         gray_len: usize,
-        dithered: bool,
-        size: usize,
         work: *mut i16,
         work_len: usize,
         out: *mut u8,
         out_len: usize,
+        answers: *mut usize,
+        answers_len: usize,
     ) -> usize;
     fn bench_make(
         width: u32,
@@ -137,7 +150,7 @@ unsafe extern "C" {
         work_len: usize,
         out: *mut u8,
         out_len: usize,
-    ) -> usize;
+    ) -> u8;
     fn bench_threshold(
         width: u32,
         height: u32,

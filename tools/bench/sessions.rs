@@ -1,10 +1,11 @@
 //! Times sessions in pieces against whole calls on the same buffers: reading in both formats,
-//! threshold and dithering, and long extension fields of both kinds. The pieces of a session's
-//! output start anywhere in a word, so the buffers of both sides do.
+//! threshold and dithering, and long extension fields of both kinds. A session's calls are a list of
+//! numbers, built once and run by crates/bench. The pieces of a session's output start anywhere in a
+//! word, so the buffers of both sides do.
 
 use crate::Lent;
 use crate::capi::{self, Asked, Image};
-use crate::kernels;
+use crate::kernels::{self, Making};
 use crate::pictures::{file_of, gray_of};
 use crate::rounds::medians;
 use std::hint::black_box;
@@ -30,16 +31,14 @@ pub fn lines() {
             line("read native", file.len(), read(&file, 0, piece));
             line("read inverted", file.len(), read(&file, 1, piece));
             let plane = file.len() - header_of(width, height);
-            line(
-                "threshold",
-                gray.len(),
-                made(width, height, &gray, false, piece, plane),
-            );
-            line(
-                "dither",
-                gray.len(),
-                made(width, height, &gray, true, piece, plane),
-            );
+            for (name, dithered) in [("threshold", false), ("dither", true)] {
+                let making = Making {
+                    width,
+                    height,
+                    dithered,
+                };
+                line(name, gray.len(), made(making, &gray, piece, plane));
+            }
         }
     }
     let (width, height) = SMALL;
@@ -112,6 +111,44 @@ fn wide_pairs() -> Vec<u8> {
     file
 }
 
+/// A list of feeding calls, five numbers each, with three numbers for each answer.
+struct List {
+    calls: Vec<usize>,
+    answers: Vec<usize>,
+}
+
+impl List {
+    /// Pieces of `size` of so many samples; each is lent so much work and, for its output, as many
+    /// bytes as it has samples.
+    fn new(samples: usize, size: usize, work: usize) -> List {
+        let starts = (0..samples).step_by(size);
+        let pieces = starts.map(|start| (start, size.min(samples - start)));
+        let calls: Vec<usize> = pieces
+            .flat_map(|(start, len)| [1, start, len, len, work])
+            .collect();
+        let answers = vec![0; calls.len() / 5 * 3];
+        List { calls, answers }
+    }
+
+    /// Lends each call as many bytes as it wrote, so that outputs stand without gaps.
+    fn fit(&mut self) {
+        let calls = self.calls.chunks_exact_mut(5);
+        for (call, answer) in calls.zip(self.answers.chunks_exact(3)) {
+            call[3] = answer[2];
+        }
+    }
+
+    /// How many bytes were written, where every call was made, took its piece and filled its room.
+    fn written(&self, made: usize) -> usize {
+        let calls = self.calls.chunks_exact(5);
+        assert_eq!(made, calls.len(), "calls made");
+        for (call, answer) in calls.zip(self.answers.chunks_exact(3)) {
+            assert_eq!(answer, [0, call[2], call[3]], "refusal, taken, written");
+        }
+        self.answers.iter().skip(2).step_by(3).sum()
+    }
+}
+
 /// Whole reading, and the same file by a session.
 fn read(file: &[u8], format: u32, piece: usize) -> [f64; 2] {
     let asked = Asked {
@@ -131,19 +168,21 @@ fn read(file: &[u8], format: u32, piece: usize) -> [f64; 2] {
     let mut whole = Lent::new(file.len(), 17);
     let mut out = Lent::new(file.len(), 17);
     let mut ext = vec![0; 4118];
-    let mut written = 0;
+    let mut list = List::new(file.len(), piece, ext.len());
+    let mut session = |List { calls, answers }: &mut List, out: &mut [u8]| {
+        kernels::read_list(format == 1, calls, black_box(file), out, &mut ext, answers)
+    };
+    session(&mut list, out.next());
+    list.fit();
+    let mut made = 0;
     let times = medians([
         &mut || {
-            assert_eq!(
-                capi::read(black_box(file), &asked, whole.next(), &mut image),
-                0
-            )
+            let refusal = capi::read(black_box(file), &asked, whole.next(), &mut image);
+            assert_eq!(refusal, 0)
         },
-        &mut || {
-            let inverted = format == 1;
-            written = kernels::read_pieces(black_box(file), inverted, piece, out.next(), &mut ext);
-        },
+        &mut || made = session(&mut list, out.next()),
     ]);
+    let written = list.written(made);
     assert!(
         whole.last()[..image.written] == out.last()[..written],
         "reading differs"
@@ -151,40 +190,28 @@ fn read(file: &[u8], format: u32, piece: usize) -> [f64; 2] {
     times
 }
 
-/// Whole making, and the same scan by a session.
-fn made(
-    width: u32,
-    height: u32,
-    gray: &[u8],
-    dithered: bool,
-    piece: usize,
-    plane: usize,
-) -> [f64; 2] {
-    let mut whole = vec![0; plane + 32];
-    let mut out = vec![0; plane];
-    let mut work = vec![0; 2 * width as usize];
-    let mut other = vec![0; 2 * width as usize];
-    let (mut length, mut written) = (0, 0);
+/// Whole making, and the body of the same scan by a session.
+fn made(making: Making, gray: &[u8], piece: usize, plane: usize) -> [f64; 2] {
+    let length = header_of(making.width, making.height) + plane;
+    let mut whole = vec![0; length];
+    let mut out = vec![0; gray.len()];
+    let mut work = vec![0; 2 * making.width as usize];
+    let mut other = work.clone();
+    let mut list = List::new(gray.len(), piece, work.len());
+    let mut session = |List { calls, answers }: &mut List, out: &mut [u8]| {
+        kernels::make_list(making, calls, black_box(gray), &mut other, out, answers)
+    };
+    session(&mut list, &mut out);
+    list.fit();
+    let mut made = 0;
     let times = medians([
         &mut || {
-            length = kernels::make(
-                width,
-                height,
-                black_box(gray),
-                dithered,
-                &mut work,
-                &mut whole,
-            )
+            let refusal = kernels::make(making, black_box(gray), &mut work, &mut whole);
+            assert_eq!(refusal, 0)
         },
-        &mut || {
-            let gray = black_box(gray);
-            written =
-                kernels::make_pieces(width, height, gray, dithered, piece, &mut other, &mut out);
-        },
+        &mut || made = session(&mut list, &mut out[..plane]),
     ]);
-    assert!(
-        whole[length - plane..length] == out[..written],
-        "making differs"
-    );
+    let written = list.written(made);
+    assert!(whole[length - plane..] == out[..written], "making differs");
     times
 }

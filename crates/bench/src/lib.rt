@@ -6,10 +6,9 @@ ghost use Rattle.options.specs.declared.Quantize.the-variants.{Threshold};
 ghost use Rattle.quantize.specs.Whole.{quantized};
 ghost use Rattle.bench.specs.Made.{codeOf, Made, Dithered};
 
-mod pieces;
 mod sessions;
 
-fn number(w: Written) -> u8
+pub(crate) fn number(w: Written) -> u8
     ensures { λ r. ⌜ r ≡ codeOf (written w) ⌝ }
 {
     match w {
@@ -40,7 +39,8 @@ pub extern "C" fn bench_dither(
     work: &mut [i16],
     out: &mut [u8],
 ) -> u8
-    ensures { λ r. ⌜ Dithered width height (now (gray .entry)) r (now (out .entry)) (now (out .exit)) (now (work .entry)) (now (work .exit)) ⌝ }
+    ensures { λ r. ⌜ Dithered width height (now (gray .entry)) r (now (out .entry)) (now (out .exit))
+        (now (work .entry)) (now (work .exit)) ⌝ }
 {
     number(quantize::dither_bits(width, height, gray, work, out))
 }

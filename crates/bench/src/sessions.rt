@@ -1,39 +1,34 @@
-// Sessions and whole making under C names.
-use crate::pieces::make_pieces;
-use crate::pieces::read_pieces;
+// Lists of calls on sessions, and whole making, under C names. The lists are those of crate replay: five numbers a call, three an answer.
+use crate::number;
 use decode_session::DecodeSession;
 use encode_session::EncodeSession;
-use error::Written;
 use image::PixelFormat;
 use options::DecodeOptions;
 use options::EncodeOptions;
 use options::Quantize;
-ghost use Prim.Native.Nat.{_≤_};
-ghost use lib.ListN.{length};
+ghost use mathlib.Core.Path.{_≡_};
+ghost use Rattle.options.specs.Limits.{decoding};
+ghost use Rattle.bench.specs.Lists.{formatOf, ruleOf, asked, rule, ReadsList, MakesList, MadeWhole};
 
-// Reads a file by a session in pieces of `size` bytes, and says how many bytes it wrote. `ext` has at least 4,118 bytes.
-#[no_mangle]
-pub extern "C" fn bench_read_pieces(
-    file: &[u8],
-    inverted: bool,
-    size: usize,
-    out: &mut [u8],
-    ext: &mut [u8],
-) -> usize
-    ensures { λ r. ⌜ r ≤ length (now (out .entry)) ⌝ }
+fn format_of(inverted: bool) -> PixelFormat
+    ensures { λ r. ⌜ r ≡ formatOf inverted ⌝ }
 {
-    let format = if inverted {
+    if inverted {
         PixelFormat::MonoWhite
     } else {
         PixelFormat::MonoBlack
-    };
-    let options = DecodeOptions::new().with_format(format);
-    let opened = DecodeSession::open(options, &ext[..]);
-    let session = opened.session;
-    read_pieces(session, size, file, out, ext)
+    }
 }
 
-fn rule(dithered: bool) -> Quantize {
+fn reading(inverted: bool) -> DecodeOptions
+    ensures { λ r. ⌜ decoding r ≡ asked inverted ⌝ }
+{
+    DecodeOptions::new().with_format(format_of(inverted))
+}
+
+fn rule_of(dithered: bool) -> Quantize
+    ensures { λ r. ⌜ r ≡ ruleOf dithered ⌝ }
+{
     if dithered {
         Quantize::Dither
     } else {
@@ -41,38 +36,66 @@ fn rule(dithered: bool) -> Quantize {
     }
 }
 
-// Makes a file of one scan by a session in pieces of `size` samples, and says how many bytes of its body it wrote, to the front of `out`.
-// `work` has at least 2 × width numbers.
+fn making(dithered: bool) -> EncodeOptions
+    ensures { λ r. ⌜ r ≡ rule dithered ⌝ }
+{
+    EncodeOptions::new().with_quantize(rule_of(dithered))
+}
+
+// Reads a file by the calls of a list on a new session, and says how many were made. `ext` has at least 4,118 bytes; with fewer the
+// session is closed from the start.
 #[no_mangle]
-pub extern "C" fn bench_make_pieces(
+pub extern "C" fn bench_read_list(
+    inverted: bool,
+    calls: &[usize],
+    file: &[u8],
+    out: &mut [u8],
+    ext: &mut [u8],
+    answers: &mut [usize],
+) -> usize
+    ensures { λ r. ⌜ ReadsList inverted (now (calls .entry)) (now (file .entry)) (now (out .entry)) (now (ext .entry))
+        (now (answers .entry)) r (now (out .exit)) (now (ext .exit)) (now (answers .exit)) ⌝ }
+{
+    let opened = DecodeSession::open(reading(inverted), &ext[..]);
+    let session = opened.session;
+    let last = replay::replay_decode(session, calls, file, out, ext, answers);
+    last.calls
+}
+
+// Makes bodies of scans by the calls of a list on a new session without fields, and says how many were made. `work` has at least 2 × width
+// numbers for dithering; where opening is refused the session is closed from the start.
+#[no_mangle]
+pub extern "C" fn bench_make_list(
     width: u32,
     height: u32,
-    gray: &[u8],
     dithered: bool,
-    size: usize,
+    calls: &[usize],
+    gray: &[u8],
     work: &mut [i16],
     out: &mut [u8],
+    answers: &mut [usize],
 ) -> usize
-    ensures { λ r. ⌜ r ≤ length (now (out .entry)) ⌝ }
+    ensures { λ r. ⌜ MakesList width height dithered (now (calls .entry)) (now (gray .entry)) (now (work .entry)) (now (out .entry))
+        (now (answers .entry)) r (now (work .exit)) (now (out .exit)) (now (answers .exit)) ⌝ }
 {
-    let options = EncodeOptions::new().with_quantize(rule(dithered));
-    let text = [0u8; 1];
-    let lengths = [0usize; 1];
+    let options = making(dithered);
+    let lengths = [0usize; 0];
     let mut head = [0u8; 32];
     let opened = EncodeSession::open_lengths(
         width,
         height,
         options,
-        &text[..0],
-        &lengths[..0],
+        b"",
+        &lengths,
         &work[..],
         &mut head,
     );
     let session = opened.session;
-    make_pieces(session, size, gray, work, out)
+    let last = replay::replay_encode(session, calls, gray, work, out, answers);
+    last.calls
 }
 
-// The same file whole, and how long it is; 0 for a refusal.
+// Makes a file of one scan whole, and gives the number of a refusal, 0 where there is none.
 #[no_mangle]
 pub extern "C" fn bench_make(
     width: u32,
@@ -81,22 +104,11 @@ pub extern "C" fn bench_make(
     dithered: bool,
     work: &mut [i16],
     out: &mut [u8],
-) -> usize {
-    let options = EncodeOptions::new().with_quantize(rule(dithered));
-    let text = [0u8; 1];
-    let lengths = [0usize; 1];
-    match encoder::encode_gray8_lengths(
-        width,
-        height,
-        1,
-        gray,
-        options,
-        &text[..0],
-        &lengths[..0],
-        work,
-        out,
-    ) {
-        Written::Bytes(n) => n,
-        Written::Refused(_) => 0,
-    }
+) -> u8
+    ensures { λ r. ⌜ MadeWhole width height dithered (now (gray .entry)) (now (out .entry)) (now (work .entry))
+        r (now (out .exit)) (now (work .exit)) ⌝ }
+{
+    let options = making(dithered);
+    let lengths = [0usize; 0];
+    number(encoder::encode_gray8_lengths(width, height, 1, gray, options, b"", &lengths, work, out))
 }
