@@ -1,6 +1,6 @@
 -- Runs on a making session: one call, and the run so far.
 -- Assumes nothing.
-use Prim.Native.Nat.{ℕ, _+_, _-_, _≤_}
+use Prim.Native.Nat.{ℕ, _+_, _-_, _*_, _≤_}
 use mathlib.Core.Path.{_≡_, refl, sym, ap, subst, _∙_}
 use mathlib.Core.Bool.{true}
 use mathlib.Core.List.{List, [], _∷_, _++_, append-assoc, append-nil}
@@ -12,9 +12,13 @@ use borrow.Rule.Slice.PartMut.{midOf, putMid}
 use lib.Seq.{length-take-le, take-all, take-take, take-at, drop-at, drop-drop}
 use Rattle.error.specs.Answer.{gives, refuses}
 use Rattle.error.specs.Answer as Answers
+use Rattle.quantize.specs.Asked.{carries}
+use Rattle.quantize.proofs.Dotting.{carries-same}
 use Rattle.encode_session.specs.Model.{Opening, serves, Model, Call, feed, close, Told, Reply, Outcome, outcome, replies, finally}
 use Rattle.encode_session.specs.Session.{fedMeaning, closedMeaning, Stands, Holds, Feeds, Closes}
 use Rattle.encode_session.specs.declared.EncodeFed.{EncodeFed}
+use Rattle.encode_session.specs.declared.EncodeFeed.{EncodeFeed}
+use Rattle.encode_session.specs.declared.EncodeFeed.the-variants.{Took}
 use Rattle.encode_session.specs.declared.EncodeClosed.{EncodeClosed}
 use Rattle.encode_session.specs.declared.EncodeSession.{EncodeSession}
 use Rattle.encode_session.proofs.Answering.{by-close, feed-refused}
@@ -25,8 +29,10 @@ use Rattle.replay.specs.declared.call.Named.the-variants.{Close, Feed}
 use Rattle.replay.specs.declared.call.Part.{Part}
 use Rattle.replay.specs.declared.encode.Called.{Called}
 use Rattle.replay.specs.Calls.{roomOf, lentOf, named, joined, over, Goes, threeOf, replaced}
-use Rattle.replay.specs.Encode.{numbersOf, told, output, callOf, callsOf, Counts, Shows, Runs, Replays, FeedsPart, Tells, Calls, Makes}
-use Rattle.replay.proofs.Lending.{lent-same, feed-served, opening-same}
+use Rattle.replay.specs.Encode.{numbersOf, told, output, callOf, callsOf, Counts, Shows, Leaves, Runs, Replays}
+use Rattle.replay.specs.Encode.{FeedsPart, Tells, Calls, Makes}
+use Rattle.replay.proofs.Leaving.{drop-front, none-taken, took, next-same, next-longer, same-leaves, leaves-on}
+use Rattle.replay.proofs.Lending.{lent-same, feed-served}
 use Rattle.replay.proofs.Parts.{size-is, part-long, put-is}
 use Rattle.replay.proofs.Running.{joined-more, grown, next-is, At, start-is, at-start, spares, out-long, answers-long, at-on}
 
@@ -91,11 +97,40 @@ module _ (s : EncodeSession) (p : Part) (samples : List ℕ) (work : List ℤ) (
             subst (λ (n : ℕ). Stands (fed .session) (outcome m (feed xs o n) .next)) (F .lentLong) (F .does .counts m st .1);
       }
 
+  work-same : F .front ≡ take (p .lent) work → work′ ≡ work
+  work-same u = F .workIs ∙ ap (λ (l : List ℤ). l ++ drop (p .lent) work) u ∙ take-append-drop (p .lent) work
+
+  took-leaves : (n b : ℕ) → fed .answer ≡ Took n b → Leaves m (x .next) work work′
+  took-leaves n b q =
+      let t = took m xs o (p .lent) n b (sym answer-is ∙ ap fedMeaning q) in
+      let Q = st .place (t .0) in
+      let R = F .does .runs n b q in
+      let w = 2 * s .quantizer .width in
+      record {
+        quiet = λ e.
+            let z : n ≡ 0 = omega (arith, t .1, e) in
+            work-same (none-taken _ _ _ _ _ _ _ _ _ (R .machine _ _ Q) z);
+        spared = λ e.
+            work-same (R .spared (sym (carries-same (s .quantizer .rule) (s .quantizer .table)) ∙ ap carries (sym (Q .rule)) ∙ e));
+        beyond =
+            subst (λ (k : ℕ). drop (2 * k) work′ ≡ drop (2 * k) work) (sym (Q .width))
+            (ap (drop w) (F .workIs)
+            ∙ drop-front w (F .front) (take (p .lent) work) (drop (p .lent) work) (F .frontLong ∙ sym (F .lentLong)) (R .beyond)
+            ∙ ap (drop w) (take-append-drop (p .lent) work));
+      }
+
+  leaves-by : (y : EncodeFeed) → fed .answer ≡ y → Leaves m (x .next) work work′
+  leaves-by (Took n b) q = took-leaves n b q
+  leaves-by (EncodeFeed.Refused f) q = same-leaves m (x .next) work work′ (work-same (F .does .refused _ _ (ap fedMeaning q) .1 .1))
+
+  fed-leaves : Leaves m (x .next) work work′
+  fed-leaves = leaves-by (fed .answer) refl
+
   by-refusal : (code place : ℕ) → x .reply .answer ≡ refuses code place → Holds s work m → Calls m (feed xs o (p .lent)) r (F .part) work′
   by-refusal code place q h =
       let i = feed-refused m xs o (p .lent) code place q in
       let u = F .does .refused code place (answer-is ∙ q) in
-      let w : work′ ≡ work = F .workIs ∙ ap (λ (l : List ℤ). l ++ drop (p .lent) work) (u .1 .1) ∙ take-append-drop (p .lent) work in
+      let w : work′ ≡ work = work-same (u .1 .1) in
       record {
         output = i .0 ∙ sym (u .1 .0);
         holds =
@@ -115,7 +150,7 @@ module _ (s : EncodeSession) (p : Part) (samples : List ℕ) (work : List ℤ) (
       let g : take (p .lent) work′ ≡ F .front =
       ap (take (p .lent)) (F .workIs) ∙ take-at (F .front) (drop (p .lent) work) (p .lent) (F .frontLong) in
       let z : serves (x .next .opening) (p .lent) ≡ true =
-      subst (λ (o : Opening). serves o (p .lent) ≡ true) (sym (opening-same m xs o (p .lent))) v in
+      subst (λ (o : Opening). serves o (p .lent) ≡ true) (sym (next-same m (feed xs o (p .lent)))) v in
       record {
         output = sym (d .0);
         holds = lent-same (fed .session) (x .next) (p .lent) (F .front) work′ z (f ∙ sym g) (d .1);
@@ -136,6 +171,7 @@ module _ (s : EncodeSession) (samples : List ℕ) (work : List ℤ) (out : List 
       (record {
         part = [];
         counts = λ m st. record { answer = ap numbersOf (sym (C .counts m st .0)) ∙ e; stands = C .counts m st .1 };
+        leaves = λ m st. same-leaves m (outcome m close .next) work work refl;
         does = λ m h. record { output = close-output m; holds = C .does m work h };
         long = refl;
         outIs = sym (ap (λ (k : ℕ). take at out ++ drop k out) (add-zero at) ∙ take-append-drop at out);
@@ -151,6 +187,7 @@ module _ (s : EncodeSession) (samples : List ℕ) (work : List ℤ) (out : List 
       (record {
         part = F .part;
         counts = fed-tells s p samples work out at fed work′ out′ F a e;
+        leaves = fed-leaves s p samples work out at fed work′ out′ F a e;
         does = λ m h. fed-calls s p samples work out at fed work′ out′ F a e m (h .stands) h;
         long = F .partLong;
         outIs = F .outIs;
@@ -170,6 +207,9 @@ pub record Follows (s₀ : EncodeSession) (work₀ : List ℤ) (m : Model) (cs :
   pub many : length replied ≡ made
   pub answersIs : answers ≡ joined told replied ++ drop at answers₀
   pub answersLong : length (joined told replied) ≡ at
+  pub opening : now .opening ≡ m .opening
+  pub longer : length (m .samples) ≤ length (now .samples)
+  pub leaves : Leaves m now work₀ work
   pub holds : Holds s₀ work₀ m → Holds s work now
   pub outIs : Holds s₀ work₀ m → out ≡ joined output replied ++ drop lent out₀
   pub outLong : Holds s₀ work₀ m → length (joined output replied) ≡ lent
@@ -187,6 +227,9 @@ follows-start m s cs samples work out answers h =
       many = refl;
       answersIs = refl;
       answersLong = refl;
+      opening = refl;
+      longer = omega arith;
+      leaves = same-leaves m m work work refl;
       holds = λ k. k;
       outIs = λ _. refl;
       outLong = λ _. refl;
@@ -207,6 +250,10 @@ module _ (s₀ : EncodeSession) (work₀ : List ℤ) (m : Model) (cs : List Call
           answered = rw (all-replied, f .answersLong) (f .answersIs);
           stands = subst (λ (n : Model). Stands s n) (sym (f .final)) (f .stands);
         }
+
+    end-leaves : Leaves m (finally m cs) work₀ work
+    unfolding finally callsOf
+    end-leaves = subst (λ (n : Model). Leaves m n work₀ work) (sym (f .final)) (f .leaves)
 
     end-shows : Holds s₀ work₀ m → Shows m cs out₀ (record { session = s; calls = made }) out work
     unfolding finally callsOf
@@ -230,6 +277,11 @@ module _ (s₀ : EncodeSession) (work₀ : List ℤ) (m : Model) (cs : List Call
 
     tells : Tells (f .now) call r
     tells = subst (λ (o : List ℕ). Tells (f .now) (callOf c samples o) r) out-left (M .counts (f .now) (f .stands))
+
+    call-leaves : Leaves (f .now) next work work′
+    call-leaves =
+        subst (λ (o : List ℕ). Leaves (f .now) (outcome (f .now) (callOf c samples o) .next) work work′) out-left
+        (M .leaves (f .now) (f .stands))
 
     says : Holds s₀ work₀ m → Calls (f .now) call r (M .part) work′
     says h = subst (λ (o : List ℕ). Calls (f .now) (callOf c samples o) r (M .part) work′) out-left (M .does (f .now) (f .holds h))
@@ -267,6 +319,13 @@ module _ (s₀ : EncodeSession) (work₀ : List ℤ) (m : Model) (cs : List Call
               grown answers answers₀ (joined told (f .replied)) (threeOf (r .answer)) at 3 (f .answersIs) k refl
               ∙ ap (λ (x : List ℕ). x ++ drop (at + 3) answers₀) (sym answers-on);
           answersLong = ap length answers-on ∙ length-append (joined told (f .replied)) (threeOf (r .answer)) ∙ omega arith;
+          opening = next-same (f .now) call ∙ f .opening;
+          longer =
+              let n = next-longer (f .now) call in
+              let l = f .longer in
+              omega arith;
+          leaves =
+              leaves-on m (f .now) next work₀ work work′ (f .opening) (f .longer) (next-longer (f .now) call) (f .leaves) call-leaves;
           holds = λ h. says h .holds;
           outIs = λ h.
               M .outIs
@@ -292,7 +351,8 @@ pub record Sofar (s₀ : EncodeSession) (calls samples : List ℕ) (work₀ : Li
     (made at lent told : ℕ) : Type 0 where
   pub place : At calls (length samples) out₀ answers₀ work₀ out answers work made at lent told
   pub follows : (m : Model) → Stands s₀ m
-      → Follows s₀ work₀ m (callsOf (allOf calls samples work₀ out₀ answers₀) samples out₀) samples out₀ answers₀ s work out answers made lent told
+      → Follows s₀ work₀ m (callsOf (allOf calls samples work₀ out₀ answers₀) samples out₀) samples out₀ answers₀ s work out answers made
+      lent told
       (restOf calls samples work out answers at lent told)
 
 pub starts : (s : EncodeSession) (calls samples : List ℕ) (work : List ℤ) (out answers : List ℕ)
@@ -319,6 +379,7 @@ module _ (s₀ : EncodeSession) (calls samples : List ℕ) (work₀ : List ℤ) 
   stops e =
       record {
         counts = λ m h. end-counts s₀ work₀ m cs samples out₀ answers₀ s work out answers made lent told (ended m h);
+        leaves = λ m h. end-leaves s₀ work₀ m cs samples out₀ answers₀ s work out answers made lent told (ended m h);
         does = λ m h. end-shows s₀ work₀ m cs samples out₀ answers₀ s work out answers made lent told (ended m (h .stands)) h;
         spares = spares calls (length samples) out₀ answers₀ work₀ out answers work made at lent told (so .place) e;
       }
