@@ -1,6 +1,6 @@
 -- Runs on a making session: one call, and the run so far.
 -- Assumes nothing.
-use Prim.Native.Nat.{ℕ, _+_, _-_, _≤_}
+use Prim.Native.Nat.{ℕ, _+_, _-_, _*_, _≤_}
 use mathlib.Core.Path.{_≡_, refl, sym, ap, subst, _∙_}
 use mathlib.Core.Bool.{true}
 use mathlib.Core.List.{List, [], _∷_, _++_, append-assoc, append-nil}
@@ -12,9 +12,13 @@ use borrow.Rule.Slice.PartMut.{midOf, putMid}
 use lib.Seq.{length-take-le, take-all, take-take, take-at, drop-at, drop-drop}
 use Rattle.error.specs.Answer.{gives, refuses}
 use Rattle.error.specs.Answer as Answers
+use Rattle.quantize.specs.Asked.{carries}
+use Rattle.quantize.proofs.Dotting.{carries-same}
 use Rattle.encode_session.specs.Model.{Opening, serves, Model, Call, feed, close, Told, Reply, Outcome, outcome, replies, finally}
 use Rattle.encode_session.specs.Session.{fedMeaning, closedMeaning, Stands, Holds, Feeds, Closes}
 use Rattle.encode_session.specs.declared.EncodeFed.{EncodeFed}
+use Rattle.encode_session.specs.declared.EncodeFeed.{EncodeFeed}
+use Rattle.encode_session.specs.declared.EncodeFeed.the-variants.{Took}
 use Rattle.encode_session.specs.declared.EncodeClosed.{EncodeClosed}
 use Rattle.encode_session.specs.declared.EncodeSession.{EncodeSession}
 use Rattle.encode_session.proofs.Answering.{by-close, feed-refused}
@@ -25,8 +29,10 @@ use Rattle.replay.specs.declared.call.Named.the-variants.{Close, Feed}
 use Rattle.replay.specs.declared.call.Part.{Part}
 use Rattle.replay.specs.declared.encode.Called.{Called}
 use Rattle.replay.specs.Calls.{roomOf, lentOf, named, joined, over, Goes, threeOf, replaced}
-use Rattle.replay.specs.Encode.{numbersOf, told, output, callOf, callsOf, Shows, Runs, Replays, FeedsPart, Calls, Makes}
-use Rattle.replay.proofs.Lending.{lent-same, feed-served, opening-same}
+use Rattle.replay.specs.Encode.{numbersOf, told, output, callOf, callsOf, Counts, Shows, Leaves, Runs, Replays}
+use Rattle.replay.specs.Encode.{FeedsPart, Tells, Calls, Makes}
+use Rattle.replay.proofs.Leaving.{drop-front, none-taken, took, next-same, next-longer, same-leaves, leaves-on}
+use Rattle.replay.proofs.Lending.{lent-same, feed-served}
 use Rattle.replay.proofs.Parts.{size-is, part-long, put-is}
 use Rattle.replay.proofs.Running.{joined-more, grown, next-is, At, start-is, at-start, spares, out-long, answers-long, at-on}
 
@@ -66,7 +72,7 @@ close-output m = by-close m (λ (x : Outcome). x .reply .output ≡ []) refl ref
 module _ (s : EncodeSession) (p : Part) (samples : List ℕ) (work : List ℤ) (out : List ℕ) (at : ℕ) (fed : EncodeFed) (work′ : List ℤ)
     (out′ : List ℕ)
     (F : FeedsPart s p samples work out at fed work′ out′) (a : Answer) (e : numbersOf (fedMeaning (fed .answer)) ≡ threeOf a) (m : Model)
-    (h : Holds s work m) where
+    (st : Stands s m) where
   abbrev xs : List ℕ
   xs = take (p .size) (drop (p .start) samples)
 
@@ -81,26 +87,59 @@ module _ (s : EncodeSession) (p : Part) (samples : List ℕ) (work : List ℤ) (
 
   answer-is : fedMeaning (fed .answer) ≡ x .reply .answer
   answer-is = subst (λ (n : ℕ). fedMeaning (fed .answer) ≡ outcome m (feed xs o n) .reply .answer) (F .lentLong)
-      (F .does .counts m (h .stands) .0)
+      (F .does .counts m st .0)
 
-  numbers-are : numbersOf (x .reply .answer) ≡ threeOf a
-  numbers-are = ap numbersOf (sym answer-is) ∙ e
+  fed-tells : Tells m (feed xs o (p .lent)) r
+  fed-tells =
+      record {
+        answer = ap numbersOf (sym answer-is) ∙ e;
+        stands =
+            subst (λ (n : ℕ). Stands (fed .session) (outcome m (feed xs o n) .next)) (F .lentLong) (F .does .counts m st .1);
+      }
 
-  by-refusal : (code place : ℕ) → x .reply .answer ≡ refuses code place → Calls m (feed xs o (p .lent)) r (F .part) work′
-  by-refusal code place q =
+  work-same : F .front ≡ take (p .lent) work → work′ ≡ work
+  work-same u = F .workIs ∙ ap (λ (l : List ℤ). l ++ drop (p .lent) work) u ∙ take-append-drop (p .lent) work
+
+  took-leaves : (n b : ℕ) → fed .answer ≡ Took n b → Leaves m (x .next) work work′
+  took-leaves n b q =
+      let t = took m xs o (p .lent) n b (sym answer-is ∙ ap fedMeaning q) in
+      let Q = st .place (t .0) in
+      let R = F .does .runs n b q in
+      let w = 2 * s .quantizer .width in
+      record {
+        quiet = λ e.
+            let z : n ≡ 0 = omega (arith, t .1, e) in
+            work-same (none-taken _ _ _ _ _ _ _ _ _ (R .machine _ _ Q) z);
+        spared = λ e.
+            work-same (R .spared (sym (carries-same (s .quantizer .rule) (s .quantizer .table)) ∙ ap carries (sym (Q .rule)) ∙ e));
+        beyond =
+            subst (λ (k : ℕ). drop (2 * k) work′ ≡ drop (2 * k) work) (sym (Q .width))
+            (ap (drop w) (F .workIs)
+            ∙ drop-front w (F .front) (take (p .lent) work) (drop (p .lent) work) (F .frontLong ∙ sym (F .lentLong)) (R .beyond)
+            ∙ ap (drop w) (take-append-drop (p .lent) work));
+      }
+
+  leaves-by : (y : EncodeFeed) → fed .answer ≡ y → Leaves m (x .next) work work′
+  leaves-by (Took n b) q = took-leaves n b q
+  leaves-by (EncodeFeed.Refused f) q = same-leaves m (x .next) work work′ (work-same (F .does .refused _ _ (ap fedMeaning q) .1 .1))
+
+  fed-leaves : Leaves m (x .next) work work′
+  fed-leaves = leaves-by (fed .answer) refl
+
+  by-refusal : (code place : ℕ) → x .reply .answer ≡ refuses code place → Holds s work m → Calls m (feed xs o (p .lent)) r (F .part) work′
+  by-refusal code place q h =
       let i = feed-refused m xs o (p .lent) code place q in
       let u = F .does .refused code place (answer-is ∙ q) in
-      let w : work′ ≡ work = F .workIs ∙ ap (λ (l : List ℤ). l ++ drop (p .lent) work) (u .1 .1) ∙ take-append-drop (p .lent) work in
+      let w : work′ ≡ work = work-same (u .1 .1) in
       record {
-        answer = numbers-are;
         output = i .0 ∙ sym (u .1 .0);
         holds =
             subst (λ (z : EncodeSession). Holds z work′ (x .next)) (sym (u .0))
             (subst (λ (l : List ℤ). Holds s l (x .next)) (sym w) (subst (λ (n : Model). Holds s work n) (sym (i .1)) h));
       }
 
-  by-giving : (t : Told) → x .reply .answer ≡ gives t → Calls m (feed xs o (p .lent)) r (F .part) work′
-  by-giving t q =
+  by-giving : (t : Told) → x .reply .answer ≡ gives t → Holds s work m → Calls m (feed xs o (p .lent)) r (F .part) work′
+  by-giving t q h =
       let v = feed-served m xs o (p .lent) t q in
       let k : Holds s (take (p .lent) work) m =
       lent-same s m (p .lent) work (take (p .lent) work) v (sym (take-take (p .lent) (p .lent) work (omega arith))) h in
@@ -111,18 +150,17 @@ module _ (s : EncodeSession) (p : Part) (samples : List ℕ) (work : List ℤ) (
       let g : take (p .lent) work′ ≡ F .front =
       ap (take (p .lent)) (F .workIs) ∙ take-at (F .front) (drop (p .lent) work) (p .lent) (F .frontLong) in
       let z : serves (x .next .opening) (p .lent) ≡ true =
-      subst (λ (o : Opening). serves o (p .lent) ≡ true) (sym (opening-same m xs o (p .lent))) v in
+      subst (λ (o : Opening). serves o (p .lent) ≡ true) (sym (next-same m (feed xs o (p .lent)))) v in
       record {
-        answer = numbers-are;
         output = sym (d .0);
         holds = lent-same (fed .session) (x .next) (p .lent) (F .front) work′ z (f ∙ sym g) (d .1);
       }
 
-  by-answer : (y : Answers.Answer Told) → x .reply .answer ≡ y → Calls m (feed xs o (p .lent)) r (F .part) work′
+  by-answer : (y : Answers.Answer Told) → x .reply .answer ≡ y → Holds s work m → Calls m (feed xs o (p .lent)) r (F .part) work′
   by-answer (gives t) q = by-giving t q
   by-answer (refuses code place) q = by-refusal code place q
 
-  fed-calls : Calls m (feed xs o (p .lent)) r (F .part) work′
+  fed-calls : Holds s work m → Calls m (feed xs o (p .lent)) r (F .part) work′
   fed-calls = by-answer (x .reply .answer) refl
 
 module _ (s : EncodeSession) (samples : List ℕ) (work : List ℤ) (out : List ℕ) (at : ℕ) (a : Answer) (c : Named) where
@@ -132,11 +170,9 @@ module _ (s : EncodeSession) (samples : List ℕ) (work : List ℤ) (out : List 
       subst (λ (c : Named). Makes s c samples work out at (record { session = closed .session; answer = a }) work out) (sym is)
       (record {
         part = [];
-        does = λ m h. record {
-          answer = ap numbersOf (sym (C .counts m (h .stands) .0)) ∙ e;
-          output = close-output m;
-          holds = C .does m work h;
-        };
+        counts = λ m st. record { answer = ap numbersOf (sym (C .counts m st .0)) ∙ e; stands = C .counts m st .1 };
+        leaves = λ m st. same-leaves m (outcome m close .next) work work refl;
+        does = λ m h. record { output = close-output m; holds = C .does m work h };
         long = refl;
         outIs = sym (ap (λ (k : ℕ). take at out ++ drop k out) (add-zero at) ∙ take-append-drop at out);
         beyond = refl;
@@ -150,7 +186,9 @@ module _ (s : EncodeSession) (samples : List ℕ) (work : List ℤ) (out : List 
       subst (λ (c : Named). Makes s c samples work out at (record { session = fed .session; answer = a }) work′ out′) (sym is)
       (record {
         part = F .part;
-        does = fed-calls s p samples work out at fed work′ out′ F a e;
+        counts = fed-tells s p samples work out at fed work′ out′ F a e;
+        leaves = fed-leaves s p samples work out at fed work′ out′ F a e;
+        does = λ m h. fed-calls s p samples work out at fed work′ out′ F a e m (h .stands) h;
         long = F .partLong;
         outIs = F .outIs;
         beyond = ap (drop (p .lent)) (F .workIs) ∙ drop-at (F .front) (drop (p .lent) work) (p .lent) (F .frontLong);
@@ -159,53 +197,75 @@ module _ (s : EncodeSession) (samples : List ℕ) (work : List ℤ) (out : List 
 -- ---- the run so far, as the model's
 
 -- the replies so far, and the model that the session stands for; `rest` are the calls that are left
-pub record Follows (m : Model) (cs : List Call) (samples out₀ answers₀ : List ℕ) (s : EncodeSession) (work : List ℤ) (out answers : List ℕ)
-    (made lent at : ℕ) (rest : List Named) : Type 0 where
+pub record Follows (s₀ : EncodeSession) (work₀ : List ℤ) (m : Model) (cs : List Call) (samples out₀ answers₀ : List ℕ) (s : EncodeSession)
+    (work : List ℤ) (out answers : List ℕ) (made lent at : ℕ) (rest : List Named) : Type 0 where
   pub now : Model
   pub replied : List Reply
-  pub holds : Holds s work now
+  pub stands : Stands s now
   pub whole : replies m cs ≡ replied ++ replies now (callsOf rest samples (drop lent out₀))
   pub final : finally m cs ≡ finally now (callsOf rest samples (drop lent out₀))
   pub many : length replied ≡ made
-  pub outIs : out ≡ joined output replied ++ drop lent out₀
-  pub outLong : length (joined output replied) ≡ lent
   pub answersIs : answers ≡ joined told replied ++ drop at answers₀
   pub answersLong : length (joined told replied) ≡ at
+  pub opening : now .opening ≡ m .opening
+  pub longer : length (m .samples) ≤ length (now .samples)
+  pub leaves : Leaves m now work₀ work
+  pub holds : Holds s₀ work₀ m → Holds s work now
+  pub outIs : Holds s₀ work₀ m → out ≡ joined output replied ++ drop lent out₀
+  pub outLong : Holds s₀ work₀ m → length (joined output replied) ≡ lent
 
-follows-start : (m : Model) (s : EncodeSession) (cs : List Named) (samples : List ℕ) (work : List ℤ) (out answers : List ℕ) → Holds s work m
-    → Follows m (callsOf cs samples out) samples out answers s work out answers 0 0 0 cs
+follows-start : (m : Model) (s : EncodeSession) (cs : List Named) (samples : List ℕ) (work : List ℤ) (out answers : List ℕ) → Stands s m
+    → Follows s work m (callsOf cs samples out) samples out answers s work out answers 0 0 0 cs
 unfolding joined
 follows-start m s cs samples work out answers h =
     record {
       now = m;
       replied = [];
-      holds = h;
+      stands = h;
       whole = refl;
       final = refl;
       many = refl;
-      outIs = refl;
-      outLong = refl;
       answersIs = refl;
       answersLong = refl;
+      opening = refl;
+      longer = omega arith;
+      leaves = same-leaves m m work work refl;
+      holds = λ k. k;
+      outIs = λ _. refl;
+      outLong = λ _. refl;
     }
 
-module _ (m : Model) (cs : List Call) (samples out₀ answers₀ : List ℕ) (s : EncodeSession) (work : List ℤ) (out answers : List ℕ)
-    (made lent at : ℕ) where
-  follows-end : Follows m cs samples out₀ answers₀ s work out answers made lent at []
-      → Shows m cs out₀ answers₀ (record { session = s; calls = made }) out answers work
-  unfolding replies finally callsOf
-  follows-end f =
-      let e : replies m cs ≡ f .replied = f .whole ∙ append-nil (f .replied) in
-      record {
-        calls = sym (ap length e ∙ f .many);
-        outputs = rw (e, f .outLong) (f .outIs);
-        answered = rw (e, f .answersLong) (f .answersIs);
-        holds = subst (λ (n : Model). Holds s work n) (sym (f .final)) (f .holds);
-      }
+module _ (s₀ : EncodeSession) (work₀ : List ℤ) (m : Model) (cs : List Call) (samples out₀ answers₀ : List ℕ) (s : EncodeSession)
+    (work : List ℤ) (out answers : List ℕ) (made lent at : ℕ) where
+  module _ (f : Follows s₀ work₀ m cs samples out₀ answers₀ s work out answers made lent at []) where
+    all-replied : replies m cs ≡ f .replied
+    unfolding replies callsOf
+    all-replied = f .whole ∙ append-nil (f .replied)
 
-  module _ (c : Named) (rest : List Named) (f : Follows m cs samples out₀ answers₀ s work out answers made lent at (c ∷ rest)) (r : Called)
-      (work′ : List ℤ)
-      (out′ : List ℕ) (M : Makes s c samples work out lent r work′ out′) where
+    end-counts : Counts m cs answers₀ (record { session = s; calls = made }) answers
+    unfolding finally callsOf
+    end-counts =
+        record {
+          calls = sym (ap length all-replied ∙ f .many);
+          answered = rw (all-replied, f .answersLong) (f .answersIs);
+          stands = subst (λ (n : Model). Stands s n) (sym (f .final)) (f .stands);
+        }
+
+    end-leaves : Leaves m (finally m cs) work₀ work
+    unfolding finally callsOf
+    end-leaves = subst (λ (n : Model). Leaves m n work₀ work) (sym (f .final)) (f .leaves)
+
+    end-shows : Holds s₀ work₀ m → Shows m cs out₀ (record { session = s; calls = made }) out work
+    unfolding finally callsOf
+    end-shows h =
+        record {
+          outputs = rw (all-replied, f .outLong h) (f .outIs h);
+          holds = subst (λ (n : Model). Holds s work n) (sym (f .final)) (f .holds h);
+        }
+
+  module _ (c : Named) (rest : List Named) (f : Follows s₀ work₀ m cs samples out₀ answers₀ s work out answers made lent at (c ∷ rest))
+      (out-left : drop lent out ≡ drop lent out₀) (r : Called) (work′ : List ℤ) (out′ : List ℕ)
+      (M : Makes s c samples work out lent r work′ out′) where
     abbrev call : Call
     call = callOf c samples (drop lent out₀)
 
@@ -215,11 +275,16 @@ module _ (m : Model) (cs : List Call) (samples out₀ answers₀ : List ℕ) (s 
     abbrev reply : Reply
     reply = outcome (f .now) call .reply
 
-    out-left : drop lent out ≡ drop lent out₀
-    out-left = ap (drop lent) (f .outIs) ∙ drop-at (joined output (f .replied)) (drop lent out₀) lent (f .outLong)
+    tells : Tells (f .now) call r
+    tells = subst (λ (o : List ℕ). Tells (f .now) (callOf c samples o) r) out-left (M .counts (f .now) (f .stands))
 
-    says : Calls (f .now) call r (M .part) work′
-    says = subst (λ (o : List ℕ). Calls (f .now) (callOf c samples o) r (M .part) work′) out-left (M .does (f .now) (f .holds))
+    call-leaves : Leaves (f .now) next work work′
+    call-leaves =
+        subst (λ (o : List ℕ). Leaves (f .now) (outcome (f .now) (callOf c samples o) .next) work work′) out-left
+        (M .leaves (f .now) (f .stands))
+
+    says : Holds s₀ work₀ m → Calls (f .now) call r (M .part) work′
+    says h = subst (λ (o : List ℕ). Calls (f .now) (callOf c samples o) r (M .part) work′) out-left (M .does (f .now) (f .holds h))
 
     replies-on : replies m cs ≡ (f .replied ++ (reply ∷ [])) ++ replies next (callsOf rest samples (drop (lent + roomOf c) out₀))
     unfolding replies callsOf
@@ -232,33 +297,44 @@ module _ (m : Model) (cs : List Call) (samples out₀ answers₀ : List ℕ) (s 
     unfolding finally callsOf
     finally-on = subst (λ (o : List ℕ). finally m cs ≡ finally next (callsOf rest samples o)) (drop-drop (roomOf c) lent out₀) (f .final)
 
-    follows-on : Follows m cs samples out₀ answers₀ (r .session) work′ out′ (replaced answers at (threeOf (r .answer))) (made + 1)
+    outputs-on : Holds s₀ work₀ m → joined output (f .replied ++ (reply ∷ [])) ≡ joined output (f .replied) ++ M .part
+    outputs-on h = joined-more output (f .replied) reply ∙ ap (λ (x : List ℕ). joined output (f .replied) ++ x) (says h .output)
+
+    answers-on : joined told (f .replied ++ (reply ∷ [])) ≡ joined told (f .replied) ++ threeOf (r .answer)
+    answers-on = joined-more told (f .replied) reply ∙ ap (λ (x : List ℕ). joined told (f .replied) ++ x) (tells .answer)
+
+    follows-on : Follows s₀ work₀ m cs samples out₀ answers₀ (r .session) work′ out′ (replaced answers at (threeOf (r .answer))) (made + 1)
         (lent + roomOf c) (at + 3) rest
     follows-on =
         let i = f .many in
-        let j = f .outLong in
         let k = f .answersLong in
-        let p = M .long in
-        let o : joined output (f .replied ++ (reply ∷ [])) ≡ joined output (f .replied) ++ M .part =
-        joined-more output (f .replied) reply ∙ ap (λ (x : List ℕ). joined output (f .replied) ++ x) (says .output) in
-        let t : joined told (f .replied ++ (reply ∷ [])) ≡ joined told (f .replied) ++ threeOf (r .answer) =
-        joined-more told (f .replied) reply ∙ ap (λ (x : List ℕ). joined told (f .replied) ++ x) (says .answer) in
         record {
           now = next;
           replied = f .replied ++ (reply ∷ []);
-          holds = says .holds;
+          stands = tells .stands;
           whole = replies-on;
           final = finally-on;
           many = length-append (f .replied) (reply ∷ []) ∙ omega arith;
-          outIs =
-              M .outIs
-              ∙ grown out out₀ (joined output (f .replied)) (M .part) lent (roomOf c) (f .outIs) j p
-              ∙ ap (λ (x : List ℕ). x ++ drop (lent + roomOf c) out₀) (sym o);
-          outLong = ap length o ∙ length-append (joined output (f .replied)) (M .part) ∙ omega arith;
           answersIs =
               grown answers answers₀ (joined told (f .replied)) (threeOf (r .answer)) at 3 (f .answersIs) k refl
-              ∙ ap (λ (x : List ℕ). x ++ drop (at + 3) answers₀) (sym t);
-          answersLong = ap length t ∙ length-append (joined told (f .replied)) (threeOf (r .answer)) ∙ omega arith;
+              ∙ ap (λ (x : List ℕ). x ++ drop (at + 3) answers₀) (sym answers-on);
+          answersLong = ap length answers-on ∙ length-append (joined told (f .replied)) (threeOf (r .answer)) ∙ omega arith;
+          opening = next-same (f .now) call ∙ f .opening;
+          longer =
+              let n = next-longer (f .now) call in
+              let l = f .longer in
+              omega arith;
+          leaves =
+              leaves-on m (f .now) next work₀ work work′ (f .opening) (f .longer) (next-longer (f .now) call) (f .leaves) call-leaves;
+          holds = λ h. says h .holds;
+          outIs = λ h.
+              M .outIs
+              ∙ grown out out₀ (joined output (f .replied)) (M .part) lent (roomOf c) (f .outIs h) (f .outLong h) (M .long)
+              ∙ ap (λ (x : List ℕ). x ++ drop (lent + roomOf c) out₀) (sym (outputs-on h));
+          outLong = λ h.
+              let j = f .outLong h in
+              let p = M .long in
+              ap length (outputs-on h) ∙ length-append (joined output (f .replied)) (M .part) ∙ omega arith;
         }
 
 -- ---- the loop
@@ -274,8 +350,9 @@ pub record Sofar (s₀ : EncodeSession) (calls samples : List ℕ) (work₀ : Li
     (out answers : List ℕ)
     (made at lent told : ℕ) : Type 0 where
   pub place : At calls (length samples) out₀ answers₀ work₀ out answers work made at lent told
-  pub follows : (m : Model) → Holds s₀ work₀ m
-      → Follows m (callsOf (allOf calls samples work₀ out₀ answers₀) samples out₀) samples out₀ answers₀ s work out answers made lent told
+  pub follows : (m : Model) → Stands s₀ m
+      → Follows s₀ work₀ m (callsOf (allOf calls samples work₀ out₀ answers₀) samples out₀) samples out₀ answers₀ s work out answers made
+      lent told
       (restOf calls samples work out answers at lent told)
 
 pub starts : (s : EncodeSession) (calls samples : List ℕ) (work : List ℤ) (out answers : List ℕ)
@@ -284,7 +361,7 @@ starts s calls samples work out answers =
     record {
       place = at-start calls (length samples) out answers work;
       follows = λ m h.
-          subst (λ (l : List Named). Follows m
+          subst (λ (l : List Named). Follows s work m
           (callsOf (allOf calls samples work out answers) samples out) samples out answers s work out answers 0 0 0 l)
           (start-is calls (length samples) out answers work)
           (follows-start m s (allOf calls samples work out answers) samples work out answers h);
@@ -293,17 +370,23 @@ starts s calls samples work out answers =
 module _ (s₀ : EncodeSession) (calls samples : List ℕ) (work₀ : List ℤ) (out₀ answers₀ : List ℕ) (s : EncodeSession) (work : List ℤ)
     (out answers : List ℕ)
     (made at lent told : ℕ) (so : Sofar s₀ calls samples work₀ out₀ answers₀ s work out answers made at lent told) where
+  abbrev cs : List Call
+  cs = callsOf (allOf calls samples work₀ out₀ answers₀) samples out₀
+
   -- the run ends
   pub stops : restOf calls samples work out answers at lent told ≡ []
       → Replays s₀ calls samples work₀ out₀ answers₀ (record { session = s; calls = made }) work out answers
   stops e =
       record {
-        does = λ m h.
-            let cs = callsOf (allOf calls samples work₀ out₀ answers₀) samples out₀ in
-            follows-end m cs samples out₀ answers₀ s work out answers made lent told
-            (subst (λ (l : List Named). Follows m cs samples out₀ answers₀ s work out answers made lent told l) e (so .follows m h));
+        counts = λ m h. end-counts s₀ work₀ m cs samples out₀ answers₀ s work out answers made lent told (ended m h);
+        leaves = λ m h. end-leaves s₀ work₀ m cs samples out₀ answers₀ s work out answers made lent told (ended m h);
+        does = λ m h. end-shows s₀ work₀ m cs samples out₀ answers₀ s work out answers made lent told (ended m (h .stands)) h;
         spares = spares calls (length samples) out₀ answers₀ work₀ out answers work made at lent told (so .place) e;
       }
+    where
+      ended : (m : Model) → Stands s₀ m → Follows s₀ work₀ m cs samples out₀ answers₀ s work out answers made lent told []
+      ended m h =
+          subst (λ (l : List Named). Follows s₀ work₀ m cs samples out₀ answers₀ s work out answers made lent told l) e (so .follows m h)
 
   -- one call more
   pub onward : (c : Named) → Goes (drop at calls) (length samples) (length out - lent) (length work) (length answers - told) c
@@ -324,11 +407,10 @@ module _ (s₀ : EncodeSession) (calls samples : List ℕ) (work₀ : List ℤ) 
             (M .long) refl l
             (M .beyond));
         follows = λ m h.
-            let cs = callsOf (allOf calls samples work₀ out₀ answers₀) samples out₀ in
-            follows-on m cs samples out₀ answers₀ s work out answers made lent told c
+            follows-on s₀ work₀ m cs samples out₀ answers₀ s work out answers made lent told c
             (restOf calls samples work′ out′ new (at + 5) (lent + roomOf c) (told + 3))
-            (subst (λ (l : List Named). Follows m cs samples out₀ answers₀ s work out answers made lent told l) next
-            (so .follows m h)) r work′ out′ M;
+            (subst (λ (l : List Named). Follows s₀ work₀ m cs samples out₀ answers₀ s work out answers made lent told l) next
+            (so .follows m h)) (so .place .outSame) r work′ out′ M;
       }))
     where
       three : List ℕ

@@ -20,9 +20,8 @@ use Rattle.quantize.specs.Machine.{clamp}
 use Rattle.quantize.specs.Rule.{Rule, threshold, dither, ordered}
 use Rattle.quantize.specs.Steps.{stateOf}
 use Rattle.encode_session.specs.declared.EncodeSession.{EncodeSession}
-use Rattle.encode_session.specs.Model.{serves, settingOf, Model, feed, Told, Outcome, fedBy, unaltered, outcome}
+use Rattle.encode_session.specs.Model.{serves, settingOf, Model, feed, Told, fedBy, unaltered, outcome}
 use Rattle.encode_session.specs.Session.{Holds}
-use Rattle.encode_session.proofs.Answering.{by-feed}
 
 module _ (q : Quantizer) (s : Setting) (xs : List ℕ) (n : ℕ) (work work′ : List ℤ) (same : take n work ≡ take n work′) where
   at-same : (k : ℕ) → k < n → clamp (getD work′ k (pos 0)) ≡ clamp (getD work k (pos 0))
@@ -69,6 +68,3 @@ feed-served m xs out n t = go (m .live) (serves (m .opening) n) refl
     go false b e f = zero-one (cc)
     go true false e f = zero-one (cc)
     go true true e f = e
-
-pub opening-same : (m : Model) (xs out : List ℕ) (n : ℕ) → outcome m (feed xs out n) .next .opening ≡ m .opening
-opening-same m xs out n = by-feed m xs out n (λ (x : Outcome). x .next .opening ≡ m .opening) refl refl refl

@@ -3,4 +3,5 @@ pub mod Parts
 pub mod Running
 pub mod Decoding
 pub mod Lending
+pub mod Leaving
 pub mod Encoding

@@ -1,4 +1,4 @@
--- Parts of lists that are replaced: three answers, and the output of one call.
+-- Parts of lists that are replaced: an answer's three numbers, and the output of one call.
 -- Assumes nothing.
 use Prim.Native.Nat.{ℕ, suc, _+_, _-_, _≤_}
 use mathlib.Core.Path.{_≡_, refl, sym, ap, _∙_}

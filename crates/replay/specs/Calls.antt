@@ -33,9 +33,9 @@ abbrev pub isThere : Named → ℕ → ℕ → ℕ → Bool
 isThere Close samples room work = true
 isThere (Feed p) samples room work = hasParts p samples room work
 
--- The calls that are made, where there are so many samples, bytes of output, numbers of work, and room for so many answers: the run ends
--- with the numbers, where fewer than three answers have room, and before a call whose parts are not there. A call's output starts behind
--- that of the one before; all samples and all of the work are there for each.
+-- The calls that are made, where there are so many samples, bytes of output, numbers of work, and room for so many numbers of answers: the
+-- run ends with the numbers, where an answer's three have no room, and before a call whose parts are not there. A call's output starts
+-- behind that of the one before; all samples and all of the work are there for each.
 unfoldable pub named : List ℕ → ℕ → ℕ → ℕ → ℕ → List Named
 named (what ∷ start ∷ size ∷ room ∷ lent ∷ rest) samples out work answers =
     let c = nameOf what start size room lent in

@@ -1,12 +1,14 @@
 -- A run of calls on a making session: what the plain machine replies to the calls that the numbers name.
-use Prim.Native.Nat.{ℕ}
+use Prim.Native.Nat.{ℕ, _*_}
 use mathlib.Core.Path.{_≡_}
+use mathlib.Core.Bool.{false}
 use mathlib.Core.List.{List, [], _∷_, _++_}
 use lib.IntN.{ℤ}
 use lib.ListN.{length, take, drop}
 use Rattle.error.specs.Answer.{Answer, gives, refuses}
+use Rattle.quantize.specs.Asked.{meaning, carries}
 use Rattle.encode_session.specs.Model.{Model, Call, feed, close, Told, took, closed, Reply, outcome, replies, finally}
-use Rattle.encode_session.specs.Session.{Holds, Feeds}
+use Rattle.encode_session.specs.Session.{Stands, Holds, Feeds}
 use Rattle.encode_session.specs.declared.EncodeFed.{EncodeFed}
 use Rattle.encode_session.specs.declared.EncodeSession.{EncodeSession}
 use Rattle.replay.specs.declared.EncodeReplayed.{EncodeReplayed}
@@ -40,18 +42,32 @@ callsOf (c ∷ cs) samples out = callOf c samples out ∷ callsOf cs samples (dr
 
 -- ---- the contract
 
--- what the replies of the machine say, and the session after them
-pub record Shows (m : Model) (cs : List Call) (out answers : List ℕ) (r : EncodeReplayed) (out′ answers′ : List ℕ)
-    (work′ : List ℤ) : Type 0 where
+-- how many calls the machine replies to, what it answers, and the session after them
+pub record Counts (m : Model) (cs : List Call) (answers : List ℕ) (r : EncodeReplayed) (answers′ : List ℕ) : Type 0 where
   pub calls : r .calls ≡ length (replies m cs)
-  pub outputs : out′ ≡ over (joined output (replies m cs)) out
   pub answered : answers′ ≡ over (joined told (replies m cs)) answers
+  pub stands : Stands (r .session) (finally m cs)
+
+-- what it writes, and the work buffer after it
+pub record Shows (m : Model) (cs : List Call) (out : List ℕ) (r : EncodeReplayed) (out′ : List ℕ) (work′ : List ℤ) : Type 0 where
+  pub outputs : out′ ≡ over (joined output (replies m cs)) out
   pub holds : Holds (r .session) work′ (finally m cs)
 
--- a run of the named calls on a session that stands for a model, and on any
+-- What calls leave of the work buffer: it is as before where they take no sample, as where each is refused or the session is closed, and
+-- under a rule that keeps no carries; behind 2 × width it always is.
+pub record Leaves (m after : Model) (work work′ : List ℤ) : Type 0 where
+  pub quiet : length (after .samples) ≡ length (m .samples) → work′ ≡ work
+  pub spared : carries (meaning (m .opening .options .quantize)) ≡ false → work′ ≡ work
+  pub beyond : drop (2 * m .opening .width) work′ ≡ drop (2 * m .opening .width) work
+
+-- A run of the named calls. Of a session that stands for a model, answers and counts are the model's, and no more of the work buffer is
+-- altered than `Leaves` allows, whatever it holds; the outputs are the model's too where it is as the last call left it. What stands
+-- behind the parts that are lent is as before for every session.
 pub record Runs (s : EncodeSession) (cs : List Named) (samples : List ℕ) (work : List ℤ) (out answers : List ℕ) (r : EncodeReplayed)
     (work′ : List ℤ) (out′ answers′ : List ℕ) : Type 0 where
-  pub does : (m : Model) → Holds s work m → Shows m (callsOf cs samples out) out answers r out′ answers′ work′
+  pub counts : (m : Model) → Stands s m → Counts m (callsOf cs samples out) answers r answers′
+  pub leaves : (m : Model) → Stands s m → Leaves m (finally m (callsOf cs samples out)) work work′
+  pub does : (m : Model) → Holds s work m → Shows m (callsOf cs samples out) out r out′ work′
   pub spares : Spares cs (r .calls) out answers work out′ answers′ work′
 
 abbrev pub Replays : EncodeSession → List ℕ → List ℕ → List ℤ → List ℕ → List ℕ → EncodeReplayed → List ℤ → List ℕ → List ℕ → Type 0
@@ -72,9 +88,13 @@ pub record FeedsPart (s : EncodeSession) (p : Part) (samples : List ℕ) (work :
   pub workIs : work′ ≡ front ++ drop (p .lent) work
   pub outIs : out′ ≡ replaced out at part
 
--- what the model says of a call: its numbers, its output, and the model after it
-pub record Calls (m : Model) (call : Call) (r : Called) (part : List ℕ) (work′ : List ℤ) : Type 0 where
+-- what the model says of a call: its numbers, and the model after it
+pub record Tells (m : Model) (call : Call) (r : Called) : Type 0 where
   pub answer : numbersOf (outcome m call .reply .answer) ≡ threeOf (r .answer)
+  pub stands : Stands (r .session) (outcome m call .next)
+
+-- its output, and the work buffer after it
+pub record Calls (m : Model) (call : Call) (r : Called) (part : List ℕ) (work′ : List ℤ) : Type 0 where
   pub output : outcome m call .reply .output ≡ part
   pub holds : Holds (r .session) work′ (outcome m call .next)
 
@@ -82,6 +102,8 @@ pub record Calls (m : Model) (call : Call) (r : Called) (part : List ℕ) (work�
 pub record Makes (s : EncodeSession) (c : Named) (samples : List ℕ) (work : List ℤ) (out : List ℕ) (at : ℕ) (r : Called)
     (work′ : List ℤ) (out′ : List ℕ) : Type 0 where
   pub part : List ℕ
+  pub counts : (m : Model) → Stands s m → Tells m (callOf c samples (drop at out)) r
+  pub leaves : (m : Model) → Stands s m → Leaves m (outcome m (callOf c samples (drop at out)) .next) work work′
   pub does : (m : Model) → Holds s work m → Calls m (callOf c samples (drop at out)) r part work′
   pub long : length part ≡ roomOf c
   pub outIs : out′ ≡ replaced out at part

@@ -1,4 +1,4 @@
-// What both runs share: the call that the next five numbers name, and its three answers.
+// What both runs share: the call that the next five numbers name, and an answer's three numbers.
 use error::WbmpError;
 ghost use Prim.Native.Nat.{_+_, _≤_};
 ghost use mathlib.Core.Path.{_≡_};

@@ -9,7 +9,7 @@
 // closing a reading: the frame count); how many bytes were written, or 0.
 //
 // The run ends with the list, before a call whose parts are not there (a piece past the samples, output or work past what is lent), or
-// where fewer than three answers have room.
+// where an answer's three numbers have no room.
 use decode_session::DecodeSession;
 use encode_session::EncodeSession;
 
