@@ -113,11 +113,9 @@ pub makes-list : (w h : ℕ) (dithered : Bool) (numbers gray : List ℕ) (work :
     → MakesList w h dithered numbers gray work out answers (last .calls) work′ out′ answers′
 makes-list w h dithered numbers gray work out answers s o old new last work′ out′ answers′ wide high room e p q =
     let f = subst (λ (t : EncodeOptions). MakingSession.Opens (Making.opening t w h [] []) (length work) o old new) e p in
+    let k = making-opened w h (length work) dithered work o old new wide high room f in
     record {
-      last = last;
-      made = refl;
-      shows = q .does _ (making-opened w h (length work) dithered work o old new wide high room f);
-      spares = q .spares;
+      does = record { last = last; made = refl; counts = q .counts _ (k .stands); shows = q .does _ k; leaves = q .leaves _ (k .stands) };
     }
 
 -- ---- whole making

@@ -19,7 +19,7 @@ use Rattle.options.specs.declared.Quantize.the-variants.{Threshold, Dither}
 use Rattle.encoder.specs.Make.{Makes}
 use Rattle.encode_session.specs.Model as Making
 use Rattle.decode_session.specs.Model as Reading
-use Rattle.replay.specs.Calls.{named, Spares}
+use Rattle.replay.specs.Calls.{named}
 use Rattle.replay.specs.Encode as Encode
 use Rattle.replay.specs.Decode as Decode
 use Rattle.replay.specs.declared.EncodeReplayed.{EncodeReplayed}
@@ -69,14 +69,19 @@ abbrev pub makingFrom : ℕ → ℕ → Bool → ℕ → Making.Model
 makingFrom width height dithered work =
     let a = Making.opening (rule dithered) width height [] [] in startedBy (Making.header a work) (Making.opened a)
 
--- so many calls are made, with their replies in every lent byte; the work is altered only where calls are lent it
-pub record MakesList (width height : ℕ) (dithered : Bool) (numbers gray : List ℕ) (work : List ℤ) (out answers : List ℕ) (r : ℕ)
-    (work′ : List ℤ) (out′ answers′ : List ℕ) : Type 0 where
+-- so many calls are made, with their replies in every lent byte, and the work buffer is altered only by carries
+pub record MakesBy (m : Making.Model) (cs : List Making.Call) (work : List ℤ) (out answers : List ℕ) (r : ℕ) (work′ : List ℤ)
+    (out′ answers′ : List ℕ) : Type 0 where
   pub last : EncodeReplayed
   pub made : r ≡ last .calls
-  pub shows : let cs = named numbers (length gray) (length out) (length work) (length answers) in
-      Encode.Shows (makingFrom width height dithered (length work)) (Encode.callsOf cs gray out) out answers last out′ answers′ work′
-  pub spares : Spares (named numbers (length gray) (length out) (length work) (length answers)) r out answers work out′ answers′ work′
+  pub counts : Encode.Counts m cs answers last answers′
+  pub shows : Encode.Shows m cs out last out′ work′
+  pub leaves : Encode.Leaves m (Making.finally m cs) work work′
+
+pub record MakesList (width height : ℕ) (dithered : Bool) (numbers gray : List ℕ) (work : List ℤ) (out answers : List ℕ) (r : ℕ)
+    (work′ : List ℤ) (out′ answers′ : List ℕ) : Type 0 where
+  pub does : let cs = named numbers (length gray) (length out) (length work) (length answers) in
+      MakesBy (makingFrom width height dithered (length work)) (Encode.callsOf cs gray out) work out answers r work′ out′ answers′
 
 -- ---- whole making of one scan
 
