@@ -12,7 +12,7 @@ use Rattle.error.specs.Choice.{if}
 use Rattle.error.specs.Answer.{Answer, gives, refuses, written}
 use Rattle.error.specs.Emits.{emitted}
 use Rattle.laws.proofs.Tests.{if-true, if-false, zero-one}
-use Rattle.ext.specs.Write.{fieldsBytes}
+use Rattle.ext_write.specs.Write.{fieldsBytes}
 use Rattle.header.specs.Write.{headerBytes}
 use Rattle.header.proofs.Put.{header-length, sizes-ten}
 use Rattle.header.specs.declared.ExtPresence.the-variants.{Absent}

@@ -13,8 +13,8 @@ use Rattle.error.specs.Answer.{Answer, gives, refuses, map}
 use Rattle.laws.proofs.Answers.{bind-gives, when}
 use Rattle.mbi.specs.Bytes.{mbiBytes, groups}
 use Rattle.ext.specs.Kinds.{Fields, none, bitfield, reserved, pairs, spanOf}
-use Rattle.ext.specs.Ceiling.{Readable}
-use Rattle.ext.specs.Write.{fieldsBytes}
+use Rattle.ext_write.specs.Ceiling.{Readable}
+use Rattle.ext_write.specs.Write.{fieldsBytes}
 use Rattle.header.specs.Read.{Outline, outline}
 use Rattle.header.specs.Write.{fixByte, sizeBytes, headerBytes, presented}
 use Rattle.header.proofs.RoundTrip.{Fitting}

@@ -13,10 +13,10 @@ use Rattle.error.specs.Answer.{gives, map}
 use Rattle.laws.proofs.Tests.{zero-one}
 use Rattle.ext.specs.Kinds.{Fields, none, bitfield, reserved, pairs, spanOf, fieldsFollow, kindBits}
 use Rattle.ext.specs.Read.{readFields}
-use Rattle.ext.specs.Write.{fieldsBytes}
-use Rattle.ext.specs.Ceiling.{kindOf, Readable}
+use Rattle.ext_write.specs.Write.{fieldsBytes}
+use Rattle.ext_write.specs.Ceiling.{kindOf, Readable}
 use Rattle.ext.proofs.Bounds.{fields-bound}
-use Rattle.ext.proofs.ReadBack.{read-back}
+use Rattle.ext_write.proofs.ReadBack.{read-back}
 use Rattle.header.specs.Settings.{Settings}
 use Rattle.header.specs.Write.{fixByte}
 use Rattle.decode_session.specs.Extension.{fieldBytes}

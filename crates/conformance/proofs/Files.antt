@@ -16,7 +16,7 @@ use Rattle.laws.proofs.Answers.{bind-gives, map-gives, unless}
 use Rattle.laws.proofs.Tests.{neither, zero-one}
 use Rattle.mbi.specs.Bytes.{mbiBytes, groups}
 use Rattle.ext.specs.Kinds.{Fields, none, bitfield, reserved, pairs}
-use Rattle.ext.specs.Write.{fieldsBytes, lentFields, cutPairs, sum}
+use Rattle.ext_write.specs.Write.{fieldsBytes, lentFields, cutPairs, sum}
 use Rattle.ext.specs.declared.ExtFieldType.the-variants.{Bitfield00, Reserved01, Reserved10, ParameterPairs11}
 use Rattle.header.specs.Settings.{Settings}
 use Rattle.header.specs.Read.{Header, readHeader}

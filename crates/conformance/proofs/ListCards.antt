@@ -10,7 +10,7 @@ use Rattle.mbi.specs.Bytes.{mbiBytes, groups}
 use Rattle.mbi.specs.Read.{readRest, readByte}
 use Rattle.ext.specs.Classes.{all, isAlphaDigit}
 use Rattle.ext.specs.Read.{readFields, readPairs, readPair}
-use Rattle.ext.specs.Write.{fieldsBytes, pairsBytes, checkPair, lentFields, cutPairs, sum}
+use Rattle.ext_write.specs.Write.{fieldsBytes, pairsBytes, checkPair, lentFields, cutPairs, sum}
 use Rattle.ext.specs.declared.ExtFieldType.the-variants.{ParameterPairs11}
 use Rattle.header.specs.Read.{readHeader}
 use Rattle.header.specs.declared.ExtPresence.the-variants.{Present}

@@ -7,7 +7,7 @@ use native.Mathlib.Omega.{arith}
 use Rattle.error.specs.Answer.{gives}
 use Rattle.mbi.specs.Bytes.{mbiBytes, groups}
 use Rattle.ext.specs.Kinds.{none, bitfield}
-use Rattle.ext.specs.Write.{fieldsBytes, octetsBytes, lentFields}
+use Rattle.ext_write.specs.Write.{fieldsBytes, octetsBytes, lentFields}
 use Rattle.ext.specs.declared.ExtFieldType.the-variants.{Bitfield00}
 use Rattle.header.specs.declared.ExtPresence.{ExtPresence}
 use Rattle.header.specs.declared.ExtPresence.the-variants.{Absent, Present}

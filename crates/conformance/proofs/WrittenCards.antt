@@ -9,7 +9,7 @@ use Rattle.laws.proofs.Octets.{octets-by}
 use Rattle.mbi.specs.Bytes.{mbiBytes, groups}
 use Rattle.ext.specs.Kinds.{none, pairs}
 use Rattle.ext.specs.Classes.{all, isAlphaDigit}
-use Rattle.ext.specs.Write.{fieldsBytes, pairsBytes, checkPair, lentFields, cutPairs, sum}
+use Rattle.ext_write.specs.Write.{fieldsBytes, pairsBytes, checkPair, lentFields, cutPairs, sum}
 use Rattle.ext.specs.declared.ExtFieldType.the-variants.{ParameterPairs11}
 use Rattle.header.specs.declared.ExtPresence.{ExtPresence}
 use Rattle.header.specs.declared.ExtPresence.the-variants.{Absent, Present}

@@ -7,7 +7,7 @@ use lib.Dec.{ltb}
 use lib.ListN.{length, take, drop}
 use Rattle.error.specs.Answer.{gives}
 use Rattle.ext.specs.Kinds.{Fields, none, bitfield, reserved, pairs}
-use Rattle.ext.specs.Ceiling.{StartsBelow}
+use Rattle.ext_write.specs.Ceiling.{StartsBelow}
 use Rattle.header.specs.Write.{fixByte}
 use Rattle.image.specs.Dots.{isWhite}
 use Rattle.image.specs.Geometry.{rowBytes, planeBytes}

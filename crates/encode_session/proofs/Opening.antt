@@ -14,8 +14,8 @@ use Rattle.error.specs.Choice.{if}
 use Rattle.error.specs.Answer.{Answer, gives, refuses, written}
 use Rattle.error.specs.Emits.{Emits, emitted}
 use Rattle.error.specs.declared.Written.{Written}
-use Rattle.ext.specs.Left.{Left, none-left}
-use Rattle.ext.specs.declared.PairsBegun.{PairsBegun}
+use Rattle.ext_write.specs.Left.{Left, none-left}
+use Rattle.ext_write.specs.declared.PairsBegun.{PairsBegun}
 use Rattle.laws.proofs.Tests.{zero-one}
 use Rattle.header.specs.Write.{extHeader}
 use Rattle.options.specs.declared.Quantize.{Quantize}

@@ -7,9 +7,9 @@ use error::UNKNOWN_SETTING;
 use error::WbmpError;
 use error::Written;
 use error::ZERO_DIMENSION;
-use ext::FieldsCheck;
-use ext::PairsBegun;
-use ext::Parameter;
+use ext_write::FieldsCheck;
+use ext_write::PairsBegun;
+use ext_write::Parameter;
 use options::EncodeOptions;
 use options::Quantize;
 use quantize::Quantizer;
@@ -18,7 +18,7 @@ ghost use mathlib.Core.Path.{_≡_};
 ghost use mathlib.Core.Bool.{true};
 ghost use lib.ListN.{length};
 ghost use Rattle.error.specs.Answer.{refuses, written};
-ghost use Rattle.ext.specs.Write.{flattened};
+ghost use Rattle.ext_write.specs.Write.{flattened};
 ghost use Rattle.options.specs.declared.Quantize.{Quantize};
 ghost use Rattle.quantize.specs.Engine.{meaning, roomy};
 ghost use Rattle.encode_session.specs.Model.{opening};
@@ -159,9 +159,9 @@ impl EncodeSession {
     ) -> EncodeOpened
         ensures { λ r. ⌜ Opens (opening options width height (now (text .entry)) (flattened (now (parameters .entry)))) (length (now (work .entry))) r (now (out .entry)) (now (out .exit)) ⌝ }
     {
-        let found = ext::check_parameters(text, parameters, options.strict);
+        let found = ext_write::check_parameters(text, parameters, options.strict);
         let begun = begin_opening(width, height, options, text, found, work.len(), &mut *out);
-        let answer = ext::put_parameters(text, parameters, begun, out);
+        let answer = ext_write::put_parameters(text, parameters, begun, out);
         opened(width, height, options, answer)
     }
 
@@ -177,9 +177,9 @@ impl EncodeSession {
     ) -> EncodeOpened
         ensures { λ r. ⌜ Opens (opening options width height (now (text .entry)) (now (lengths .entry))) (length (now (work .entry))) r (now (out .entry)) (now (out .exit)) ⌝ }
     {
-        let found = ext::check_lengths(text, lengths, options.strict);
+        let found = ext_write::check_lengths(text, lengths, options.strict);
         let begun = begin_opening(width, height, options, text, found, work.len(), &mut *out);
-        let answer = ext::put_lengths(text, lengths, begun, out);
+        let answer = ext_write::put_lengths(text, lengths, begun, out);
         opened(width, height, options, answer)
     }
 

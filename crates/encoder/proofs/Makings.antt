@@ -9,7 +9,7 @@ use lib.Seq.{take-append-le}
 use Rattle.error.specs.Answer.{gives, refuses}
 use Rattle.error.specs.Emits.{emitted}
 use Rattle.mbi.specs.Bytes.{groups, mbiBytes}
-use Rattle.ext.specs.Write.{octetsBytes, fieldsBytes, lentFields}
+use Rattle.ext_write.specs.Write.{octetsBytes, fieldsBytes, lentFields}
 use Rattle.ext.specs.declared.ExtFieldType.the-variants.{Bitfield00}
 use Rattle.header.specs.Write.{extHeader}
 use Rattle.header.specs.declared.ExtPresence.the-variants.{Absent, Present}

@@ -16,7 +16,7 @@ use ext::ExtFields;
 use ext::ExtRead;
 use ext::FixHeaderField;
 use ext::Lookup;
-use ext::Parameter;
+use ext_write::Parameter;
 use header::HeaderFields;
 use header::HeaderRead;
 use header::ParsedHeader;

@@ -73,9 +73,9 @@ fn fields_in(space: &mut [usize], input: &[u8], strict: bool, out: &mut [u8]) ->
     let text = behind(rest, n);
     let kind = kind_of(byte(input, 0));
     if strict {
-        return ext::write_ext_fields_lengths_strict(kind, text, lengths(space, n), out);
+        return ext_write::write_ext_fields_lengths_strict(kind, text, lengths(space, n), out);
     }
-    ext::write_ext_fields_lengths(kind, text, lengths(space, n), out)
+    ext_write::write_ext_fields_lengths(kind, text, lengths(space, n), out)
 }
 
 fn with_fields(input: &[u8], strict: bool, out: &mut [u8]) -> Written {
