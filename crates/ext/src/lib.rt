@@ -15,6 +15,9 @@ use error::WbmpError;
 pub use read::parse_ext_fields;
 pub use read::parse_ext_fields_strict;
 
+// An octet or a pair starts less than this far from the first one.
+pub const MAX_EXT_FIELD_BYTES: usize = 4096;
+
 // The kind of the fields: bits 6-5 of the FixHeader byte.
 pub enum ExtFieldType {
     Bitfield00,

@@ -3,6 +3,7 @@ use crate::ExtFieldType;
 use crate::ExtFields;
 use crate::ExtRead;
 use crate::FixHeaderField;
+use crate::MAX_EXT_FIELD_BYTES;
 use crate::PairRead;
 use crate::class::identifier_in_class;
 use crate::class::value_in_class;
@@ -15,9 +16,6 @@ ghost use Rattle.error.specs.Answer.{gives, refuses, map};
 ghost use Rattle.ext.specs.Kinds.{kindNumber, span, spanOf, meaning};
 ghost use Rattle.ext.specs.Read.{readPair, readFields};
 ghost use Rattle.ext.specs.Pairwise.{pairMeaning, pairStep};
-
-// An octet or a pair starts less than this far from the first one.
-pub const MAX_EXT_FIELD_BYTES: usize = 4096;
 
 fn refused(code: u8, offset: usize) -> ExtRead
     ensures { λ r. ⌜ meaning r ≡ refuses code offset ⌝ }

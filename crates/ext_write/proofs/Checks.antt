@@ -16,7 +16,7 @@ use Rattle.laws.proofs.Lists.{length-part}
 use Rattle.laws.proofs.Tests.{if-true, if-false}
 use Rattle.ext.specs.Kinds.{Pair, Fields}
 use Rattle.ext_write.specs.Write.{checkPair, pairBytes, pairsBytes, cutPairs, sum, lentFields, lentBytes, fieldsBytes}
-use Rattle.ext_write.specs.Steps.{lentPair, codeOf, checkStep, checkPairs}
+use Rattle.ext_write.specs.Steps.{lentPair, codeOf, startAfter, checkStart, checkStep, checkPairs}
 use Rattle.ext_write.specs.declared.PairsCheck.{PairsCheck}
 use Rattle.ext_write.proofs.CheckPair.{Verdict, verdict, passed}
 use Rattle.ext_write.proofs.Laid.{laid, pairs-laid, laid-cons}
@@ -68,13 +68,29 @@ cut-more (i ∷ []) text = refl
 cut-more (i ∷ v ∷ ls) text =
     lt-ltb 0 (length (cutPairs (i ∷ v ∷ ls) text)) (omega arith) ∙ sym (lt-ltb 0 (length (i ∷ v ∷ ls)) (omega arith))
 
+-- where the pair behind all starts
+unfoldable pub startsAfter : ℕ → List ℕ → ℕ
+startsAfter start [] = start
+startsAfter start (i ∷ []) = startAfter start i 0
+startsAfter start (i ∷ v ∷ lengths) = startsAfter (startAfter start i v) lengths
+
 module _ (strict : Bool) (text : List ℕ) where
+  -- a check that has come to the end of the text
+  abbrev ended : PairsCheck → List ℕ → PairsCheck
+  ended s lengths =
+      record { at = length text; start = startsAfter (s .start) lengths; code = firstCode strict (s .code) (cutPairs lengths (drop (s .at) text)) }
+
   -- what one step comes to
   data Stepped (s : PairsCheck) (i v : ℕ) : Type 0 where
     inside : s .at + i + v ≤ length text
-        → checkStep strict text s i v ≡ record { at = s .at + i + v; code = if (eqb (s .code) 0) (codeOf (checkPair strict (lentPair text (s .at) i v))) (s .code) }
+        → checkStep strict text s i v
+        ≡ record {
+          at = s .at + i + v;
+          start = startAfter (s .start) i v;
+          code = if (eqb (s .code) 0) (codeOf (checkPair strict (lentPair text (s .at) i v))) (s .code);
+        }
         → Stepped s i v
-    past : checkStep strict text s i v ≡ record { at = s .at; code = 31 } → length text < s .at + i + v → Stepped s i v
+    past : checkStep strict text s i v ≡ record { at = s .at; start = s .start; code = 31 } → length text < s .at + i + v → Stepped s i v
 
   stepped : (s : PairsCheck) (i v : ℕ) → Stepped s i v
   unfolding checkStep
@@ -86,24 +102,26 @@ module _ (strict : Bool) (text : List ℕ) where
 
   -- lengths that add up to the text: the first refusal's number
   pub walk-in : (lengths : List ℕ) (s : PairsCheck) → s .at + sum lengths ≡ length text
-      → checkPairs strict text lengths s ≡ record { at = length text; code = firstCode strict (s .code) (cutPairs lengths (drop (s .at) text)) }
-  unfolding checkPairs sum cutPairs
-  walk-in [] s h = let e : s .at ≡ length text = omega arith in ap (λ (n : ℕ). record { at = n; code = s .code }) e
+      → checkPairs strict text lengths s ≡ ended s lengths
+  unfolding checkPairs sum cutPairs startsAfter
+  walk-in [] s h = let e : s .at ≡ length text = omega arith in ap (λ (n : ℕ). record { at = n; start = s .start; code = s .code }) e
   walk-in (i ∷ []) s h = by-step (stepped s i 0)
     where
-      by-step : Stepped s i 0 → checkStep strict text s i 0 ≡ record { at = length text; code = firstCode strict (s .code) (cutPairs (i ∷ []) (drop (s .at) text)) }
-      by-step (inside l e) = let f : s .at + i + 0 ≡ length text = omega arith in e ∙ ap (λ (n : ℕ). record { at = n; code = firstCode strict (s .code) (lentPair text (s .at) i 0 ∷ []) }) f
+      by-step : Stepped s i 0 → checkStep strict text s i 0 ≡ ended s (i ∷ [])
+      by-step (inside l e) =
+          let f : s .at + i + 0 ≡ length text = omega arith in
+          e ∙ ap (λ (n : ℕ). record { at = n; start = startAfter (s .start) i 0; code = firstCode strict (s .code) (lentPair text (s .at) i 0 ∷ []) }) f
       by-step (past e l) = absurd (omega arith)
   walk-in (i ∷ v ∷ ls) s h = by-step (stepped s i v) (λ s′ k. walk-in ls s′ k)
     where
       by-step : Stepped s i v
-          → ((s′ : PairsCheck) → s′ .at + sum ls ≡ length text → checkPairs strict text ls s′ ≡ record { at = length text; code = firstCode strict (s′ .code) (cutPairs ls (drop (s′ .at) text)) })
-          → checkPairs strict text ls (checkStep strict text s i v)
-          ≡ record { at = length text; code = firstCode strict (s .code) (cutPairs (i ∷ v ∷ ls) (drop (s .at) text)) }
+          → ((s′ : PairsCheck) → s′ .at + sum ls ≡ length text → checkPairs strict text ls s′ ≡ ended s′ ls)
+          → checkPairs strict text ls (checkStep strict text s i v) ≡ ended s (i ∷ v ∷ ls)
       by-step (inside l e) walk =
           ap (checkPairs strict text ls) e
           ∙ walk _ (omega arith)
-          ∙ ap (λ (ps : List Pair). record { at = length text; code = firstCode strict (s .code) ps }) (sym (cut-cons text ls (s .at) i v))
+          ∙ ap (λ (ps : List Pair). record { at = length text; start = startsAfter (startAfter (s .start) i v) ls; code = firstCode strict (s .code) ps })
+          (sym (cut-cons text ls (s .at) i v))
       by-step (past e l) walk = absurd (omega arith)
 
   -- a pair past the text stays refused
@@ -171,9 +189,9 @@ module _ (strict : Bool) (text lengths : List ℕ) where
   lent-laid h some = lent-pairs h ∙ pairs-laid strict (cutPairs lengths text) (cut-some lengths text some)
 
 -- what the end of a run says of the fields
-module _ (strict : Bool) (text lengths : List ℕ) (s : PairsCheck) (q : s ≡ checkPairs strict text lengths (record { at = 0; code = 0 })) where
-  ran-in : sum lengths ≡ length text → s ≡ record { at = length text; code = firstCode strict 0 (cutPairs lengths text) }
-  ran-in h = q ∙ walk-in strict text lengths (record { at = 0; code = 0 }) (zero-add (sum lengths) ∙ h)
+module _ (strict : Bool) (text lengths : List ℕ) (s : PairsCheck) (q : s ≡ checkPairs strict text lengths checkStart) where
+  ran-in : sum lengths ≡ length text → s ≡ ended strict text checkStart lengths
+  ran-in h = q ∙ walk-in strict text lengths checkStart (zero-add (sum lengths) ∙ h)
 
   pub pairs-31 : (s .at ≡ length text → ⊥) → lentBytes strict 3 text lengths ≡ refuses 31 0
   pairs-31 n = lent-31 strict text lengths (λ h. n (ap (λ (r : PairsCheck). r .at) (ran-in h)))
@@ -182,7 +200,7 @@ module _ (strict : Bool) (text lengths : List ℕ) (s : PairsCheck) (q : s ≡ c
   unfolding checkPairs pairsBytes cutPairs sum
   pairs-23 e z = by-lengths lengths z q (lent-pairs strict text lengths)
     where
-      by-lengths : (ls : List ℕ) → length ls ≡ 0 → s ≡ checkPairs strict text ls (record { at = 0; code = 0 })
+      by-lengths : (ls : List ℕ) → length ls ≡ 0 → s ≡ checkPairs strict text ls checkStart
           → (sum ls ≡ length text → lentBytes strict 3 text lengths ≡ pairsBytes strict (cutPairs ls text))
           → lentBytes strict 3 text lengths ≡ refuses 23 0
       by-lengths [] y f g = g (sym (ap (λ (r : PairsCheck). r .at) f) ∙ e)
@@ -194,7 +212,7 @@ module _ (strict : Bool) (text lengths : List ℕ) (s : PairsCheck) (q : s ≡ c
         ⊎-elim
         (λ h. absurd (n (sym (zero-add (sum lengths)) ∙ h)))
         (λ k. ap (λ (r : PairsCheck). r .code) q ∙ k)
-        (walk-out strict text lengths (record { at = 0; code = 0 }) (sym (ap (λ (r : PairsCheck). r .at) q) ∙ e))
+        (walk-out strict text lengths checkStart (sym (ap (λ (r : PairsCheck). r .at) q) ∙ e))
 
     settled : sum lengths ≡ length text → Answered strict (laid strict (cutPairs lengths text)) (s .code)
     settled h =

@@ -5,6 +5,7 @@ pub mod Laid
 pub mod Checks
 pub mod Puts
 pub mod Lent
+pub mod StartCounted
 pub mod BackOctets
 pub mod BackPairs
 pub mod ReadBack

@@ -15,7 +15,7 @@ use Rattle.error.specs.Answer.{Answer}
 use Rattle.laws.proofs.Lists.{drop-at, length-part}
 use Rattle.laws.proofs.Tests.{if-true, if-false}
 use Rattle.ext_write.specs.Write.{checkPair, pairBytes}
-use Rattle.ext_write.specs.Steps.{lentPair, codeOf, checkStep, checkPairs, canPut, putStep, putOutput, putPairs}
+use Rattle.ext_write.specs.Steps.{lentPair, codeOf, startAfter, checkStep, checkPairs, canPut, putStep, putOutput, putPairs}
 use Rattle.ext_write.specs.declared.PairsCheck.{PairsCheck}
 use Rattle.ext_write.specs.declared.PairsPut.{PairsPut}
 
@@ -128,22 +128,29 @@ module _ (text : List ℕ) (at len : ℕ) (old : List ℕ) (to : ℕ) where
 
 -- one step of a check
 module _ (strict : Bool) (text : List ℕ) (s : PairsCheck) (i v : ℕ) where
-  pub step-past : length text < s .at + i + v → record { at = s .at; code = 31 } ≡ checkStep strict text s i v
+  pub step-past : length text < s .at + i + v → record { at = s .at; start = s .start; code = 31 } ≡ checkStep strict text s i v
   unfolding checkStep
   step-past h = sym (if-false _ _ _ (lt-leb _ _ h))
 
   module _ (h : s .at + i + v ≤ length text) where
-    pub step-kept : (s .code ≡ 0 → ⊥) → record { at = s .at + i + v; code = s .code } ≡ checkStep strict text s i v
-    unfolding checkStep
-    step-kept n = sym (if-true _ _ _ (le-leb _ _ h) ∙ ap (λ (c : ℕ). record { at = s .at + i + v; code = c }) (if-false _ _ _ (ne-eqb _ _ n)))
+    -- what it comes to with a number
+    abbrev next : ℕ → PairsCheck
+    next code = record { at = s .at + i + v; start = startAfter (s .start) i v; code = code }
 
-    pub step-new : (a : Answer (Unit {0})) → s .code ≡ 0 → a ≡ checkPair strict (lentPair text (s .at) i v)
-        → record { at = s .at + i + v; code = codeOf a } ≡ checkStep strict text s i v
+    pub step-kept : (start : ℕ) → start ≡ startAfter (s .start) i v → (s .code ≡ 0 → ⊥)
+        → record { at = s .at + i + v; start = start; code = s .code } ≡ checkStep strict text s i v
     unfolding checkStep
-    step-new a z e =
-        sym
-        (if-true _ _ _ (le-leb _ _ h)
-        ∙ ap (λ (c : ℕ). record { at = s .at + i + v; code = c }) (if-true _ _ _ (eq-eqb _ _ z) ∙ ap codeOf (sym e)))
+    step-kept start f n =
+        ap (λ (m : ℕ). record { at = s .at + i + v; start = m; code = s .code }) f
+        ∙ sym (if-true _ _ _ (le-leb _ _ h) ∙ ap next (if-false _ _ _ (ne-eqb _ _ n)))
+
+    pub step-new : (start : ℕ) → start ≡ startAfter (s .start) i v → (a : Answer (Unit {0})) → s .code ≡ 0
+        → a ≡ checkPair strict (lentPair text (s .at) i v)
+        → record { at = s .at + i + v; start = start; code = codeOf a } ≡ checkStep strict text s i v
+    unfolding checkStep
+    step-new start f a z e =
+        ap (λ (m : ℕ). record { at = s .at + i + v; start = m; code = codeOf a }) f
+        ∙ sym (if-true _ _ _ (le-leb _ _ h) ∙ ap next (if-true _ _ _ (eq-eqb _ _ z) ∙ ap codeOf (sym e)))
 
 -- one step of a put
 module _ (text out : List ℕ) (s : PairsPut) (i v : ℕ) where

@@ -33,15 +33,23 @@ abbrev pub codeOf : Answer (Unit {0}) → ℕ
 codeOf (gives u) = 0
 codeOf (refuses code offset) = code
 
+-- Where the next pair starts, past the first one, behind a pair of i and v bytes: counted as long as a ceiling of 4,096 can ask.
+abbrev pub startAfter : ℕ → ℕ → ℕ → ℕ
+startAfter start i v = if (ltb start 4096) (start + 1 + i + v) start
+
 -- One pair more: 31 where it runs past the text, whatever was refused before; else the first refusal stays.
 unfoldable pub checkStep : Bool → List ℕ → PairsCheck → ℕ → ℕ → PairsCheck
 checkStep strict text s i v =
     if (leb (s .at + i + v) (length text))
-    (record { at = s .at + i + v; code = if (eqb (s .code) 0) (codeOf (checkPair strict (lentPair text (s .at) i v))) (s .code) })
-    (record { at = s .at; code = 31 })
+    (record {
+      at = s .at + i + v;
+      start = startAfter (s .start) i v;
+      code = if (eqb (s .code) 0) (codeOf (checkPair strict (lentPair text (s .at) i v))) (s .code);
+    })
+    (record { at = s .at; start = s .start; code = 31 })
 
 abbrev pub checkStart : PairsCheck
-checkStart = record { at = 0; code = 0 }
+checkStart = record { at = 0; start = 0; code = 0 }
 
 unfoldable pub checkPairs : Bool → List ℕ → List ℕ → PairsCheck → PairsCheck
 checkPairs strict text [] s = s

@@ -35,16 +35,18 @@ pub enum FieldsCheck {
     Refused(WbmpError),
 }
 
-// A check of pairs on its way: where the next pair stands in the text, and the number of the first refusal, 0 for none.
-pub struct PairsCheck {
-    pub at: usize,
-    pub code: u8,
+// A check of pairs on its way: where the next pair stands in the text, where it starts in the fields, and the number of the first refusal,
+// 0 for none. `start` is exact up to the pair that passes 4,096, and stays from there on.
+struct PairsCheck {
+    at: usize,
+    start: usize,
+    code: u8,
 }
 
 // Where the next pair to put stands in the text, and where it goes in the output.
-pub struct PairsPut {
-    pub at: usize,
-    pub to: usize,
+struct PairsPut {
+    at: usize,
+    to: usize,
 }
 
 // Fields begun: all but the pairs is written. The first pair goes to `to`, which is the output's end where none is left to put; `answer` is the writer's.

@@ -5,17 +5,34 @@ use crate::PairsPut;
 use crate::validate::check_parameter;
 use error::Checked;
 use error::WbmpError;
+use ext::MAX_EXT_FIELD_BYTES;
 ghost use Prim.Native.Nat.{_+_, _*_, _≤_, _<_, _^_};
 ghost use mathlib.Core.Path.{_≡_};
 ghost use lib.ListN.{length, take, drop, getD};
 ghost use lib.Seq.{sets};
 ghost use Rattle.error.specs.Choice.{if};
-ghost use Rattle.ext_write.specs.Steps.{checkStart, checkStep, checkPairs, pairsLength, putStart, putStep, putOutput, putPairs};
+ghost use Rattle.ext_write.specs.Steps.{checkStart, startAfter, checkStep, checkPairs, pairsLength, putStart, putStep, putOutput, putPairs};
 
 pub(crate) fn check_start() -> PairsCheck
     ensures { λ r. ⌜ r ≡ checkStart ⌝ }
 {
-    PairsCheck { at: 0, code: 0 }
+    PairsCheck {
+        at: 0,
+        start: 0,
+        code: 0,
+    }
+}
+
+// Where the pair behind one that starts at `start` starts.
+fn start_after(start: usize, identifier_len: usize, value_len: usize) -> usize
+    requires { ⌜ «identifier_len» + «value_len» < 2 ^ 63 ⌝ }
+    ensures { λ r. ⌜ r ≡ startAfter start «identifier_len» «value_len» ⌝ }
+{
+    if start < MAX_EXT_FIELD_BYTES {
+        start + 1 + identifier_len + value_len
+    } else {
+        start
+    }
 }
 
 pub(crate) fn check_pair(
@@ -28,9 +45,11 @@ pub(crate) fn check_pair(
     ensures { λ r. ⌜ r ≡ checkStep strict (now (text .entry)) s «identifier_len» «value_len» ⌝ }
 {
     let at = s.at;
+    let start = s.start;
     let code = s.code;
     let past = PairsCheck {
         at,
+        start,
         code: error::PAIR_LENGTHS,
     };
     if text.len() < at {
@@ -44,13 +63,23 @@ pub(crate) fn check_pair(
         return past;
     }
     let end = value + value_len;
+    let start = start_after(start, identifier_len, value_len);
     if code != 0 {
-        return PairsCheck { at: end, code };
+        return PairsCheck {
+            at: end,
+            start,
+            code,
+        };
     }
     match check_parameter(&text[at..value], &text[value..end], strict) {
-        Checked::Accepted => PairsCheck { at: end, code: 0 },
+        Checked::Accepted => PairsCheck {
+            at: end,
+            start,
+            code: 0,
+        },
         Checked::Refused(e) => PairsCheck {
             at: end,
+            start,
             code: e.code,
         },
     }

@@ -28,8 +28,11 @@ returns-3 c = step-past _ _ _ _ _ (omega arith)
 add-end : tie.Need-add-end
 add-end c = search needs
 
+start-after-requires : tie.Need-start-after-requires
+start-after-requires c κs = search needs
+
 returns-4 : tie.Need-returns-4
-returns-4 c = step-kept _ _ _ _ _ (omega arith) (c .if4 .taken)
+returns-4 c = step-kept _ _ _ _ _ (omega arith) _ (c .before .start-after .ensures) (c .if4 .taken)
 
 sub-check-parameter : tie.Need-sub-check-parameter
 sub-check-parameter c = search needs
@@ -62,15 +65,17 @@ returns-5 : tie.Need-returns-5
 returns-5 c =
     let k = c .before .before in
     let a = k .before .before .before in
-    let r = a .before .before .before .before .before .args in
-    step-new _ _ _ _ _ (omega arith) (gives tt) (a .if4 .left) (ap checked (sym (c .enum-told .given .1)) ∙ k .check-parameter .ensures ∙ parts-pair _ (now (r .text)) (r .s .at) (r .identifier-len) (r .value-len))
+    let r = a .before .before .before .before .before .before .args in
+    step-new _ _ _ _ _ (omega arith) _ (a .before .start-after .ensures) (gives tt) (a .if4 .left)
+    (ap checked (sym (c .enum-told .given .1)) ∙ k .check-parameter .ensures ∙ parts-pair _ (now (r .text)) (r .s .at) (r .identifier-len) (r .value-len))
 
 returns-6 : tie.Need-returns-6
 returns-6 c =
     let k = c .before .before .before in
     let a = k .before .before .before in
-    let r = a .before .before .before .before .before .args in
-    step-new _ _ _ _ _ (omega arith) _ (a .if4 .left) (ap checked (sym (c .before .e .given .1)) ∙ k .check-parameter .ensures ∙ parts-pair _ (now (r .text)) (r .s .at) (r .identifier-len) (r .value-len))
+    let r = a .before .before .before .before .before .before .args in
+    step-new _ _ _ _ _ (omega arith) _ (a .before .start-after .ensures) _ (a .if4 .left)
+    (ap checked (sym (c .before .e .given .1)) ∙ k .check-parameter .ensures ∙ parts-pair _ (now (r .text)) (r .s .at) (r .identifier-len) (r .value-len))
 
 pub check-pair-spec : {M : Type 1} → statement M
 check-pair-spec =
@@ -83,6 +88,7 @@ check-pair-spec =
     sub-if3
     returns-3
     add-end
+    start-after-requires
     returns-4
     sub-check-parameter
     part-check-parameter-start
