@@ -13,12 +13,12 @@ use Rattle.error.specs.Answer.{gives, refuses}
 use Rattle.error.specs.declared.WbmpError.{WbmpError}
 use Rattle.laws.proofs.Tests.{zero-one}
 use Rattle.header.specs.Read.{Outline, parsed}
-use Rattle.header.specs.Known.{Knows}
-use Rattle.header.specs.declared.FieldsSeen.{FieldsSeen}
+use Rattle.header_reader.specs.Known.{Knows}
+use Rattle.header_reader.specs.declared.FieldsSeen.{FieldsSeen}
 use Rattle.header.specs.declared.ParsedHeader.{ParsedHeader}
-use Rattle.header.specs.declared.reader.HeaderReader.{HeaderReader}
-use Rattle.header.proofs.Ends.{endCode, endOffset}
-use Rattle.header.proofs.KnownFields.{known-so, known-header}
+use Rattle.header_reader.specs.declared.reader.HeaderReader.{HeaderReader}
+use Rattle.header_reader.proofs.Ends.{endCode, endOffset}
+use Rattle.header_reader.proofs.KnownFields.{known-so, known-header}
 use Rattle.options.specs.Limits.{ceilingOf}
 use Rattle.decoder.specs.Body.{planeOf}
 use Rattle.decoder.specs.Image.{imageSettings}

@@ -11,7 +11,7 @@ use Rattle.error.specs.declared.Checked.the-variants.{Accepted}
 use Rattle.error.specs.declared.WbmpError.{WbmpError}
 use Rattle.laws.proofs.Lists.{length-append-take, append-take-drop}
 use Rattle.header.specs.Read.{Outline, parsed}
-use Rattle.header.specs.declared.FieldsSeen.{FieldsSeen}
+use Rattle.header_reader.specs.declared.FieldsSeen.{FieldsSeen}
 use Rattle.header.specs.declared.ParsedHeader.{ParsedHeader}
 use Rattle.image.proofs.PlaneSizes as planes
 use Rattle.options.specs.Limits.{Decoding, decoding, checkLimits}

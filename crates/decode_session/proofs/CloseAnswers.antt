@@ -12,10 +12,10 @@ use Rattle.error.specs.Answer.{Answer, gives, refuses, map}
 use Rattle.error.specs.declared.WbmpError.{WbmpError}
 use Rattle.laws.proofs.Tests.{if-true, if-false}
 use Rattle.header.specs.Read.{Outline}
-use Rattle.header.specs.Represents.{Ended}
-use Rattle.header.specs.declared.FieldsSeen.{FieldsSeen}
+use Rattle.header_reader.specs.Represents.{Ended}
+use Rattle.header_reader.specs.declared.FieldsSeen.{FieldsSeen}
 use Rattle.header.specs.declared.ParsedHeader.{ParsedHeader}
-use Rattle.header.specs.declared.reader.HeaderReader.{HeaderReader}
+use Rattle.header_reader.specs.declared.reader.HeaderReader.{HeaderReader}
 use Rattle.options.specs.Limits.{ceilingOf}
 use Rattle.decoder.specs.Body.{extraFrames, planeOf, framesIn}
 use Rattle.decoder.specs.Image.{imageSettings, readImage}

@@ -6,9 +6,9 @@ use mathlib.Core.List.{List, _++_, append-nil}
 use lib.ListN.{length}
 use Rattle.error.specs.declared.WbmpError.{WbmpError}
 use Rattle.header.specs.Read.{Outline, parsed}
-use Rattle.header.specs.declared.FieldsSeen.{FieldsSeen}
+use Rattle.header_reader.specs.declared.FieldsSeen.{FieldsSeen}
 use Rattle.header.specs.declared.ParsedHeader.{ParsedHeader}
-use Rattle.header.specs.declared.reader.HeaderReader.{HeaderReader}
+use Rattle.header_reader.specs.declared.reader.HeaderReader.{HeaderReader}
 use Rattle.decoder.specs.Image.{imageSettings}
 use Rattle.decode_session.specs.Model.{Met, nothing, Model, feed, stored, fedBy, unaltered, outcome}
 use Rattle.decode_session.specs.Session.{InBody, Stands, Feeds}

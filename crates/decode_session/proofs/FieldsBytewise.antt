@@ -19,11 +19,11 @@ use Rattle.ext.specs.Read.{readFields}
 use Rattle.ext.specs.Bytewise.{octets, octet, pairsFrom, identifierFrom, valueFrom, fieldsFrom, valueFault}
 use Rattle.ext.proofs.Continuation.{fields-in}
 use Rattle.header.specs.Settings.{Settings}
-use Rattle.header.specs.Machine.{State, inType, atFix, inOctets, atOctet, atPair, inIdentifier, inValue, inWidth, inHeight, start, Step, more, done, refused, onByte, stepOf, steps}
-use Rattle.header.specs.Represents.{Sound}
-use Rattle.header.specs.Pieces.{onward}
-use Rattle.header.proofs.Machine.{steps-cons}
-use Rattle.header.proofs.Keeps.{SoundStep, sound-step, value-kept}
+use Rattle.header_reader.specs.Machine.{State, inType, atFix, inOctets, atOctet, atPair, inIdentifier, inValue, inWidth, inHeight, start, Step, more, done, refused, onByte, stepOf, steps}
+use Rattle.header_reader.specs.Represents.{Sound}
+use Rattle.header_reader.specs.Pieces.{onward}
+use Rattle.header_reader.proofs.Machine.{steps-cons}
+use Rattle.header_reader.proofs.Keeps.{SoundStep, sound-step, value-kept}
 use Rattle.decode_session.specs.Extension.{fieldsEnd, fieldBytesAt, afterType, fieldBytes}
 use Rattle.decode_session.proofs.Zones.{Zone, before, inside, behind, zone}
 

@@ -15,12 +15,12 @@ use Rattle.mbi.specs.Read.{readRest, readByte}
 use Rattle.ext.specs.Kinds.{Span, absent, span}
 use Rattle.ext.specs.Read.{readFields, readPairs, readPair}
 use Rattle.header.specs.Settings.{Settings, extInner}
-use Rattle.header.specs.Machine.{State, start, inFields, Step, more, done, refused, stepOf, steps, atPair, inIdentifier}
-use Rattle.header.specs.Represents.{Sound}
-use Rattle.header.specs.Pieces.{onward}
-use Rattle.header.proofs.Machine.{steps-cons}
-use Rattle.header.proofs.Keeps.{SoundStep, sound-step, sound-steps, sound-start}
-use Rattle.header.proofs.Taken.{taken, Moves, moves-step, taken-steps}
+use Rattle.header_reader.specs.Machine.{State, start, inFields, Step, more, done, refused, stepOf, steps, atPair, inIdentifier}
+use Rattle.header_reader.specs.Represents.{Sound}
+use Rattle.header_reader.specs.Pieces.{onward}
+use Rattle.header_reader.proofs.Machine.{steps-cons}
+use Rattle.header_reader.proofs.Keeps.{SoundStep, sound-step, sound-steps, sound-start}
+use Rattle.header_reader.proofs.Taken.{taken, Moves, moves-step, taken-steps}
 use Rattle.decode_session.specs.Extension.{fieldBytes}
 use Rattle.decode_session.proofs.Zones.{Zone, before, inside, behind, zone, isInside, inside-is, Next, early, enters, skips, runs, leaves, late, Stops, Moved, zone-step}
 use Rattle.decode_session.proofs.FieldsBytewise.{spanned, rest, rest-start, rest-steps, rest-step, rest-end, stopped, after, zoneBytes}

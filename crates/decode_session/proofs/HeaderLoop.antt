@@ -12,16 +12,16 @@ use Rattle.error.specs.Answer.{gives, map}
 use Rattle.error.specs.declared.WbmpError.{WbmpError}
 use Rattle.header.specs.Settings.{Settings}
 use Rattle.header.specs.Read.{Outline, outline, readHeader}
-use Rattle.header.specs.Machine.{State, start, inFields, Step, more, done, refused, stepOf, steps, after, resume}
-use Rattle.header.specs.Represents.{Represents, Answers, Stepped}
-use Rattle.header.specs.Pieces.{onward}
+use Rattle.header_reader.specs.Machine.{State, start, inFields, Step, more, done, refused, stepOf, steps, after, resume}
+use Rattle.header_reader.specs.Represents.{Represents, Answers, Stepped}
+use Rattle.header_reader.specs.Pieces.{onward}
 use Rattle.header.specs.declared.ParsedHeader.{ParsedHeader}
-use Rattle.header.specs.declared.reader.HeaderReader.{HeaderReader}
-use Rattle.header.specs.declared.reader.HeaderStep.{HeaderStep}
-use Rattle.header.proofs.Machine.{one-step, steps-cons, steps-law, steps-append}
-use Rattle.header.proofs.Direct.{direct}
-use Rattle.header.proofs.Keeps.{SoundStep, sound-step}
-use Rattle.header.proofs.Taken.{Moves, taken, moves-step}
+use Rattle.header_reader.specs.declared.reader.HeaderReader.{HeaderReader}
+use Rattle.header_reader.specs.declared.reader.HeaderStep.{HeaderStep}
+use Rattle.header_reader.proofs.Machine.{one-step, steps-cons, steps-law, steps-append}
+use Rattle.header_reader.proofs.Direct.{direct}
+use Rattle.header_reader.proofs.Keeps.{SoundStep, sound-step}
+use Rattle.header_reader.proofs.Taken.{Moves, taken, moves-step}
 use Rattle.decode_session.specs.Extension.{fieldBytes}
 use Rattle.decode_session.specs.Head.{Reached, Ends, Heads, isKept, Keeps}
 use Rattle.decode_session.specs.declared.head.HeadFed.{HeadFed}

@@ -8,15 +8,15 @@ use Rattle.error.specs.Answer.{gives, refuses, map}
 use Rattle.laws.proofs.Tests.{zero-one}
 use Rattle.header.specs.Settings.{Settings}
 use Rattle.header.specs.Read.{Outline, outline, readHeader}
-use Rattle.header.specs.Machine.{State, inType, atFix, inOctets, atOctet, atPair, inIdentifier, inValue, inWidth, inHeight, Step, more, done, refused, start, steps, stepOf, resume, after}
-use Rattle.header.specs.Pieces.{onward}
-use Rattle.header.specs.Represents.{Sound}
-use Rattle.header.specs.declared.reader.HeaderReader.{HeaderReader}
-use Rattle.header.proofs.Machine.{steps-cons, steps-law, steps-all}
-use Rattle.header.proofs.Direct.{direct}
-use Rattle.header.proofs.Meets.{finds, found}
-use Rattle.header.proofs.Ends.{endCode, endOffset, end-is}
-use Rattle.header.proofs.Taken.{taken, Moves, moves-step, taken-steps}
+use Rattle.header_reader.specs.Machine.{State, inType, atFix, inOctets, atOctet, atPair, inIdentifier, inValue, inWidth, inHeight, Step, more, done, refused, start, steps, stepOf, resume, after}
+use Rattle.header_reader.specs.Pieces.{onward}
+use Rattle.header_reader.specs.Represents.{Sound}
+use Rattle.header_reader.specs.declared.reader.HeaderReader.{HeaderReader}
+use Rattle.header_reader.proofs.Machine.{steps-cons, steps-law, steps-all}
+use Rattle.header_reader.proofs.Direct.{direct}
+use Rattle.header_reader.proofs.Meets.{finds, found}
+use Rattle.header_reader.proofs.Ends.{endCode, endOffset, end-is}
+use Rattle.header_reader.proofs.Taken.{taken, Moves, moves-step, taken-steps}
 use Rattle.decode_session.specs.Head.{Reached}
 
 module _ (o : Settings) where

@@ -11,11 +11,11 @@ use Rattle.error.specs.declared.WbmpError.{WbmpError}
 use Rattle.laws.proofs.Lists.{length-append-take, append-take-drop}
 use Rattle.header.specs.Settings.{Settings}
 use Rattle.header.specs.Read.{parsed}
-use Rattle.header.specs.Known.{Knows}
-use Rattle.header.specs.declared.FieldsSeen.{FieldsSeen}
+use Rattle.header_reader.specs.Known.{Knows}
+use Rattle.header_reader.specs.declared.FieldsSeen.{FieldsSeen}
 use Rattle.header.specs.declared.ParsedHeader.{ParsedHeader}
-use Rattle.header.specs.declared.reader.HeaderReader.{HeaderReader}
-use Rattle.header.proofs.Ends.{endCode, endOffset, end-code}
+use Rattle.header_reader.specs.declared.reader.HeaderReader.{HeaderReader}
+use Rattle.header_reader.proofs.Ends.{endCode, endOffset, end-code}
 use Rattle.options.specs.declared.DecodeOptions.{DecodeOptions}
 use Rattle.options.specs.Limits.{ceilingOf}
 use Rattle.decoder.specs.Image.{imageSettings, headerOf}

@@ -13,9 +13,9 @@ use Rattle.error.specs.declared.WbmpError.{WbmpError}
 use Rattle.laws.proofs.Tests.{if-true, if-false, zero-one}
 use Rattle.mbi.specs.Read.{readRest}
 use Rattle.header.specs.Settings.{Settings}
-use Rattle.header.specs.Machine.{start, steps}
-use Rattle.header.specs.Represents.{Represents}
-use Rattle.header.specs.declared.reader.HeaderReader.{HeaderReader}
+use Rattle.header_reader.specs.Machine.{start, steps}
+use Rattle.header_reader.specs.Represents.{Represents}
+use Rattle.header_reader.specs.declared.reader.HeaderReader.{HeaderReader}
 use Rattle.options.specs.Limits.{Decoding, modeOf, decoding}
 use Rattle.options.specs.declared.DecodeOptions.{DecodeOptions}
 use Rattle.options.proofs.Ceilings.{passes}

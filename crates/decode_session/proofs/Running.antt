@@ -11,14 +11,14 @@ use lib.Seq.{sets, take-suc, take-all, take-add, drop-append-le, length-take-le}
 use Rattle.laws.proofs.Tests.{zero-one}
 use Rattle.laws.proofs.Runs.{sets-append}
 use Rattle.header.specs.Settings.{Settings}
-use Rattle.header.specs.Machine.{State, start, inType, atFix, inOctets, atOctet, atPair, inIdentifier, inValue, inWidth, inHeight, inFields, Step, more, steps}
-use Rattle.header.specs.Represents.{Sound}
-use Rattle.header.specs.Pieces.{onward}
-use Rattle.header.specs.Run.{fieldsStart, Inside, Ran, Runs}
-use Rattle.header.specs.declared.reader.HeaderReader.{HeaderReader}
-use Rattle.header.specs.declared.reader.HeaderRun.{HeaderRun}
-use Rattle.header.proofs.Machine.{steps-append}
-use Rattle.header.proofs.Taken.{taken}
+use Rattle.header_reader.specs.Machine.{State, start, inType, atFix, inOctets, atOctet, atPair, inIdentifier, inValue, inWidth, inHeight, inFields, Step, more, steps}
+use Rattle.header_reader.specs.Represents.{Sound}
+use Rattle.header_reader.specs.Pieces.{onward}
+use Rattle.header_reader.specs.Run.{fieldsStart, Inside, Ran, Runs}
+use Rattle.header_reader.specs.declared.reader.HeaderReader.{HeaderReader}
+use Rattle.header_reader.specs.declared.reader.HeaderRun.{HeaderRun}
+use Rattle.header_reader.proofs.Machine.{steps-append}
+use Rattle.header_reader.proofs.Taken.{taken}
 use Rattle.decode_session.specs.Extension.{fieldBytes}
 use Rattle.decode_session.specs.Head.{Reached}
 use Rattle.decode_session.specs.HeadRun.{KeepsRun, RunsOn}

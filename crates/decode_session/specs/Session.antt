@@ -10,8 +10,8 @@ use Rattle.error.specs.Choice.{if}
 use Rattle.error.specs.Answer.{Answer, gives, refuses, checked}
 use Rattle.error.specs.Answer as Answers
 use Rattle.header.specs.Read.{Outline, parsed}
-use Rattle.header.specs.Known.{Known, fieldsKnown, knownMeaning}
-use Rattle.header.specs.declared.FieldsSeen.{FieldsSeen}
+use Rattle.header_reader.specs.Known.{Known, fieldsKnown, knownMeaning}
+use Rattle.header_reader.specs.declared.FieldsSeen.{FieldsSeen}
 use Rattle.options.specs.Limits.{Decoding, settled, ceilingOf, decoding, checkLimits}
 use Rattle.decoder.specs.Body.{planeOf}
 use Rattle.decoder.specs.Image.{imageSettings, headerOf}

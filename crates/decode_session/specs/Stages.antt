@@ -7,7 +7,7 @@ use lib.ListN.{length, take}
 use Rattle.error.specs.Answer.{gives}
 use Rattle.error.specs.declared.WbmpError.{WbmpError}
 use Rattle.header.specs.Read.{Outline, parsed}
-use Rattle.header.specs.declared.FieldsSeen.{FieldsSeen}
+use Rattle.header_reader.specs.declared.FieldsSeen.{FieldsSeen}
 use Rattle.header.specs.declared.ParsedHeader.{ParsedHeader}
 use Rattle.options.specs.Limits.{decoding, ceilingOf}
 use Rattle.options.specs.declared.DecodeOptions.{DecodeOptions}

@@ -3,7 +3,7 @@ use crate::DecodeSession;
 use crate::Stage;
 use crate::body::MAX_FRAMES;
 use crate::body::least;
-use header::FieldsSeen;
+use header_reader::FieldsSeen;
 ghost use Rattle.decode_session.specs.Session.{TellsClosed, TellsFrames, SeesFields};
 
 impl DecodeSession {

@@ -1,0 +1,160 @@
+// Many bytes of extension fields at once.
+use crate::phase::Phase;
+use header::HeaderMode;
+ghost use mathlib.Core.Path.{_≡_};
+ghost use mathlib.Core.Bool.{false};
+ghost use mathlib.Core.Logic.{_⊎_};
+ghost use Prim.Native.Nat.{_≤_};
+ghost use Rattle.header.specs.Settings.{Settings, settings};
+ghost use Rattle.header_reader.specs.Machine.{inOctets, atPair};
+ghost use Rattle.header_reader.specs.Represents.{state};
+ghost use Rattle.header_reader.specs.Phase.{Bounded};
+ghost use Rattle.header_reader.specs.Run.{OctetsAhead, Continued, PairsAhead, PhaseRuns};
+
+// No octet and no pair starts so many bytes after the first one, or more.
+const CEILING: usize = 4096;
+
+// How many bytes of a piece are taken, and where the reading stands then.
+pub struct PhaseRun {
+    pub taken: usize,
+    pub phase: Phase,
+}
+
+// How many bytes whole pairs have, and how many pairs they are.
+pub struct PairsRun {
+    pub taken: usize,
+    pub pairs: usize,
+}
+
+fn least(a: usize, b: usize) -> usize
+    ensures { λ r. ⌜ (r ≤ a) × (r ≤ b) ⌝ }
+{
+    if a < b { a } else { b }
+}
+
+// The octets at the front of a piece behind which others come, `most` of them at most.
+fn octets_ahead(most: usize, piece: &[u8]) -> usize
+    ensures { λ r. ⌜ OctetsAhead most (now (piece .entry)) r ⌝ }
+{
+    let end = least(most, piece.len());
+    let mut i: usize = 0;
+    while i < end {
+        if piece[i] < 128 {
+            return i;
+        }
+        i += 1;
+    }
+    i
+}
+
+// How many bytes a pair has that another follows, by its first byte; 0 for the last pair and for a length of 0.
+fn pair_size(byte: u8) -> usize
+    ensures { λ r. ⌜ (r ≡ 0) ⊎ Continued byte r ⌝ }
+{
+    if byte < 128 {
+        return 0;
+    }
+    let identifier = byte / 16 % 8;
+    let value = byte % 16;
+    if identifier == 0 {
+        return 0;
+    }
+    if value == 0 {
+        return 0;
+    }
+    1 + identifier as usize + value as usize
+}
+
+// The whole pairs at the front of a piece behind which others come, each of which starts before byte `most`.
+fn pairs_ahead(most: usize, piece: &[u8]) -> PairsRun
+    ensures { λ r. ⌜ PairsAhead most (now (piece .entry)) r ⌝ }
+{
+    let end = least(most, piece.len());
+    let mut i: usize = 0;
+    let mut pairs: usize = 0;
+    while i < end {
+        let size = pair_size(piece[i]);
+        if size == 0 {
+            return PairsRun { taken: i, pairs };
+        }
+        if piece.len() - i < size {
+            return PairsRun { taken: i, pairs };
+        }
+        i += size;
+        pairs += 1;
+    }
+    PairsRun { taken: i, pairs }
+}
+
+fn stay(phase: Phase) -> PhaseRun
+    ensures { λ r. ⌜ r ≡ record { taken = 0; phase = phase } ⌝ }
+{
+    PhaseRun { taken: 0, phase }
+}
+
+fn run_octets(fix: u8, start: usize, at: usize, piece: &[u8]) -> PhaseRun
+    requires { ⌜ Bounded (inOctets fix start at) ⌝ }
+    ensures { λ r. ⌜ ((o : Settings) → PhaseRuns o (inOctets fix start at) (now (piece .entry)) r) ⌝ }
+{
+    if start + CEILING <= at {
+        return stay(Phase::InOctets { fix, start, at });
+    }
+    let taken = octets_ahead(start + CEILING - at, piece);
+    let phase = Phase::InOctets {
+        fix,
+        start,
+        at: at + taken,
+    };
+    PhaseRun { taken, phase }
+}
+
+fn run_pairs(fix: u8, start: usize, at: usize, pairs: usize, piece: &[u8]) -> PhaseRun
+    requires { ⌜ Bounded (atPair fix start at pairs) ⌝ }
+    ensures { λ r. ⌜ ((o : Settings) → o .classes ≡ false → PhaseRuns o (atPair fix start at pairs) (now (piece .entry)) r) ⌝ }
+{
+    if start + CEILING <= at {
+        return stay(Phase::AtPair {
+            fix,
+            start,
+            at,
+            pairs,
+        });
+    }
+    let run = pairs_ahead(start + CEILING - at, piece);
+    let taken = run.taken;
+    let phase = Phase::AtPair {
+        fix,
+        start,
+        at: at + taken,
+        pairs: pairs + run.pairs,
+    };
+    PhaseRun { taken, phase }
+}
+
+// Whole pairs are taken at once where their classes are not tested, and octets up to the last.
+pub(crate) fn run_phase(phase: Phase, mode: HeaderMode, piece: &[u8]) -> PhaseRun
+    requires { ⌜ Bounded (state phase) ⌝ }
+    ensures { λ r. ⌜ PhaseRuns (settings mode) (state phase) (now (piece .entry)) r ⌝ }
+{
+    match phase {
+        Phase::InOctets { fix, start, at } => run_octets(fix, start, at, piece),
+        Phase::AtPair {
+            fix,
+            start,
+            at,
+            pairs,
+        } => {
+            if mode.classes {
+                return stay(phase);
+            }
+            run_pairs(fix, start, at, pairs, piece)
+        }
+        Phase::InType { .. } => stay(phase),
+        Phase::AtFix { .. } => stay(phase),
+        Phase::AtOctet { .. } => stay(phase),
+        Phase::InIdentifier { .. } => stay(phase),
+        Phase::InValue { .. } => stay(phase),
+        Phase::InWidth { .. } => stay(phase),
+        Phase::InHeight { .. } => stay(phase),
+    }
+}
