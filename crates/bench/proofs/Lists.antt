@@ -22,7 +22,7 @@ use Rattle.options.specs.Settings.{defaults, withFormat}
 use Rattle.options.specs.declared.DecodeOptions.{DecodeOptions}
 use Rattle.options.specs.declared.EncodeOptions.{EncodeOptions}
 use Rattle.options.specs.declared.Quantize.{Quantize}
-use Rattle.quantize.specs.Whole.{knownRule}
+use Rattle.rules.specs.Rule.{knownRule}
 use Rattle.encoder.specs.Make.{Makes}
 use Rattle.encode_session.specs.Model as Making
 use Rattle.encode_session.specs.Session as MakingSession

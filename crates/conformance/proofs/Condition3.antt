@@ -13,8 +13,7 @@ use Rattle.laws.proofs.Answers.{bind-gives, unless}
 use Rattle.laws.proofs.Emitted.{emitted-is}
 use Rattle.header.specs.Write.{presented}
 use Rattle.options.specs.Limits.{Decoding, ceilingOf}
-use Rattle.quantize.specs.Engine.{setting}
-use Rattle.quantize.specs.Finished.{finished}
+use Rattle.quantize.specs.Finished.{setting, finished}
 use Rattle.quantize.proofs.Joining.{finished-frames}
 use Rattle.encoder.specs.Make.{fileOfScans}
 use Rattle.encoder.proofs.Scanned.{passes}

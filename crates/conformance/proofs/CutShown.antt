@@ -22,8 +22,7 @@ use Rattle.image.specs.Dots.{isWhite}
 use Rattle.image.specs.Geometry.{rowBytes, planeBytes}
 use Rattle.options.specs.Limits.{Decoding, settled, ceilingOf}
 use Rattle.options.proofs.Ceilings.{tested, sixteen}
-use Rattle.quantize.specs.Engine.{setting}
-use Rattle.quantize.specs.Finished.{finished}
+use Rattle.quantize.specs.Finished.{setting, finished}
 use Rattle.decoder.specs.Body.{framesIn, planes}
 use Rattle.decoder.specs.Image.{imageSettings, headerOf, readImage}
 use Rattle.decoder.specs.Frames.{shown}

@@ -18,9 +18,9 @@ use Rattle.image.specs.declared.PixelFormat.the-variants.{MonoWhite}
 use Rattle.options.specs.Limits.{Decoding, absent, ceilingOf, checkLimits}
 use Rattle.options.specs.Limits as limits
 use Rattle.options.specs.declared.Quantize.the-variants.{Dither}
-use Rattle.quantize.specs.Bits.{upto, appended}
-use Rattle.quantize.specs.Diffusion.{part, value, white, residual, valueFrom, handed, rowValue, above, valueAt}
-use Rattle.quantize.specs.Rule.{dot}
+use Rattle.rules.specs.Bits.{upto, appended}
+use Rattle.rules.specs.Diffusion.{part, value, white, residual, valueFrom, handed, rowValue, above, valueAt}
+use Rattle.rules.specs.Rule.{dot}
 use Rattle.quantize.specs.Finished.{begunBytes, count, frame, dotOf, bitAt, byteAt, finished}
 use Rattle.quantize.specs.Finished as Finished
 use Rattle.decoder.specs.Image.{testBody, readImage}

@@ -19,8 +19,7 @@ use Rattle.image.specs.declared.PixelFormat.the-variants.{MonoBlack}
 use Rattle.options.specs.Limits.{Decoding}
 use Rattle.options.specs.declared.EncodeOptions.{EncodeOptions}
 use Rattle.options.specs.declared.Quantize.{Quantize}
-use Rattle.quantize.specs.Engine.{setting}
-use Rattle.quantize.specs.Finished.{finished}
+use Rattle.quantize.specs.Finished.{setting, finished}
 use Rattle.quantize.proofs.Joining.{scans-long, scans-more}
 use Rattle.quantize.proofs.Wholes.{plane-long}
 use Rattle.encoder.specs.File.{fileOf}

@@ -14,11 +14,10 @@ use Rattle.header.specs.declared.ExtPresence.the-variants.{Absent, Present}
 use Rattle.options.specs.Settings.{defaults, withStrict}
 use Rattle.options.specs.declared.EncodeOptions.{EncodeOptions}
 use Rattle.options.specs.declared.Quantize.the-variants.{Dither}
-use Rattle.quantize.specs.Diffusion.{part, value, white, residual, valueFrom, handed, rowValue, above, valueAt}
-use Rattle.quantize.specs.Rule.{dot}
-use Rattle.quantize.specs.Finished.{begunBytes, count, frame, dotOf, bitAt, byteAt, finished}
-use Rattle.quantize.specs.Bits.{upto, appended}
-use Rattle.quantize.specs.Engine.{setting}
+use Rattle.rules.specs.Diffusion.{part, value, white, residual, valueFrom, handed, rowValue, above, valueAt}
+use Rattle.rules.specs.Rule.{dot}
+use Rattle.quantize.specs.Finished.{begunBytes, count, frame, dotOf, bitAt, byteAt, finished, setting}
+use Rattle.rules.specs.Bits.{upto, appended}
 use Rattle.encoder.specs.Make.{checkScans, fileOfScans}
 use Rattle.api.specs.Sniff.{sniffed}
 use Rattle.api.specs.declared.Sniffed.the-variants.{Exact}

@@ -17,12 +17,11 @@ use Rattle.image.specs.Geometry.{rowBytes, paddingBits}
 use Rattle.image.specs.Rows.{clearLow}
 use Rattle.image.specs.declared.PixelFormat.the-variants.{MonoBlack}
 use Rattle.options.specs.declared.Quantize.{Quantize}
-use Rattle.quantize.specs.Bits.{bit, appended, digits}
-use Rattle.quantize.specs.Rule.{dot}
-use Rattle.quantize.specs.Finished.{Setting, count, frame, dotOf, bitAt, byteAt, finished}
-use Rattle.quantize.specs.Engine.{meaning, setting}
-use Rattle.quantize.proofs.Appending.{bit-le, appended-lt, appended-add, digits-tail}
-use Rattle.quantize.proofs.Grown.{length-upto, upto-at}
+use Rattle.rules.specs.Bits.{bit, appended, digits}
+use Rattle.rules.specs.Rule.{dot, meaning}
+use Rattle.quantize.specs.Finished.{Setting, count, frame, dotOf, bitAt, byteAt, finished, setting}
+use Rattle.rules.proofs.Appending.{bit-le, appended-lt, appended-add, digits-tail}
+use Rattle.rules.proofs.Grown.{length-upto, upto-at}
 use Rattle.quantize.proofs.Packing.{bit-in, bit-past, byte-at}
 use Rattle.quantize.proofs.Places.{div-at, mod-at}
 use Rattle.conformance.specs.ReadBack.{scanWhite}

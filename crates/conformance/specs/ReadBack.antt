@@ -15,9 +15,8 @@ use Rattle.image.specs.Rows.{convertFormat}
 use Rattle.image.specs.declared.PixelFormat.the-variants.{MonoBlack}
 use Rattle.options.specs.Limits.{Mode, lenient, strict, Decoding, admits}
 use Rattle.options.specs.declared.Quantize.{Quantize}
-use Rattle.quantize.specs.Rule.{dot}
+use Rattle.rules.specs.Rule.{dot, meaning}
 use Rattle.quantize.specs.Finished.{frame}
-use Rattle.quantize.specs.Engine.{meaning}
 use Rattle.decoder.specs.Image.{fieldsOf}
 use Rattle.decoder.specs.Frames.{Image, shown, decoded}
 

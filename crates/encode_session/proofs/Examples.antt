@@ -6,9 +6,9 @@ use mathlib.Core.List.{[], _∷_}
 use Rattle.error.specs.Answer.{gives, refuses}
 use Rattle.header.specs.declared.ExtPresence.the-variants.{Absent}
 use Rattle.options.specs.declared.Quantize.the-variants.{Dither}
-use Rattle.quantize.specs.Bits.{upto, appended}
-use Rattle.quantize.specs.Diffusion.{part, value, white, residual, valueFrom, handed, rowValue, above, valueAt}
-use Rattle.quantize.specs.Rule.{dot}
+use Rattle.rules.specs.Bits.{upto, appended}
+use Rattle.rules.specs.Diffusion.{part, value, white, residual, valueFrom, handed, rowValue, above, valueAt}
+use Rattle.rules.specs.Rule.{dot}
 use Rattle.quantize.specs.Finished.{begunBytes, count, frame, dotOf, bitAt, byteAt, finished, most, takes}
 use Rattle.encode_session.specs.Model.{Opening, opening, opened, feed, close, took, closed, taken, written, outcome, replies}
 

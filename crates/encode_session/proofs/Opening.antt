@@ -21,8 +21,8 @@ use Rattle.header.specs.Write.{extHeader}
 use Rattle.options.specs.declared.Quantize.{Quantize}
 use Rattle.options.specs.declared.Quantize.the-variants.{Threshold, Dither, Ordered}
 use Rattle.quantize.specs.declared.engine.Quantizer.{Quantizer}
-use Rattle.quantize.specs.Engine.{meaning, roomy, Opens as QOpens, Holds as QHolds}
-use Rattle.quantize.specs.Whole.{knownRule}
+use Rattle.rules.specs.Rule.{meaning, roomy, knownRule}
+use Rattle.quantize.specs.Engine.{Opens as QOpens, Holds as QHolds}
 use Rattle.encode_session.specs.declared.EncodeOpened.{EncodeOpened}
 use Rattle.encode_session.specs.Model.{Opening, settingOf, serves, header, opened}
 use Rattle.encode_session.specs.Session.{isGiven, Opens}

@@ -8,9 +8,8 @@ use Rattle.error.specs.Choice.{if}
 use Rattle.error.specs.Answer.{Answer, gives, refuses}
 use Rattle.header.specs.Write.{extHeader}
 use Rattle.options.specs.declared.EncodeOptions.{EncodeOptions}
-use Rattle.quantize.specs.Engine.{meaning, roomy, setting}
-use Rattle.quantize.specs.Finished.{Setting, takes, newly, wholeFrames}
-use Rattle.quantize.specs.Whole.{knownRule}
+use Rattle.rules.specs.Rule.{meaning, roomy, knownRule}
+use Rattle.quantize.specs.Finished.{setting, Setting, takes, newly, wholeFrames}
 
 -- what a session is opened with; pairs of the fields are two lengths each, beside one text
 pub record Opening : Type 0 where

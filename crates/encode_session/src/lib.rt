@@ -20,7 +20,7 @@ ghost use lib.ListN.{length};
 ghost use Rattle.error.specs.Answer.{refuses, written};
 ghost use Rattle.ext_write.specs.Write.{flattened};
 ghost use Rattle.options.specs.declared.Quantize.{Quantize};
-ghost use Rattle.quantize.specs.Engine.{meaning, roomy};
+ghost use Rattle.rules.specs.Rule.{meaning, roomy};
 ghost use Rattle.encode_session.specs.Model.{opening};
 ghost use Rattle.encode_session.specs.Session.{isGiven, refusedFed, refusedClosed, BeginsOpening, OpensBy, Opens, Feeds, Closes, TellsClosed, TellsFrames};
 

@@ -15,11 +15,10 @@ use Rattle.header.specs.Write.{extHeader}
 use Rattle.header.specs.declared.ExtPresence.the-variants.{Absent, Present}
 use Rattle.options.specs.declared.EncodeOptions.{EncodeOptions}
 use Rattle.options.specs.declared.Quantize.the-variants.{Threshold, Dither, Ordered}
-use Rattle.quantize.specs.Bits.{upto, appended}
-use Rattle.quantize.specs.Diffusion.{part, value, white, residual, valueFrom, handed, rowValue, above, valueAt}
-use Rattle.quantize.specs.Rule.{dot}
-use Rattle.quantize.specs.Engine.{setting}
-use Rattle.quantize.specs.Finished.{begunBytes, count, frame, dotOf, bitAt, byteAt, finished}
+use Rattle.rules.specs.Bits.{upto, appended}
+use Rattle.rules.specs.Diffusion.{part, value, white, residual, valueFrom, handed, rowValue, above, valueAt}
+use Rattle.rules.specs.Rule.{dot}
+use Rattle.quantize.specs.Finished.{setting, begunBytes, count, frame, dotOf, bitAt, byteAt, finished}
 use Rattle.encoder.specs.Make.{checkScans, fileOfScans}
 use Rattle.encoder.proofs.Scanned.{passed, passes}
 

@@ -17,9 +17,8 @@ use Rattle.error.specs.Emits.{Emits}
 use Rattle.laws.proofs.Runs.{sets-append, sets-front, emits-part}
 use Rattle.image.specs.Geometry.{rowBytes, planeBytes}
 use Rattle.options.specs.declared.Quantize.{Quantize}
-use Rattle.quantize.specs.Asked.{meaning, carries}
-use Rattle.quantize.specs.Engine.{setting}
-use Rattle.quantize.specs.Finished.{finished}
+use Rattle.rules.specs.Rule.{meaning, carries}
+use Rattle.quantize.specs.Finished.{setting, finished}
 use Rattle.quantize.specs.Whole.{quantized, Quantizes}
 use Rattle.quantize.proofs.Wholes.{refused-none, plane-long}
 use Rattle.quantize.proofs.Joining.{scans-none, scans-long, scans-more}

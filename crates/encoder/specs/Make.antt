@@ -12,10 +12,8 @@ use Rattle.error.specs.Answer.{Answer, gives, refuses, bind}
 use Rattle.error.specs.Emits.{Emits}
 use Rattle.options.specs.declared.EncodeOptions.{EncodeOptions}
 use Rattle.options.specs.declared.Quantize.{Quantize}
-use Rattle.quantize.specs.Asked.{carries}
-use Rattle.quantize.specs.Engine.{meaning, roomy, setting}
-use Rattle.quantize.specs.Finished.{finished}
-use Rattle.quantize.specs.Whole.{knownRule}
+use Rattle.rules.specs.Rule.{carries, meaning, roomy, knownRule}
+use Rattle.quantize.specs.Finished.{setting, finished}
 use Rattle.encoder.specs.File.{checkCount, fileOf}
 
 -- "Whole making: 8, 21, 29, 28, 22", of so many samples and numbers of work

@@ -7,7 +7,7 @@ use lib.IntN.{ℤ}
 use lib.ListN.{drop}
 use Rattle.image.specs.Geometry.{planeBytes}
 use Rattle.options.specs.declared.Quantize.{Quantize}
-use Rattle.quantize.specs.Asked.{meaning, carries}
+use Rattle.rules.specs.Rule.{meaning, carries}
 use Rattle.encoder.specs.Make.{scanBytes}
 
 -- so many scans' planes at the front of an output; the work buffer as `Makes` says

@@ -12,15 +12,17 @@ use Rattle.quantize.specs.declared.engine.Quantizer.{Quantizer}
 use Rattle.quantize.specs.declared.turn.Next.{Next}
 use Rattle.quantize.specs.declared.turn.Part.{Part}
 use Rattle.quantize.specs.declared.turn.Place.{Place}
-use Rattle.quantize.specs.Bits.{appended}
-use Rattle.quantize.specs.Rule.{Rule}
-use Rattle.quantize.specs.Asked.{meaning, carries, Served}
+use Rattle.rules.specs.Bits.{appended}
+use Rattle.rules.specs.Rule.{Rule, meaning, carries}
+use Rattle.quantize.specs.Turn.{Served, stateOf, ruleOf, Sound, Dotted, Advances}
 use Rattle.quantize.specs.Finished.{Setting, Bytewise}
-use Rattle.quantize.specs.Machine.{Carry, State, carried, emitted}
+use Rattle.rules.specs.Carry.{Carry}
+use Rattle.quantize.specs.Machine.{State, carried, emitted}
 use Rattle.quantize.specs.Place.{At}
-use Rattle.quantize.specs.Steps.{rowCarry, rowBit, carryOf, stateOf, ruleOf, Sound, Dotted, Advances}
+use Rattle.rules.specs.Kernels.{rowCarry, rowBit, carryOf}
 use Rattle.quantize.proofs.Dotting.{carries-same}
-use Rattle.quantize.proofs.Tracing.{row-beyond, row-long, row-spared, carried-add, emitted-add, part-on, part-last}
+use Rattle.rules.proofs.RowKept.{row-beyond, row-long, row-spared}
+use Rattle.quantize.proofs.Tracing.{carried-add, emitted-add, part-on, part-last}
 
 -- a quantizer's setting, wherever it stands
 pub record Suits (q : Quantizer) (s : Setting) : Type 0 where

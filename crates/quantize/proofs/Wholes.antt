@@ -20,13 +20,13 @@ use Rattle.options.specs.declared.Quantize.{Quantize}
 use Rattle.image.specs.Geometry.{rowBytes}
 use Rattle.quantize.specs.declared.engine.Quantizer.{Quantizer}
 use Rattle.quantize.specs.declared.engine.Ran.{Ran}
-use Rattle.quantize.specs.Finished.{Setting, count, byteAt, dotOf, finished, takes}
-use Rattle.quantize.specs.Asked.{meaning, knownRule, roomy}
-use Rattle.quantize.specs.Engine.{setting, Opens, Holds, Runs}
+use Rattle.quantize.specs.Finished.{Setting, count, byteAt, dotOf, finished, takes, setting}
+use Rattle.rules.specs.Rule.{meaning, knownRule, roomy}
+use Rattle.quantize.specs.Engine.{Opens, Holds, Runs}
 use Rattle.quantize.specs.Whole.{refusedBy, quantized, Quantizes}
 use Rattle.quantize.proofs.Places.{count-rows}
 use Rattle.quantize.proofs.Counting.{most-is}
-use Rattle.quantize.proofs.Grown.{length-upto}
+use Rattle.rules.proofs.Grown.{length-upto}
 
 -- ---- the tests
 

@@ -10,10 +10,8 @@ use Rattle.error.specs.Choice.{if}
 use Rattle.error.specs.Answer.{Answer, gives, refuses}
 use Rattle.error.specs.Emits.{Emits}
 use Rattle.options.specs.declared.Quantize.{Quantize}
-use Rattle.quantize.specs.Finished.{finished}
-use Rattle.quantize.specs.Asked.{meaning, knownRule, carries, roomy}
-use Rattle.quantize.specs.Engine.{setting}
-pub use Rattle.quantize.specs.Asked.{knownRule}
+use Rattle.quantize.specs.Finished.{finished, setting}
+use Rattle.rules.specs.Rule.{meaning, knownRule, carries, roomy}
 
 -- the refusal of so many samples and numbers of work, 0 where there is none
 abbrev pub refusedBy : Quantize → ℕ → ℕ → ℕ → ℕ → ℕ

@@ -12,7 +12,7 @@ use borrow.Rule.Slice.PartMut.{midOf, putMid}
 use lib.Seq.{length-take-le, take-all, take-take, take-at, drop-at, drop-drop}
 use Rattle.error.specs.Answer.{gives, refuses}
 use Rattle.error.specs.Answer as Answers
-use Rattle.quantize.specs.Asked.{carries}
+use Rattle.rules.specs.Rule.{carries}
 use Rattle.quantize.proofs.Dotting.{carries-same}
 use Rattle.encode_session.specs.Model.{Opening, serves, Model, Call, feed, close, Told, Reply, Outcome, outcome, replies, finally}
 use Rattle.encode_session.specs.Session.{fedMeaning, closedMeaning, Stands, Holds, Feeds, Closes}

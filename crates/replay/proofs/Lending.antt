@@ -14,11 +14,11 @@ use Rattle.error.specs.Answer.{gives}
 use Rattle.error.specs.Choice.{if}
 use Rattle.laws.proofs.Tests.{zero-one}
 use Rattle.quantize.specs.declared.engine.Quantizer.{Quantizer}
-use Rattle.quantize.specs.Engine.{roomy, Keeps, Holds as QHolds}
+use Rattle.rules.specs.Rule.{roomy, Rule, threshold, dither, ordered}
+use Rattle.quantize.specs.Engine.{Keeps, Holds as QHolds}
 use Rattle.quantize.specs.Finished.{Setting}
-use Rattle.quantize.specs.Machine.{clamp}
-use Rattle.quantize.specs.Rule.{Rule, threshold, dither, ordered}
-use Rattle.quantize.specs.Steps.{stateOf}
+use Rattle.rules.specs.Carry.{clamp}
+use Rattle.quantize.specs.Turn.{stateOf}
 use Rattle.encode_session.specs.declared.EncodeSession.{EncodeSession}
 use Rattle.encode_session.specs.Model.{serves, settingOf, Model, feed, Told, fedBy, unaltered, outcome}
 use Rattle.encode_session.specs.Session.{Holds}

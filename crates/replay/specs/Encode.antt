@@ -6,7 +6,7 @@ use mathlib.Core.List.{List, [], _∷_, _++_}
 use lib.IntN.{ℤ}
 use lib.ListN.{length, take, drop}
 use Rattle.error.specs.Answer.{Answer, gives, refuses}
-use Rattle.quantize.specs.Asked.{meaning, carries}
+use Rattle.rules.specs.Rule.{meaning, carries}
 use Rattle.encode_session.specs.Model.{Model, Call, feed, close, Told, took, closed, Reply, outcome, replies, finally}
 use Rattle.encode_session.specs.Session.{Stands, Holds, Feeds}
 use Rattle.encode_session.specs.declared.EncodeFed.{EncodeFed}

@@ -7,7 +7,7 @@ use Prim.Native.Nat.{ℕ}
 use borrow.Author.Needs.{needs}
 use borrow.Author.Tests.{not-true, not-false}
 use denote.Ref.{now}
-use Rattle.quantize.specs.Whole.{knownRule}
+use Rattle.rules.specs.Rule.{knownRule}
 use Rattle.encode_session.specs.Model.{Opening, opening}
 use Rattle.encode_session.proofs.Opening.{no-width, no-height, unknown, short, tested, left-no, left-as}
 use Rattle.encode_session.proofs.begin_opening.Statement.{statement}

@@ -5,8 +5,7 @@ use native.Mathlib.Omega.{arith}
 use borrow.Author.Tests.{not-true, not-false}
 use borrow.Author.Needs.{needs}
 use Rattle.error.specs.Answer.{checked, gives}
-use Rattle.quantize.specs.Engine.{meaning, roomy}
-use Rattle.quantize.specs.Whole.{knownRule}
+use Rattle.rules.specs.Rule.{meaning, roomy, knownRule}
 use Rattle.quantize.proofs.Wholes.{product-fits}
 use Rattle.encoder.specs.File.{checkCount}
 use Rattle.encoder.proofs.Counted.{counted}
