@@ -2,7 +2,7 @@
 -- Assumes nothing.
 use Prim.Native.Nat.{ℕ, _+_, _-_, _*_, _≤_}
 use mathlib.Core.Path.{_≡_, refl, sym, ap, subst, _∙_}
-use mathlib.Core.Bool.{true}
+use mathlib.Core.Bool.{Bool, true, false}
 use mathlib.Core.List.{List, [], _∷_, _++_, append-assoc, append-nil}
 use native.Mathlib.Nat.{add-zero}
 use native.Mathlib.Omega.{arith}
@@ -12,9 +12,13 @@ use borrow.Rule.Slice.PartMut.{midOf, putMid}
 use lib.Seq.{length-take-le, take-all, take-take, take-at, drop-at, drop-drop}
 use Rattle.error.specs.Answer.{gives, refuses}
 use Rattle.error.specs.Answer as Answers
+use Rattle.error.specs.Choice.{if}
+use Rattle.laws.proofs.Tests.{zero-one}
 use Rattle.rules.specs.Rule.{carries}
+use Rattle.quantize.specs.Machine.{State, carried}
+use Rattle.quantize.specs.Turn.{stateOf}
 use Rattle.quantize.proofs.Dotting.{carries-same}
-use Rattle.encode_session.specs.Model.{Opening, serves, Model, Call, feed, close, Told, Reply, Outcome, outcome, replies, finally}
+use Rattle.encode_session.specs.Model.{Opening, settingOf, serves, Model, Call, feed, close, Told, Reply, Outcome, outcome, replies, finally}
 use Rattle.encode_session.specs.Session.{fedMeaning, closedMeaning, Stands, Holds, Feeds, Closes}
 use Rattle.encode_session.specs.declared.EncodeFed.{EncodeFed}
 use Rattle.encode_session.specs.declared.EncodeFeed.{EncodeFeed}
@@ -29,10 +33,11 @@ use Rattle.replay.specs.declared.call.Named.the-variants.{Close, Feed}
 use Rattle.replay.specs.declared.call.Part.{Part}
 use Rattle.replay.specs.declared.encode.Called.{Called}
 use Rattle.replay.specs.Calls.{roomOf, lentOf, named, joined, over, Goes, threeOf, replaced}
-use Rattle.replay.specs.Encode.{numbersOf, told, output, callOf, callsOf, Counts, Shows, Leaves, Runs, Replays}
-use Rattle.replay.specs.Encode.{FeedsPart, Tells, Calls, Makes}
+use Rattle.replay.specs.Encode.{numbersOf, told, output, callOf, callsOf, tookOf, keptBy, keptFrom, Counts, Shows, Leaves, Runs, Replays}
+use Rattle.replay.specs.Encode.{FeedsPart, Tells, Tracks, Calls, Makes}
+use Rattle.replay.proofs.CarriedFront.{behind, carried-front}
 use Rattle.replay.proofs.Leaving.{drop-front, none-taken, took, next-same, next-longer, same-leaves, leaves-on}
-use Rattle.replay.proofs.Lending.{lent-same, feed-served}
+use Rattle.replay.proofs.Lending.{lent-same, served-room, feed-served}
 use Rattle.replay.proofs.Parts.{size-is, part-long, put-is}
 use Rattle.replay.proofs.Running.{joined-more, grown, next-is, At, start-is, at-start, spares, out-long, answers-long, at-on}
 
@@ -67,6 +72,28 @@ fed-part s p samples work out at r front part h k F e f =
 
 close-output : (m : Model) → outcome m close .reply .output ≡ []
 close-output m = by-close m (λ (x : Outcome). x .reply .output ≡ []) refl refl (λ _. refl)
+
+-- ---- what the running machine keeps
+
+-- where nothing is altered
+tracks-same : (s s′ : EncodeSession) (m m′ : Model) (work work′ : List ℤ) (q q′ : State) → s′ ≡ s → m′ ≡ m → work′ ≡ work → q′ ≡ q
+    → Tracks s m work q → Tracks s′ m′ work′ q′
+tracks-same s s′ m m′ work work′ q q′ a b c d T =
+    subst (λ (z : EncodeSession). Tracks z m′ work′ q′) (sym a)
+    (subst (λ (z : Model). Tracks s z work′ q′) (sym b)
+    (subst (λ (z : List ℤ). Tracks s m z q′) (sym c) (subst (λ (z : State). Tracks s m work z) (sym d) T)))
+
+closed-tracks : (s : EncodeSession) (m : Model) (work : List ℤ) (q : State) (closed : EncodeClosed) → Closes s closed → Stands s m
+    → Tracks s m work q → Tracks (closed .session) (outcome m close .next) work q
+closed-tracks s m work q closed C st T =
+    by-close m (λ (x : Outcome). closedMeaning (closed .answer) ≡ x .reply .answer → Tracks (closed .session) (x .next) work q)
+    (λ e. refused e)
+    (λ e. refused e)
+    (λ w e. record { numbers = T .numbers; state = λ l. zero-one (cc) })
+    (C .counts m st .0)
+  where
+    refused : {code place : ℕ} → closedMeaning (closed .answer) ≡ refuses code place → Tracks (closed .session) m work q
+    refused e = subst (λ (z : EncodeSession). Tracks z m work q) (sym (C .refused _ _ e)) T
 
 -- what the model says of a feeding call
 module _ (s : EncodeSession) (p : Part) (samples : List ℕ) (work : List ℤ) (out : List ℕ) (at : ℕ) (fed : EncodeFed) (work′ : List ℤ)
@@ -126,6 +153,45 @@ module _ (s : EncodeSession) (p : Part) (samples : List ℕ) (work : List ℤ) (
   fed-leaves : Leaves m (x .next) work work′
   fed-leaves = leaves-by (fed .answer) refl
 
+  -- the numbers of the work buffer that were not lent stand behind those that the engine keeps
+  took-tracks : (n b : ℕ) → fed .answer ≡ Took n b → (q : State) → Tracks s m work q → Tracks (fed .session) (x .next) work′ (keptBy m (feed xs o (p .lent)) q)
+  took-tracks n b e q T =
+      let a = sym answer-is ∙ ap fedMeaning e in
+      let t = took m xs o (p .lent) n b a in
+      let Q = st .place (t .0) in
+      let i = Q .at .inRow in
+      let rest = drop (p .lent) work in
+      let S = settingOf (m .opening) in
+      let k = length (m .samples) in
+      let front : q ≡ behind rest (stateOf (s .quantizer .place) (take (p .lent) work)) =
+      T .state (t .0) ∙ ap (stateOf (s .quantizer .place)) (sym (take-append-drop (p .lent) work)) in
+      let kept : keptBy m (feed xs o (p .lent)) q ≡ stateOf (fed .session .quantizer .place) work′ =
+      ap (λ (y : Answers.Answer Told). carried S k q xs (tookOf y)) a
+      ∙ ap (λ (z : State). carried S k z xs n) front
+      ∙ carried-front S k (stateOf (s .quantizer .place) (take (p .lent) work)) xs rest (omega arith)
+      (λ c. let h = served-room m (p .lent) (feed-served m xs o (p .lent) _ a) c in let l = F .lentLong in omega arith) n
+      ∙ ap (behind rest) (F .does .runs n b e .machine S k Q .keeps)
+      ∙ ap (stateOf (fed .session .quantizer .place)) (sym (F .workIs)) in
+      record { numbers = ap (λ (z : State). z .carry .kept) (sym kept); state = λ _. kept }
+
+  refused-tracks : (code place : ℕ) → fedMeaning (fed .answer) ≡ refuses code place → (q : State) → Tracks s m work q
+      → Tracks (fed .session) (x .next) work′ (keptBy m (feed xs o (p .lent)) q)
+  unfolding carried
+  refused-tracks code place e q T =
+      let a = sym answer-is ∙ e in
+      let u = F .does .refused code place e in
+      let i = feed-refused m xs o (p .lent) code place a in
+      tracks-same s (fed .session) m (x .next) work work′ q (keptBy m (feed xs o (p .lent)) q) (u .0) (i .1) (work-same (u .1 .1))
+      (ap (λ (y : Answers.Answer Told). carried (settingOf (m .opening)) (length (m .samples)) q xs (tookOf y)) a) T
+
+  tracks-by : (y : EncodeFeed) → fed .answer ≡ y → (q : State) → Tracks s m work q
+      → Tracks (fed .session) (x .next) work′ (keptBy m (feed xs o (p .lent)) q)
+  tracks-by (Took n b) e = took-tracks n b e
+  tracks-by (EncodeFeed.Refused f) e = refused-tracks _ _ (ap fedMeaning e)
+
+  fed-tracks : (q : State) → Tracks s m work q → Tracks (fed .session) (x .next) work′ (keptBy m (feed xs o (p .lent)) q)
+  fed-tracks = tracks-by (fed .answer) refl
+
   by-refusal : (code place : ℕ) → x .reply .answer ≡ refuses code place → Holds s work m → Calls m (feed xs o (p .lent)) r (F .part) work′
   by-refusal code place q h =
       let i = feed-refused m xs o (p .lent) code place q in
@@ -171,6 +237,7 @@ module _ (s : EncodeSession) (samples : List ℕ) (work : List ℤ) (out : List 
       (record {
         part = [];
         counts = λ m st. record { answer = ap numbersOf (sym (C .counts m st .0)) ∙ e; stands = C .counts m st .1 };
+        keeps = λ m st q T. closed-tracks s m work q closed C st T;
         leaves = λ m st. same-leaves m (outcome m close .next) work work refl;
         does = λ m h. record { output = close-output m; holds = C .does m work h };
         long = refl;
@@ -187,6 +254,7 @@ module _ (s : EncodeSession) (samples : List ℕ) (work : List ℤ) (out : List 
       (record {
         part = F .part;
         counts = fed-tells s p samples work out at fed work′ out′ F a e;
+        keeps = fed-tracks s p samples work out at fed work′ out′ F a e;
         leaves = fed-leaves s p samples work out at fed work′ out′ F a e;
         does = λ m h. fed-calls s p samples work out at fed work′ out′ F a e m (h .stands) h;
         long = F .partLong;
@@ -209,6 +277,9 @@ pub record Follows (s₀ : EncodeSession) (work₀ : List ℤ) (m : Model) (cs :
   pub answersLong : length (joined told replied) ≡ at
   pub opening : now .opening ≡ m .opening
   pub longer : length (m .samples) ≤ length (now .samples)
+  pub kept : State
+  pub tracks : Tracks s now work kept
+  pub keeps : keptFrom m cs (stateOf (s₀ .quantizer .place) work₀) ≡ keptFrom now (callsOf rest samples (drop lent out₀)) kept
   pub leaves : Leaves m now work₀ work
   pub holds : Holds s₀ work₀ m → Holds s work now
   pub outIs : Holds s₀ work₀ m → out ≡ joined output replied ++ drop lent out₀
@@ -229,6 +300,9 @@ follows-start m s cs samples work out answers h =
       answersLong = refl;
       opening = refl;
       longer = omega arith;
+      kept = stateOf (s .quantizer .place) work;
+      tracks = record { numbers = refl; state = λ _. refl };
+      keeps = refl;
       leaves = same-leaves m m work work refl;
       holds = λ k. k;
       outIs = λ _. refl;
@@ -250,6 +324,10 @@ module _ (s₀ : EncodeSession) (work₀ : List ℤ) (m : Model) (cs : List Call
           answered = rw (all-replied, f .answersLong) (f .answersIs);
           stands = subst (λ (n : Model). Stands s n) (sym (f .final)) (f .stands);
         }
+
+    end-keeps : work ≡ keptFrom m cs (stateOf (s₀ .quantizer .place) work₀) .carry .kept
+    unfolding keptFrom callsOf
+    end-keeps = f .tracks .numbers ∙ ap (λ (q : State). q .carry .kept) (sym (f .keeps))
 
     end-leaves : Leaves m (finally m cs) work₀ work
     unfolding finally callsOf
@@ -277,6 +355,22 @@ module _ (s₀ : EncodeSession) (work₀ : List ℤ) (m : Model) (cs : List Call
 
     tells : Tells (f .now) call r
     tells = subst (λ (o : List ℕ). Tells (f .now) (callOf c samples o) r) out-left (M .counts (f .now) (f .stands))
+
+    call-tracks : Tracks (r .session) next work′ (keptBy (f .now) call (f .kept))
+    call-tracks =
+        subst
+        (λ (o : List ℕ). Tracks (r .session) (outcome (f .now) (callOf c samples o) .next) work′ (keptBy (f .now) (callOf c samples o) (f .kept)))
+        out-left
+        (M .keeps (f .now) (f .stands) (f .kept) (f .tracks))
+
+    keeps-on : keptFrom m cs (stateOf (s₀ .quantizer .place) work₀)
+        ≡ keptFrom next (callsOf rest samples (drop (lent + roomOf c) out₀)) (keptBy (f .now) call (f .kept))
+    unfolding keptFrom callsOf
+    keeps-on =
+        subst
+        (λ (o : List ℕ). keptFrom m cs (stateOf (s₀ .quantizer .place) work₀) ≡ keptFrom next (callsOf rest samples o) (keptBy (f .now) call (f .kept)))
+        (drop-drop (roomOf c) lent out₀)
+        (f .keeps)
 
     call-leaves : Leaves (f .now) next work work′
     call-leaves =
@@ -324,6 +418,9 @@ module _ (s₀ : EncodeSession) (work₀ : List ℤ) (m : Model) (cs : List Call
               let n = next-longer (f .now) call in
               let l = f .longer in
               omega arith;
+          kept = keptBy (f .now) call (f .kept);
+          tracks = call-tracks;
+          keeps = keeps-on;
           leaves =
               leaves-on m (f .now) next work₀ work work′ (f .opening) (f .longer) (next-longer (f .now) call) (f .leaves) call-leaves;
           holds = λ h. says h .holds;
@@ -379,6 +476,7 @@ module _ (s₀ : EncodeSession) (calls samples : List ℕ) (work₀ : List ℤ) 
   stops e =
       record {
         counts = λ m h. end-counts s₀ work₀ m cs samples out₀ answers₀ s work out answers made lent told (ended m h);
+        keeps = λ m h. end-keeps s₀ work₀ m cs samples out₀ answers₀ s work out answers made lent told (ended m h);
         leaves = λ m h. end-leaves s₀ work₀ m cs samples out₀ answers₀ s work out answers made lent told (ended m h);
         does = λ m h. end-shows s₀ work₀ m cs samples out₀ answers₀ s work out answers made lent told (ended m (h .stands)) h;
         spares = spares calls (length samples) out₀ answers₀ work₀ out answers work made at lent told (so .place) e;

@@ -7,14 +7,15 @@ use mathlib.Core.List.{List}
 use native.Mathlib.Nat.{mod-lt}
 use native.Mathlib.Omega.{arith}
 use borrow.Author.Tests.{leb-true}
+use lib.Dec.{leb}
 use lib.IntN.{ℤ, pos}
 use lib.ListN.{length, getD, take}
 use lib.Seq.{getD-take}
 use Rattle.error.specs.Answer.{gives}
 use Rattle.error.specs.Choice.{if}
-use Rattle.laws.proofs.Tests.{zero-one}
+use Rattle.laws.proofs.Tests.{if-true, zero-one}
 use Rattle.quantize.specs.declared.engine.Quantizer.{Quantizer}
-use Rattle.rules.specs.Rule.{roomy, Rule, threshold, dither, ordered}
+use Rattle.rules.specs.Rule.{carries, roomy, Rule, threshold, dither, ordered}
 use Rattle.quantize.specs.Engine.{Keeps, Holds as QHolds}
 use Rattle.quantize.specs.Finished.{Setting}
 use Rattle.rules.specs.Carry.{clamp}
@@ -53,6 +54,13 @@ pub lent-same : (s : EncodeSession) (m : Model) (n : ℕ) (work work′ : List �
     → Holds s work m → Holds s work′ m
 lent-same s m n work work′ r e h =
     record { stands = h .stands; keeps = λ l. holds-same (s .quantizer) (settingOf (m .opening)) (m .samples) n work work′ e r (h .keeps l) }
+
+-- under a rule that keeps carries, a buffer that serves has 2 × width numbers
+pub served-room : (m : Model) (n : ℕ) → serves (m .opening) n ≡ true → carries (settingOf (m .opening) .rule) ≡ true → m .opening .width ≤ n
+served-room m n v c =
+    let e : leb (2 * m .opening .width) n ≡ true = sym (if-true _ _ _ c) ∙ v in
+    let h : 2 * m .opening .width ≤ n = leb-true _ _ e in
+    omega arith
 
 -- ---- feeding, by its answer
 

@@ -4,4 +4,5 @@ pub mod Running
 pub mod Decoding
 pub mod Lending
 pub mod Leaving
+pub mod CarriedFront
 pub mod Encoding

@@ -1,13 +1,15 @@
 -- A run of calls on a making session: what the plain machine replies to the calls that the numbers name.
 use Prim.Native.Nat.{ℕ, _*_}
 use mathlib.Core.Path.{_≡_}
-use mathlib.Core.Bool.{false}
+use mathlib.Core.Bool.{true, false}
 use mathlib.Core.List.{List, [], _∷_, _++_}
 use lib.IntN.{ℤ}
 use lib.ListN.{length, take, drop}
 use Rattle.error.specs.Answer.{Answer, gives, refuses}
 use Rattle.rules.specs.Rule.{meaning, carries}
-use Rattle.encode_session.specs.Model.{Model, Call, feed, close, Told, took, closed, Reply, outcome, replies, finally}
+use Rattle.quantize.specs.Machine.{State, carried}
+use Rattle.quantize.specs.Turn.{stateOf}
+use Rattle.encode_session.specs.Model.{settingOf, Model, Call, feed, close, Told, took, closed, Reply, outcome, replies, finally}
 use Rattle.encode_session.specs.Session.{Stands, Holds, Feeds}
 use Rattle.encode_session.specs.declared.EncodeFed.{EncodeFed}
 use Rattle.encode_session.specs.declared.EncodeSession.{EncodeSession}
@@ -40,6 +42,22 @@ unfoldable pub callsOf : List Named → List ℕ → List ℕ → List Call
 callsOf [] samples out = []
 callsOf (c ∷ cs) samples out = callOf c samples out ∷ callsOf cs samples (drop (roomOf c) out)
 
+-- how many samples a call took
+abbrev pub tookOf : Answer Told → ℕ
+tookOf (gives (took n b)) = n
+tookOf (gives closed) = 0
+tookOf (refuses code place) = 0
+
+-- what the running machine keeps after a call, and call by call: what the samples taken leave it, so a refused call leaves it all
+abbrev pub keptBy : Model → Call → State → State
+keptBy m (feed xs out work) st =
+    carried (settingOf (m .opening)) (length (m .samples)) st xs (tookOf (outcome m (feed xs out work) .reply .answer))
+keptBy m close st = st
+
+unfoldable pub keptFrom : Model → List Call → State → State
+keptFrom m [] st = st
+keptFrom m (c ∷ cs) st = keptFrom (outcome m c .next) cs (keptBy m c st)
+
 -- ---- the contract
 
 -- how many calls the machine replies to, what it answers, and the session after them
@@ -60,12 +78,13 @@ pub record Leaves (m after : Model) (work work′ : List ℤ) : Type 0 where
   pub spared : carries (meaning (m .opening .options .quantize)) ≡ false → work′ ≡ work
   pub beyond : drop (2 * m .opening .width) work′ ≡ drop (2 * m .opening .width) work
 
--- A run of the named calls. Of a session that stands for a model, answers and counts are the model's, and no more of the work buffer is
--- altered than `Leaves` allows, whatever it holds; the outputs are the model's too where it is as the last call left it. What stands
--- behind the parts that are lent is as before for every session.
+-- A run of the named calls. Of a session that stands for a model, answers and counts are the model's, and the work buffer ends with the
+-- numbers that the running machine keeps, call by call, from those found in it; no more of it is altered than `Leaves` allows. The outputs
+-- are the model's too where the buffer is as the last call left it. What stands behind the parts that are lent is as before for every session.
 pub record Runs (s : EncodeSession) (cs : List Named) (samples : List ℕ) (work : List ℤ) (out answers : List ℕ) (r : EncodeReplayed)
     (work′ : List ℤ) (out′ answers′ : List ℕ) : Type 0 where
   pub counts : (m : Model) → Stands s m → Counts m (callsOf cs samples out) answers r answers′
+  pub keeps : (m : Model) → Stands s m → work′ ≡ keptFrom m (callsOf cs samples out) (stateOf (s .quantizer .place) work) .carry .kept
   pub leaves : (m : Model) → Stands s m → Leaves m (finally m (callsOf cs samples out)) work work′
   pub does : (m : Model) → Holds s work m → Shows m (callsOf cs samples out) out r out′ work′
   pub spares : Spares cs (r .calls) out answers work out′ answers′ work′
@@ -98,11 +117,18 @@ pub record Calls (m : Model) (call : Call) (r : Called) (part : List ℕ) (work�
   pub output : outcome m call .reply .output ≡ part
   pub holds : Holds (r .session) work′ (outcome m call .next)
 
+-- what the running machine keeps is in the work buffer and, while the session is open, in its engine
+pub record Tracks (s : EncodeSession) (m : Model) (work : List ℤ) (st : State) : Type 0 where
+  pub numbers : work ≡ st .carry .kept
+  pub state : m .live ≡ true → st ≡ stateOf (s .quantizer .place) work
+
 -- one call, named
 pub record Makes (s : EncodeSession) (c : Named) (samples : List ℕ) (work : List ℤ) (out : List ℕ) (at : ℕ) (r : Called)
     (work′ : List ℤ) (out′ : List ℕ) : Type 0 where
   pub part : List ℕ
   pub counts : (m : Model) → Stands s m → Tells m (callOf c samples (drop at out)) r
+  pub keeps : (m : Model) → Stands s m → (st : State) → Tracks s m work st
+      → Tracks (r .session) (outcome m (callOf c samples (drop at out)) .next) work′ (keptBy m (callOf c samples (drop at out)) st)
   pub leaves : (m : Model) → Stands s m → Leaves m (outcome m (callOf c samples (drop at out)) .next) work work′
   pub does : (m : Model) → Holds s work m → Calls m (callOf c samples (drop at out)) r part work′
   pub long : length part ≡ roomOf c
