@@ -1,5 +1,5 @@
 -- The settings that numbers ask for.
-use Prim.Native.Nat.{ℕ, zero, suc, _<_, _≤_}
+use Prim.Native.Nat.{ℕ, zero, suc, _-_, _^_, _<_, _≤_}
 use mathlib.Core.Path.{_≡_, refl, sym, ap, _∙_}
 use native.Mathlib.Omega.{arith}
 use borrow.Author.Tests.{ne-eqb}
@@ -34,7 +34,7 @@ module _ (f s w h p b : ℕ) where
       go (suc (suc n)) k = let f : ⊥ = omega arith in absurd f
 
   pub known : (format : PixelFormat) (mode : Mode) (mw mh mp mb : Bound) → formatOf f ≡ gives format → strictOf s ≡ gives mode
-      → mw ≡ limitOf 32 w → mh ≡ limitOf 32 h → mp ≡ limitOf 64 p → mb ≡ limitOf 64 b
+      → mw ≡ limitOf (2 ^ 32 - 1) w → mh ≡ limitOf (2 ^ 32 - 1) h → mp ≡ limitOf (2 ^ 64 - 1) p → mb ≡ limitOf (2 ^ 64 - 1) b
       → gives (record { maxWidth = mw; maxHeight = mh; maxPixels = mp; maxBytes = mb; mode = mode; format = format }) ≡ settingsOf f s w h p b
   unfolding settingsOf
   known format mode mw mh mp mb e m ew eh ep eb = rw (e, m, ew, eh, ep, eb)

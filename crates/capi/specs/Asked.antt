@@ -19,9 +19,9 @@ formatOf n = if (eqb n 0) (gives MonoBlack) (if (eqb n 1) (gives MonoWhite) (ref
 abbrev pub strictOf : ℕ → Answer Mode
 strictOf n = if (eqb n 0) (gives lenient) (if (eqb n 1) (gives strict) (refuses 29 0))
 
--- a limit of so many bits: the type's largest number says that it is absent
+-- a limit: the type's largest number says that it is absent
 abbrev pub limitOf : ℕ → ℕ → Bound
-limitOf bits n = if (eqb n (2 ^ bits - 1)) absent (atMost n)
+limitOf largest n = if (eqb n largest) absent (atMost n)
 
 -- the settings from format, strictness and the limits of width, height, pixels and plane bytes
 unfoldable pub settingsOf : ℕ → ℕ → ℕ → ℕ → ℕ → ℕ → Answer Decoding
@@ -29,10 +29,10 @@ settingsOf format strictness width height pixels bytes =
     bind (formatOf format)
     (λ f. bind (strictOf strictness)
     (λ m. gives (record {
-      maxWidth = limitOf 32 width;
-      maxHeight = limitOf 32 height;
-      maxPixels = limitOf 64 pixels;
-      maxBytes = limitOf 64 bytes;
+      maxWidth = limitOf (2 ^ 32 - 1) width;
+      maxHeight = limitOf (2 ^ 32 - 1) height;
+      maxPixels = limitOf (2 ^ 64 - 1) pixels;
+      maxBytes = limitOf (2 ^ 64 - 1) bytes;
       mode = m;
       format = f;
     })))

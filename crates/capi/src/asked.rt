@@ -14,19 +14,10 @@ pub(crate) enum Settings {
     Unknown,
 }
 
-fn limit_u32(most: u32) -> Limit
-    ensures { λ r. ⌜ bound r ≡ limitOf 32 most ⌝ }
+fn limit(most: u64, largest: u64) -> Limit
+    ensures { λ r. ⌜ bound r ≡ limitOf largest most ⌝ }
 {
-    if most == u32::MAX {
-        return Limit::absent();
-    }
-    Limit::at_most(most as u64)
-}
-
-fn limit_u64(most: u64) -> Limit
-    ensures { λ r. ⌜ bound r ≡ limitOf 64 most ⌝ }
-{
-    if most == u64::MAX {
+    if most == largest {
         return Limit::absent();
     }
     Limit::at_most(most)
@@ -71,10 +62,10 @@ pub(crate) fn asked(
     let pixels = pixel_format(format);
     let mode = decode_mode(strict);
     Settings::Known(DecodeOptions {
-        max_width: limit_u32(max_width),
-        max_height: limit_u32(max_height),
-        max_pixels: limit_u64(max_pixels),
-        max_bytes: limit_u64(max_bytes),
+        max_width: limit(max_width as u64, u32::MAX as u64),
+        max_height: limit(max_height as u64, u32::MAX as u64),
+        max_pixels: limit(max_pixels, u64::MAX),
+        max_bytes: limit(max_bytes, u64::MAX),
         mode,
         format: pixels,
     })

@@ -2,11 +2,12 @@
 use Prim.Native.Nat.{ℕ, suc, _-_, _*_, _^_, _≤_, _<_}
 use mathlib.Core.Path.{_≡_, refl, sym, ap, _∙_, subst}
 use mathlib.Core.List.{List}
-use native.Mathlib.Nat.{mul-suc, mul-le-mul}
+use native.Mathlib.Nat.{mul-suc}
 use native.Mathlib.Omega.{arith}
 use lib.ListN.{length}
 use Rattle.error.specs.Answer.{gives}
 use Rattle.laws.proofs.Octets.{Octets}
+use Rattle.laws.proofs.Products.{product-below}
 use Rattle.image.specs.Dots.{isWhite}
 use Rattle.image.specs.Geometry.{rowBytes, planeBytes, neededBytes, checkGeometry}
 use Rattle.image.specs.Rows.{convertFormat}
@@ -23,9 +24,7 @@ module _ (w h : ℕ) (wide : 0 < w) (high : 0 < h) (wb : w < 4294967296) (hb : h
       sym (mul-suc (rowBytes w) (h - 1)) ∙ ap (λ (k : ℕ). rowBytes w * k) e
 
   pub plane-fits : planeBytes w h < 2 ^ 64
-  plane-fits =
-      let m : rowBytes w * h ≤ 536870912 * 4294967296 = mul-le-mul {n₁ = rowBytes w} {m₁ = h} {n₂ = 536870912} {m₂ = 4294967296} (omega arith) (omega arith) in
-      omega arith
+  plane-fits = product-below 32 32 (omega arith) (omega arith)
 
   pub plane-passes : checkGeometry w h (rowBytes w) (planeBytes w h) ≡ gives tt
   plane-passes =

@@ -5,7 +5,7 @@ use mathlib.Core.Path.{_≡_, refl, sym, ap, _∙_, subst}
 use mathlib.Core.Bool.{Bool, true, false, _||_}
 use mathlib.Core.Logic.{inl}
 use mathlib.Core.List.{List, [], _++_}
-use native.Mathlib.Nat.{zero-mul, add-zero, zero-add, one-mul, mul-comm, mul-le-mul}
+use native.Mathlib.Nat.{zero-mul, add-zero, zero-add, one-mul, mul-comm}
 use native.Mathlib.Omega.{arith}
 use borrow.Author.Tests.{ne-eqb, eqb-false, le-leb, lt-leb, leb-true}
 use lib.Dec.{eqb, leb}
@@ -27,11 +27,6 @@ use Rattle.quantize.specs.Whole.{refusedBy, quantized, Quantizes}
 use Rattle.quantize.proofs.Places.{count-rows}
 use Rattle.quantize.proofs.Counting.{most-is}
 use Rattle.rules.proofs.Grown.{length-upto}
-
--- ---- the tests
-
-pub product-fits : (w h : ℕ) → w < 4294967296 → h < 4294967296 → w * h < 18446744073709551616
-product-fits w h p q = omega (arith, mul-le-mul {n₁ = w} {m₁ = h} {n₂ = 4294967295} {m₂ = 4294967295} (omega arith) (omega arith))
 
 -- ---- the refusals
 

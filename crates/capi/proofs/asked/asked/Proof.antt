@@ -16,17 +16,17 @@ pixel-format-requires c κs = search needs
 decode-mode-requires : tie.Need-decode-mode-requires
 decode-mode-requires c κs = search needs
 
-limit-u32-requires : tie.Need-limit-u32-requires
-limit-u32-requires c κs = search needs
+limit-requires : tie.Need-limit-requires
+limit-requires c κs = search needs
 
-limit-u32-requires-2 : tie.Need-limit-u32-requires-2
-limit-u32-requires-2 c κs = search needs
+limit-requires-2 : tie.Need-limit-requires-2
+limit-requires-2 c κs = search needs
 
-limit-u64-requires : tie.Need-limit-u64-requires
-limit-u64-requires c κs = search needs
+limit-requires-3 : tie.Need-limit-requires-3
+limit-requires-3 c κs = search needs
 
-limit-u64-requires-2 : tie.Need-limit-u64-requires-2
-limit-u64-requires-2 c κs = search needs
+limit-requires-4 : tie.Need-limit-requires-4
+limit-requires-4 c κs = search needs
 
 returns-3 : tie.Need-returns-3
 returns-3 c =
@@ -35,7 +35,7 @@ returns-3 c =
     let s = p .before in
     let a = s .before .before .args in
     known (a .format) (a .strict) (a .max-width) (a .max-height) (a .max-pixels) (a .max-bytes) _ _ _ _ _ _ (p .pixel-format .ensures) (m .decode-mode .ensures)
-    (c .before .before .before .limit-u32 .ensures) (c .before .before .limit-u322 .ensures) (c .before .limit-u64 .ensures) (c .limit-u642 .ensures)
+    (c .before .before .before .limit .ensures) (c .before .before .limit2 .ensures) (c .before .limit3 .ensures) (c .limit4 .ensures)
 
 pub asked-spec : {M : Type 1} → statement M
 asked-spec =
@@ -45,8 +45,8 @@ asked-spec =
     returns-2
     pixel-format-requires
     decode-mode-requires
-    limit-u32-requires
-    limit-u32-requires-2
-    limit-u64-requires
-    limit-u64-requires-2
+    limit-requires
+    limit-requires-2
+    limit-requires-3
+    limit-requires-4
     returns-3)

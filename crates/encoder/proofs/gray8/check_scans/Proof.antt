@@ -5,8 +5,8 @@ use native.Mathlib.Omega.{arith}
 use borrow.Author.Tests.{not-true, not-false}
 use borrow.Author.Needs.{needs}
 use Rattle.error.specs.Answer.{checked, gives}
+use Rattle.laws.proofs.Products.{product-below}
 use Rattle.rules.specs.Rule.{meaning, roomy, knownRule}
-use Rattle.quantize.proofs.Wholes.{product-fits}
 use Rattle.encoder.specs.File.{checkCount}
 use Rattle.encoder.proofs.Counted.{counted}
 use Rattle.encoder.proofs.Scanned.{not-counted, not-known, not-roomy, too-short, long-enough}
@@ -70,7 +70,7 @@ returns-3 c =
 mul-area : tie.Need-mul-area
 mul-area c =
     let s = c .before .before .before .before .before .before .before in
-    record { fits = product-fits (s .args .width) (s .args .height) (s .fits .width .fits) (s .fits .height .fits) }
+    record { fits = product-below 32 32 (s .fits .width .fits) (s .fits .height .fits) }
 
 div-if3 : tie.Need-div-if3
 div-if3 c =

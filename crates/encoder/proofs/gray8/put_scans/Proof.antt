@@ -4,8 +4,8 @@ use native.Mathlib.Omega.{arith}
 use borrow.Author.Needs.{needs}
 use denote.Ref.{now}
 use lib.ListN.{length}
+use Rattle.laws.proofs.Products.{product-below}
 use Rattle.image.specs.declared.PlaneLayout.{PlaneLayout}
-use Rattle.quantize.proofs.Wholes.{product-fits}
 use Rattle.encoder.proofs.Scanned.{passed}
 use Rattle.encoder.proofs.Scanning.{Scanning, begun, out-long, next-in, scanned, ended}
 use Rattle.encoder.proofs.gray8.put_scans.Statement.{statement}
@@ -20,7 +20,7 @@ abbrev μ-loop : tie.MeasureT-loop
 mul-area : tie.Need-mul-area Inv-loop μ-loop
 mul-area c =
     let s = c .before .before in
-    record { fits = product-fits (s .args .width) (s .args .height) (s .fits .width .fits) (s .fits .height .fits) }
+    record { fits = product-below 32 32 (s .fits .width .fits) (s .fits .height .fits) }
 
 new-requires : tie.Need-new-requires Inv-loop μ-loop
 new-requires c κs = search needs

@@ -1,7 +1,6 @@
-use Prim.Native.Nat.{_*_, _≤_}
-use native.Mathlib.Nat.{mul-le-mul}
 use native.Mathlib.Omega.{arith}
 use borrow.Author.Needs.{needs}
+use Rattle.laws.proofs.Products.{product-below}
 use Rattle.image.proofs.PlaneLayout.new.Statement.{statement}
 use Rattle.image.proofs.PlaneLayout.new.Tie as tie
 
@@ -9,9 +8,7 @@ row-stride-requires : tie.Need-row-stride-requires
 row-stride-requires c κs = search needs
 
 mul-t5 : tie.Need-mul-t5
-mul-t5 c =
-    let p : c .row-stride .result * c .before .args .height ≤ 536870912 * 4294967296 = mul-le-mul {n₂ = 536870912} {m₂ = 4294967296} (omega arith) (omega arith) in
-    omega arith
+mul-t5 c = record { fits = product-below 32 32 (omega arith) (omega arith) }
 
 padding-mask-requires : tie.Need-padding-mask-requires
 padding-mask-requires c κs = search needs

@@ -1,9 +1,7 @@
-use Prim.Native.Nat.{_*_, _≤_}
 use mathlib.Core.Path.{sym, _∙_}
-use native.Mathlib.Nat.{mul-le-mul}
-use native.Mathlib.Omega.{arith}
 use borrow.Author.Tests.{not-true, not-false}
 use borrow.Author.Needs.{needs}
+use Rattle.laws.proofs.Products.{product-below}
 use Rattle.options.specs.Limits.{decoding}
 use Rattle.options.proofs.Limited.{over-width, over-height, over-pixels, over-bytes, admitted}
 use Rattle.options.proofs.DecodeOptions.check.Statement.{statement}
@@ -40,9 +38,8 @@ returns-2 c =
 
 mul-admits : tie.Need-mul-admits
 mul-admits c =
-    let a = c .before .before .before .before .args in
-    let p : a .width * a .height ≤ 4294967295 * 4294967295 = mul-le-mul {n₂ = 4294967295} {m₂ = 4294967295} (omega arith) (omega arith) in
-    omega arith
+    let s = c .before .before .before .before in
+    record { fits = product-below 32 32 (s .fits .width .fits) (s .fits .height .fits) }
 
 admits-requires-3 : tie.Need-admits-requires-3
 admits-requires-3 c κs = search needs

@@ -2,7 +2,8 @@
 -- Assumes nothing.
 use Prim.Native.Nat.{_+_, _/_}
 use native.Mathlib.Omega.{arith}
-use Rattle.quantize.proofs.Wholes.{product-fits, quantizes-refused, quantizes-short, quantizes-all}
+use Rattle.laws.proofs.Products.{product-below}
+use Rattle.quantize.proofs.Wholes.{quantizes-refused, quantizes-short, quantizes-all}
 use borrow.Author.Needs.{needs}
 use Rattle.quantize.proofs.whole.quantize_gray8.Statement.{statement}
 use Rattle.quantize.proofs.whole.quantize_gray8.Tie as tie
@@ -17,7 +18,7 @@ add-need : tie.Need-add-need
 add-need c = search needs
 
 mul-need : tie.Need-mul-need
-mul-need c = let s = c .before .before .before .before in record { fits = product-fits ((s .args .width + 7) / 8) (s .args .height) (omega arith) (s .fits .height .fits) }
+mul-need c = let s = c .before .before .before .before in record { fits = product-below 32 32 {a = (s .args .width + 7) / 8} (omega arith) (s .fits .height .fits) }
 
 returns-2 : tie.Need-returns-2
 returns-2 c = let g = c .before in quantizes-short _ _ _ _ _ _ _ (g .before .refused .ensures) (g .if1 .left) (c .if2 .taken)

@@ -2,7 +2,8 @@
 -- Assumes nothing.
 use mathlib.Core.Path.{_∙_, sym}
 use borrow.Author.Tests.{not-true, not-false}
-use Rattle.quantize.proofs.Wholes.{product-fits, refused-width, refused-height, refused-rule, refused-work, refused-gray, refused-none}
+use Rattle.laws.proofs.Products.{product-below}
+use Rattle.quantize.proofs.Wholes.{refused-width, refused-height, refused-rule, refused-work, refused-gray, refused-none}
 use borrow.Author.Needs.{needs}
 use Rattle.quantize.proofs.whole.refused.Statement.{statement}
 use Rattle.quantize.proofs.whole.refused.Tie as tie
@@ -26,7 +27,7 @@ returns-4 : tie.Need-returns-4
 returns-4 c = let a = c .before .before .before .before .before .before .args in let k = c .before .before in let e = k .before .before in refused-work (a .rule) (a .width) (a .height) (a .gray) (a .work) (e .before .if1 .left) (e .if2 .left) (sym (k .before .known-rule .ensures) ∙ not-false _ (k .if3 .left)) (sym (c .before .roomy .ensures) ∙ not-true _ (c .if4 .taken))
 
 mul-area : tie.Need-mul-area
-mul-area c = let a = c .before .before .before .before .before .before in record { fits = product-fits (a .args .width) (a .args .height) (a .fits .width .fits) (a .fits .height .fits) }
+mul-area c = let a = c .before .before .before .before .before .before in record { fits = product-below 32 32 (a .fits .width .fits) (a .fits .height .fits) }
 
 returns-5 : tie.Need-returns-5
 returns-5 c = let a = c .before .before .before .before .before .before .before .args in let g = c .before in let k = g .before .before in let e = k .before .before in refused-gray (a .rule) (a .width) (a .height) (a .gray) (a .work) (e .before .if1 .left) (e .if2 .left) (sym (k .before .known-rule .ensures) ∙ not-false _ (k .if3 .left)) (sym (g .before .roomy .ensures) ∙ not-false _ (g .if4 .left)) (c .if5 .taken)

@@ -1,8 +1,8 @@
 use mathlib.Core.Path.{sym, _∙_}
 use borrow.Author.Tests.{eq-eqb, ne-eqb}
 use borrow.Author.Needs.{needs}
-use Rattle.capi.proofs.asked.limit_u64.Statement.{statement}
-use Rattle.capi.proofs.asked.limit_u64.Tie as tie
+use Rattle.capi.proofs.asked.limit.Statement.{statement}
+use Rattle.capi.proofs.asked.limit.Tie as tie
 
 absent-requires : tie.Need-absent-requires
 absent-requires c κs = search needs
@@ -16,5 +16,5 @@ at-most-requires c κs = search needs
 returns-2 : tie.Need-returns-2
 returns-2 c = c .at-most .ensures ∙ sym (simp (ne-eqb _ _ (c .before .if1 .left)))
 
-pub limit-u64-spec : {M : Type 1} → statement M
-limit-u64-spec = tie.close (tie.spec absent-requires returns at-most-requires returns-2)
+pub limit-spec : {M : Type 1} → statement M
+limit-spec = tie.close (tie.spec absent-requires returns at-most-requires returns-2)
