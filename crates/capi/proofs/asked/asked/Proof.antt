@@ -16,6 +16,12 @@ pixel-format-requires c κs = search needs
 decode-mode-requires : tie.Need-decode-mode-requires
 decode-mode-requires c κs = search needs
 
+cast-limit : tie.Need-cast-limit
+cast-limit c = search needs
+
+cast-limit-2 : tie.Need-cast-limit-2
+cast-limit-2 c = search needs
+
 limit-requires : tie.Need-limit-requires
 limit-requires c κs = search needs
 
@@ -45,7 +51,9 @@ asked-spec =
     returns-2
     pixel-format-requires
     decode-mode-requires
+    cast-limit
     limit-requires
+    cast-limit-2
     limit-requires-2
     limit-requires-3
     limit-requires-4
