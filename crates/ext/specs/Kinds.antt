@@ -1,5 +1,5 @@
 -- What extension fields are, and how the code's values stand for them.
-use Prim.Native.Nat.{ℕ, _+_, _-_, _/_, _%_}
+use Prim.Native.Nat.{ℕ, _-_, _/_, _%_}
 use mathlib.Core.Path.{_≡_}
 use mathlib.Core.Bool.{Bool}
 use mathlib.Core.List.{List}

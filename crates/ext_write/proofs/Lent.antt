@@ -1,11 +1,10 @@
 -- Lent fields of each kind.
-use Prim.Native.Nat.{ℕ, _<_}
+use Prim.Native.Nat.{ℕ}
 use mathlib.Core.Path.{_≡_, _∙_, sym, ap, refl}
 use mathlib.Core.Bool.{Bool, true, false}
 use mathlib.Core.List.{List, [], _∷_}
-use native.Mathlib.Omega.{arith}
 use lib.Dec.{eqb}
-use lib.ListN.{length, getD}
+use lib.ListN.{length}
 use borrow.Author.Tests.{eqb-true, eqb-false}
 use Rattle.error.specs.Answer.{Answer, gives, refuses, bind, map}
 use Rattle.laws.proofs.Tests.{if-false, zero-one}
@@ -49,14 +48,6 @@ module _ (strict : Bool) (lengths : List ℕ) where
         by-text : (s : List ℕ) → octetLength s ≡ map length (octetBytes s)
         by-text [] = refl
         by-text (o ∷ os) = refl
-
-    pub octet-accepted : (text bytes : List ℕ) → lentBytes strict kind text lengths ≡ gives bytes → (0 < length text) × (bytes ≡ getD text 0 0 ∷ [])
-    unfolding octetBytes
-    octet-accepted text bytes h = by-text text (sym (lent-octet text) ∙ h)
-      where
-        by-text : (s : List ℕ) → octetBytes s ≡ gives bytes → (0 < length s) × (bytes ≡ getD s 0 0 ∷ [])
-        by-text [] g = zero-one (cc)
-        by-text (o ∷ os) g = (omega arith, cc)
 
   -- what accepted pairs are
   pub pairs-accepted : (text bytes : List ℕ) → lentBytes strict 3 text lengths ≡ gives bytes

@@ -9,7 +9,6 @@ pub mod StartCounted
 pub mod BackOctets
 pub mod BackPairs
 pub mod ReadBack
-pub mod WrittenBytes
 pub mod Again
 pub mod Lend
 pub mod Turns

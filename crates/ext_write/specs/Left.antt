@@ -6,7 +6,7 @@ use mathlib.Core.Bool.{Bool}
 use mathlib.Core.List.{List}
 use lib.ListN.{length}
 use lib.Seq.{sets}
-use Rattle.error.specs.Answer.{Answer, gives, map, written}
+use Rattle.error.specs.Answer.{gives, map, written}
 use Rattle.error.specs.Emits.{Emits}
 use Rattle.ext_write.specs.Write.{lentBytes}
 use Rattle.ext_write.specs.Steps.{fieldsLength}

@@ -1,16 +1,15 @@
 -- Pairs to be written, one at a time: a step that checks one and a step that puts one, and what a run of each over all lengths comes to. Both
 -- steps are total, so that a run needs no condition; `proofs/Checks` and `proofs/Puts` say what the runs come to.
-use Prim.Native.Nat.{ℕ, _+_, _/_, _≤_, _<_}
-use mathlib.Core.Path.{_≡_}
+use Prim.Native.Nat.{ℕ, _+_, _/_, _<_}
 use mathlib.Core.Bool.{Bool, false, _&&_}
-use mathlib.Core.List.{List, [], _∷_, _++_}
+use mathlib.Core.List.{List, [], _∷_}
 use lib.Dec.{ltb, leb, eqb}
 use lib.ListN.{length, take, drop, getD}
 use lib.Seq.{sets}
 use Rattle.error.specs.Choice.{if}
 use Rattle.error.specs.Answer.{Answer, gives, refuses, refusal}
 use Rattle.ext.specs.Kinds.{Pair}
-use Rattle.ext_write.specs.Write.{checkPair, pairBytes, lentBytes}
+use Rattle.ext_write.specs.Write.{checkPair, pairBytes}
 use Rattle.ext_write.specs.declared.PairsCheck.{PairsCheck}
 use Rattle.ext_write.specs.declared.PairsPut.{PairsPut}
 use Rattle.ext_write.specs.declared.FieldsCheck.{FieldsCheck}

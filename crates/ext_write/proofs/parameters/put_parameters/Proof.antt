@@ -49,7 +49,6 @@ use denote.Triple.Walked.{says, Stays, stay-none, stay-none-slice, stay-slice, w
 use denote.Exit.{yes}
 use Rattle.ext_write.specs.Write.{flattened}
 use Rattle.ext_write.specs.Steps.{putStart, putStep, putOutput, putPairs}
-use Rattle.error.specs.declared.Written.{Written}
 use Rattle.ext_write.specs.declared.Parameter.{Parameter}
 use Rattle.ext_write.specs.declared.PairsPut.{PairsPut}
 use Rattle.ext_write.specs.declared.PairsBegun.{PairsBegun}
