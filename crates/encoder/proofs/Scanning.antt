@@ -51,7 +51,7 @@ pub record Scanning (rule : Quantize) (w h count : ℕ) (gray : List ℕ) (work�
   pub turn : k ≤ count
   pub now-is : out ≡ sets out₀ 0 (scanBytes rule w h gray k)
   pub work-long : length work ≡ length work₀
-  pub beyond : drop (2 * w) work ≡ drop (2 * w) work₀
+  pub beyond : drop w work ≡ drop w work₀
   pub spared : carries (meaning rule) ≡ false → work ≡ work₀
 
 pub begun : (rule : Quantize) (w h count : ℕ) (gray : List ℕ) (work : List ℤ) (out : List ℕ) (plane : ℕ)

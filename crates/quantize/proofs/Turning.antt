@@ -39,7 +39,7 @@ pub record Moved (s : Setting) (n : ℕ) (p : Place) (xs : List ℕ) (work : Lis
 pub record Turn (q : Quantizer) (p : Place) (xs : List ℕ) (work : List ℤ) (m : ℕ) (bytes : List ℕ) (p′ : Place) (work′ : List ℤ) : Type 0 where
   pub sound : Sound (q .rule) (q .width) (q .height) (p′ .row) (p′ .column) (p′ .begun) (p′ .corner) (length work′)
   pub long : length work′ ≡ length work
-  pub beyond : drop (2 * q .width) work′ ≡ drop (2 * q .width) work
+  pub beyond : drop (q .width) work′ ≡ drop (q .width) work
   pub spared : carries (meaning (q .rule)) ≡ false → work′ ≡ work
   pub moves : (s : Setting) (n : ℕ) → Suits q s → At s n (p .frames) (p .row) (p .column) → Moved s n p xs work m bytes p′ work′
 
@@ -98,7 +98,7 @@ module _ (q : Quantizer) (p : Place) (xs gray : List ℕ) (work : List ℤ) (so 
           served = subst (λ (k : ℕ). Served (q .rule) (q .width) k) (sym long-is) (so .served);
         };
         long = long-is;
-        beyond = sym (ap (drop (2 * q .width)) kept-is) ∙ row-beyond rule (q .width) (p .row) (p .column) gray (carryOf (p .corner) work) (2 * q .width) (length gray) (omega arith);
+        beyond = sym (ap (drop (q .width)) kept-is) ∙ row-beyond rule (q .width) (p .row) (p .column) gray (carryOf (p .corner) work) (q .width) (length gray) (omega arith);
         spared = λ h. sym kept-is ∙ row-spared rule (q .width) (p .row) (p .column) gray (carryOf (p .corner) work) (carries-same (q .rule) (q .table) ∙ h) (length gray);
         moves = moves;
       }

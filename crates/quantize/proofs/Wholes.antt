@@ -174,7 +174,7 @@ module _ (rule : Quantize) (w h : ℕ) (gray out : List ℕ) (work : List ℤ) (
           record {
             emits = subst (λ (a : Answer (List ℕ)). Emits a (gives (r .written)) out out′) (sym (given-is z))
                 (emits-all _ out out′ (r .written) (omega (arith, long, fits)) (written-is ∙ sym long) bytes-are);
-            beyond = subst (λ (n : ℕ). drop (2 * n) work′ ≡ drop (2 * n) work) (sym (H .stands .width)) (R .beyond);
+            beyond = subst (λ (n : ℕ). drop n work′ ≡ drop n work) (sym (H .stands .width)) (R .beyond);
             spared = λ n. R .spared (rw (o .ruleIs) n);
             refused = λ code place f. zero-one (cc);
           }

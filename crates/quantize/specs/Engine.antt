@@ -104,7 +104,7 @@ pub record Runs (q : Quantizer) (samples out : List ℕ) (work : List ℤ) (r : 
   pub taken : r .taken ≤ length samples
   pub written : r .written ≤ length out
   pub past : drop (r .written) out′ ≡ drop (r .written) out
-  pub beyond : drop (2 * q .width) work′ ≡ drop (2 * q .width) work
+  pub beyond : drop (q .width) work′ ≡ drop (q .width) work
   pub spared : carries (meaning (q .rule)) ≡ false → work′ ≡ work
   pub idle : (Ready (q .rule) (q .width) (q .height) (length work) → ⊥) → Idles q out work r out′ work′
   pub counts : (s : Setting) (n : ℕ) → Stands q s n → Counts q s n (length samples) (length out) (length work) r

@@ -70,7 +70,7 @@ next-longer m close =
 -- ---- calls one after the other
 
 pub same-leaves : (m n : Model) (work work′ : List ℤ) → work′ ≡ work → Leaves m n work work′
-same-leaves m n work work′ e = record { quiet = λ _. e; spared = λ _. e; beyond = ap (drop (2 * m .opening .width)) e }
+same-leaves m n work work′ e = record { quiet = λ _. e; spared = λ _. e; beyond = ap (drop (m .opening .width)) e }
 
 pub leaves-on : (m n k : Model) (work work′ work″ : List ℤ) → n .opening ≡ m .opening → length (m .samples) ≤ length (n .samples)
     → length (n .samples) ≤ length (k .samples) → Leaves m n work work′ → Leaves n k work′ work″ → Leaves m k work work″
@@ -78,5 +78,5 @@ leaves-on m n k work work′ work″ o l h L N =
     record {
       quiet = λ e. N .quiet (omega arith) ∙ L .quiet (omega arith);
       spared = λ e. N .spared (ap (λ (a : Opening). carries (meaning (a .options .quantize))) o ∙ e) ∙ L .spared e;
-      beyond = subst (λ (a : Opening). drop (2 * a .width) work″ ≡ drop (2 * a .width) work′) o (N .beyond) ∙ L .beyond;
+      beyond = subst (λ (a : Opening). drop (a .width) work″ ≡ drop (a .width) work′) o (N .beyond) ∙ L .beyond;
     }

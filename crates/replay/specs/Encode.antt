@@ -72,11 +72,11 @@ pub record Shows (m : Model) (cs : List Call) (out : List ℕ) (r : EncodeReplay
   pub holds : Holds (r .session) work′ (finally m cs)
 
 -- What calls leave of the work buffer: it is as before where they take no sample, as where each is refused or the session is closed, and
--- under a rule that keeps no carries; behind 2 × width it always is.
+-- under a rule that keeps no carries; behind `width` numbers it always is.
 pub record Leaves (m after : Model) (work work′ : List ℤ) : Type 0 where
   pub quiet : length (after .samples) ≡ length (m .samples) → work′ ≡ work
   pub spared : carries (meaning (m .opening .options .quantize)) ≡ false → work′ ≡ work
-  pub beyond : drop (2 * m .opening .width) work′ ≡ drop (2 * m .opening .width) work
+  pub beyond : drop (m .opening .width) work′ ≡ drop (m .opening .width) work
 
 -- A run of the named calls. Of a session that stands for a model, answers and counts are the model's, and the work buffer ends with the
 -- numbers that the running machine keeps, call by call, from those found in it; no more of it is altered than `Leaves` allows. The outputs
