@@ -26,7 +26,6 @@ def tell(place, what):
 
 LISTED = [line.split(":") for line in read("crates.txt").splitlines() if ":" in line and line[0] != "#"]
 CRATES = [name for name, _ in LISTED]
-EDITS = {os.path.basename(p)[:-5] for p in glob.glob("crates/*/must-fail/*.edit")}
 GROUPS = [line.rsplit(" ", 1)[0] for line in read("crates/vectors/stdout").splitlines()]
 CODE = "\n".join(read(p) for p in glob.glob("crates/*/src/**/*.rt", recursive=True))
 MODULE = re.compile(r"(?<![\w/·])(%s)/(?:(?:specs|proofs)/(?:Internal/)?)?([A-Z]\w*)(?:\.(?!antt\b)([A-Za-z][\w-]*′?))?" % "|".join(CRATES))
@@ -44,9 +43,9 @@ def defines(text, name):
 
 
 def declared(name):
-    """Whether the code has a function, type or constant of this name, or a method Type::name."""
+    """Whether the code has a crate, function, type, constant or case of this name, or a method Type::name."""
     last = name.split("::")[-1]
-    return re.search(r"\b(?:fn|struct|enum|const|mod) %s\b" % last, CODE) or re.search(r"^    %s(?:\(|,| \{)" % last, CODE, re.M)
+    return last in CRATES or re.search(r"\b(?:fn|struct|enum|const|mod) %s\b" % last, CODE) or re.search(r"^    %s(?:\(|,| \{)" % last, CODE, re.M)
 
 
 def check_text(place, text):
@@ -81,9 +80,9 @@ def check_names(place, cell, homes):
 
 
 def check_tests(place, cell):
-    for names in re.findall(r"\bedits? ((?:[\w*]+(?: \([^)]*\))?(?:, )?)+)", cell):
+    for names in re.findall(r"\bedits? ((?:[\w*/]+(?: \([^)]*\))?(?:, )?)+)", cell):
         for name in re.sub(r" \([^)]*\)", "", names).strip(", ").split(", "):
-            if not glob.glob(f"crates/*/must-fail/{name}.edit"):
+            if "/" not in name and not glob.glob(f"crates/*/must-fail/{name}.edit"):
                 tell(place, f"no edit {name}")
     for crate, name in re.findall(r"\b(%s)/(?:must-fail/)?([a-z]\w*)" % "|".join(CRATES), cell):
         if name in ("stdout", "stdin", "specs", "proofs", "src") or os.path.isdir(f"crates/{crate}/{name}"):
@@ -105,10 +104,10 @@ def check_rows(path):
             homes, section = [], line[3:]
         elif not line.startswith("|"):
             homes += [m[:2] for m in MODULE.findall(line)]
-        elif not re.match(r"\|-|\| (Sentence|Wrong|Condition) ", line):
-            cells = [c.strip() for c in line.strip("|").split(" | ")]
-            for cell in cells[1:-1]:
-                check_names(place, re.sub(r"`[^`]*`", "", cell), homes)
+        elif not re.match(r"\|-|\| (Sentence|Wrong program) \|", line):
+            cells = [c.strip() for c in line.strip().strip("|").split("|")]
+            for cell in cells[1:-1] or cells[1:]:
+                check_names(place, re.sub(r"`[^`]*`|\bedits? [^;]*", "", cell), homes)
                 for name in re.findall(r"`([\w:]+)`", cell):
                     if not declared(name):
                         tell(place, f"no {name} in the code")
@@ -130,14 +129,14 @@ def definitions():
 
 def graph():
     """The crates in layers, each with those that it stands on directly."""
-    below, layers = {}, {}
+    below, level, lines = {}, {}, {}
     for name, needs in LISTED:
-        deps = [d for d in needs.split() if d in below]
+        deps = [d for d in needs.split() if d in CRATES]
+        below[name] = set(deps).union(*(below[d] for d in deps))
+        level[name] = 1 + max((level[d] for d in deps), default=0)
         direct = [d for d in deps if not any(d in below[e] for e in deps)]
-        below[name] = set(deps)
-        layer = 1 + max((n for n, cs in layers.items() if any(d == c for c, _ in cs for d in deps)), default=-1)
-        layers.setdefault(layer, []).append((name, direct))
-    return "\n".join("    ".join(" ← ".join(filter(None, (c, " ".join(ds)))) for c, ds in layers[n]) for n in sorted(layers))
+        lines.setdefault(level[name], []).append(f"{name} ← {' '.join(direct)}" if direct else name)
+    return "\n".join("    ".join(lines[n]) for n in sorted(lines))
 
 
 def present(text):
