@@ -73,11 +73,10 @@ static const char *reason(uint8_t code)
     }
 }
 
-static int refused(const char *name, uint64_t answer)
+static void tell_refusal(const char *name, uint64_t answer)
 {
     printf("%s: refused %u %llu: %s\n", name, (unsigned)wbmp_code(answer),
            (unsigned long long)wbmp_place(answer), reason(wbmp_code(answer)));
-    return 0;
 }
 
 static void print_text(const uint8_t *text, size_t len)
@@ -115,8 +114,10 @@ static size_t tell(const char *name, const struct file *file)
            sniffed[wbmp_sniff(file->bytes, file->len)]);
     uint64_t answer = wbmp_info(file->bytes, file->len, &width, &height, &frames, &body,
                                 &fix_header, &kind, &start, &len, &pairs);
-    if (answer != 0)
-        return refused(name, answer);
+    if (answer != 0) {
+        tell_refusal(name, answer);
+        return 0;
+    }
     printf("%s: %u by %u dots, frames %u, body at %zu, FixHeader 0x%02X, %s", name,
            (unsigned)width, (unsigned)height, (unsigned)frames, body, (unsigned)fix_header,
            kinds[kind]);
@@ -159,7 +160,7 @@ static int show(const char *name, const struct file *file, size_t len)
     if (answer == 0)
         draw(out, width, height, frames);
     else
-        refused(name, answer);
+        tell_refusal(name, answer);
     free(out);
     return answer == 0;
 }

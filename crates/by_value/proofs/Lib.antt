@@ -1,0 +1,2 @@
+pub mod LentFront
+pub mod Records
