@@ -30,10 +30,10 @@ use denote.Struct.Laws as LL
 use denote.Triple.Statement.{Contract, Triple}
 use denote.Triple.Clauses.{ensured, lasts}
 use denote.Triple.Spec.{tripleOf}
-use Rattle.ext.specs.declared.Parameter.{Parameter}
-use Rattle.ext.proofs.Lend.{calls-plain}
-use Rattle.ext.proofs.Parameter as T
-use Rattle.ext.proofs.Parameter.Laws as T′
+use Rattle.ext_write.specs.declared.Parameter.{Parameter}
+use Rattle.ext_write.proofs.Lend.{calls-plain}
+use Rattle.ext_write.proofs.Parameter as T
+use Rattle.ext_write.proofs.Parameter.Laws as T′
 use Rattle.by_value.proofs.counted as g
 use Rattle.by_value.proofs.counted.Symbol.{name as #counted}
 

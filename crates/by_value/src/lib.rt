@@ -3,7 +3,7 @@ use encode_session::EncodeOpened;
 use encode_session::EncodeSession;
 use error::Written;
 use ext::ExtFieldType;
-use ext::Parameter;
+use ext_write::Parameter;
 use header::ExtPresence;
 use image::PixelFormat;
 use options::EncodeOptions;
@@ -14,7 +14,7 @@ ghost use lib.ListN.{length, take};
 ghost use Rattle.error.specs.Answer.{written};
 ghost use Rattle.error.specs.Emits.{Emits};
 ghost use Rattle.ext.specs.Kinds.{kindNumber};
-ghost use Rattle.ext.specs.Write.{flattened, lentBytes};
+ghost use Rattle.ext_write.specs.Write.{flattened, lentBytes};
 ghost use Rattle.header.specs.Write.{extHeader};
 ghost use Rattle.encoder.specs.Make.{Makes};
 ghost use Rattle.encoder.specs.Write.{fileOfPlanes};
@@ -41,7 +41,7 @@ pub fn write_ext_fields(
     ensures { λ r. ⌜ Emits (lentBytes false (kindNumber «ext_type») (now (text .entry)) (flattened (take pairs list))) (written r) (now (out .entry)) (now (out .exit)) ⌝ }
 {
     let n = counted(pairs);
-    ext::write_ext_fields(ext_type, text, &list[..n], out)
+    ext_write::write_ext_fields(ext_type, text, &list[..n], out)
 }
 
 pub fn write_ext_fields_strict(
@@ -54,7 +54,7 @@ pub fn write_ext_fields_strict(
     ensures { λ r. ⌜ Emits (lentBytes true (kindNumber «ext_type») (now (text .entry)) (flattened (take pairs list))) (written r) (now (out .entry)) (now (out .exit)) ⌝ }
 {
     let n = counted(pairs);
-    ext::write_ext_fields_strict(ext_type, text, &list[..n], out)
+    ext_write::write_ext_fields_strict(ext_type, text, &list[..n], out)
 }
 
 pub fn write_header_ext(

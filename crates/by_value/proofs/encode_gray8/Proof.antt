@@ -44,10 +44,10 @@ use Rattle.error.specs.Answer.{written}
 use Rattle.error.specs.declared.Written.{Written}
 use Rattle.error.proofs.Written as Wr
 use Rattle.error.proofs.Written.Laws as Wr′
-use Rattle.ext.specs.Write.{flattened}
-use Rattle.ext.specs.declared.Parameter.{Parameter}
-use Rattle.ext.proofs.Parameter as T
-use Rattle.ext.proofs.Parameter.Laws as T′
+use Rattle.ext_write.specs.Write.{flattened}
+use Rattle.ext_write.specs.declared.Parameter.{Parameter}
+use Rattle.ext_write.proofs.Parameter as T
+use Rattle.ext_write.proofs.Parameter.Laws as T′
 use Rattle.options.specs.declared.EncodeOptions.{EncodeOptions}
 use Rattle.options.proofs.EncodeOptions as O
 use Rattle.options.proofs.EncodeOptions.Laws as O′

@@ -45,10 +45,10 @@ use Rattle.error.specs.Emits.{Emits}
 use Rattle.error.specs.declared.Written.{Written}
 use Rattle.error.proofs.Written as Wr
 use Rattle.error.proofs.Written.Laws as Wr′
-use Rattle.ext.specs.Write.{flattened}
-use Rattle.ext.specs.declared.Parameter.{Parameter}
-use Rattle.ext.proofs.Parameter as T
-use Rattle.ext.proofs.Parameter.Laws as T′
+use Rattle.ext_write.specs.Write.{flattened}
+use Rattle.ext_write.specs.declared.Parameter.{Parameter}
+use Rattle.ext_write.proofs.Parameter as T
+use Rattle.ext_write.proofs.Parameter.Laws as T′
 use Rattle.image.specs.declared.PixelFormat.{PixelFormat}
 use Rattle.image.proofs.PixelFormat as K
 use Rattle.image.proofs.PixelFormat.Laws as K′

@@ -39,10 +39,10 @@ use denote.Triple.Entry.{Args, Vals, onEntry}
 use denote.Triple.Spec.{Back, Meets, tripleOf}
 use denote.Triple.Table.{entered, cited}
 use denote.Triple.Walked.{says}
-use Rattle.ext.specs.Write.{flattened}
-use Rattle.ext.specs.declared.Parameter.{Parameter}
-use Rattle.ext.proofs.Parameter as T
-use Rattle.ext.proofs.Parameter.Laws as T′
+use Rattle.ext_write.specs.Write.{flattened}
+use Rattle.ext_write.specs.declared.Parameter.{Parameter}
+use Rattle.ext_write.proofs.Parameter as T
+use Rattle.ext_write.proofs.Parameter.Laws as T′
 use Rattle.options.specs.declared.EncodeOptions.{EncodeOptions}
 use Rattle.options.proofs.EncodeOptions as O
 use Rattle.options.proofs.EncodeOptions.Laws as O′

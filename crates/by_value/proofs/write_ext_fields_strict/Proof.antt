@@ -1,4 +1,4 @@
--- `by_value::write_ext_fields_strict` meets its contract: a walk of its MIR, by hand. The records that count are lent to `ext::write_ext_fields_strict` for a lifetime that is made for the call (`LentFront.antt`);
+-- `by_value::write_ext_fields_strict` meets its contract: a walk of its MIR, by hand. The records that count are lent to `ext_write::write_ext_fields_strict` for a lifetime that is made for the call (`LentFront.antt`);
 -- the other arguments go on as they came. All that the proof knows of the functions called is that each meets its contract.
 -- Assumes nothing.
 use mathlib.Core.Path.{_≡_, refl}
@@ -47,17 +47,17 @@ use Rattle.error.specs.declared.Written.{Written}
 use Rattle.error.proofs.Written as Wr
 use Rattle.error.proofs.Written.Laws as Wr′
 use Rattle.ext.specs.Kinds.{kindNumber}
-use Rattle.ext.specs.Write.{flattened, lentBytes}
+use Rattle.ext_write.specs.Write.{flattened, lentBytes}
 use Rattle.ext.specs.declared.ExtFieldType.{ExtFieldType}
-use Rattle.ext.specs.declared.Parameter.{Parameter}
+use Rattle.ext_write.specs.declared.Parameter.{Parameter}
 use Rattle.ext.proofs.ExtFieldType as K
 use Rattle.ext.proofs.ExtFieldType.Laws as K′
-use Rattle.ext.proofs.Parameter as T
-use Rattle.ext.proofs.Parameter.Laws as T′
-use Rattle.ext.proofs.write_ext_fields_strict as g
-use Rattle.ext.proofs.write_ext_fields_strict.Met as g-thm
-use Rattle.ext.proofs.write_ext_fields_strict.Symbol as g-def
-use Rattle.ext.proofs.write_ext_fields_strict.Symbol.{name as #g}
+use Rattle.ext_write.proofs.Parameter as T
+use Rattle.ext_write.proofs.Parameter.Laws as T′
+use Rattle.ext_write.proofs.write_ext_fields_strict as g
+use Rattle.ext_write.proofs.write_ext_fields_strict.Met as g-thm
+use Rattle.ext_write.proofs.write_ext_fields_strict.Symbol as g-def
+use Rattle.ext_write.proofs.write_ext_fields_strict.Symbol.{name as #g}
 use Rattle.by_value.proofs.LentFront.{lends-front, front-back}
 use Rattle.by_value.proofs.Records.{R, lowered, list-vals, list-tells, list-typed, counted-long, counted-fits, Counted, counts}
 use Rattle.by_value.proofs.counted.Symbol as counted-def
@@ -185,4 +185,4 @@ write-ext-fields-strict-spec 𝓤 H 𝓜 𝓖 𝓡 =
     entered 𝓤 H (F 𝓤 H (𝓖 .A) (𝓜 .mem) (𝓡 .run)) (tables 𝓤 H 𝓜 𝓡 code.env .C) (tables 𝓤 H 𝓜 𝓡 code.env .Λ) #f code.function (code.unfolded 𝓤 H 𝓜 𝓡)
     (meets 𝓤 H (𝓖 .A) (givenOf 𝓤 H 𝓜 𝓖) (𝓜 .mem) (𝓡 .run) (tablesOf 𝓤 H 𝓜 (tables 𝓤 H 𝓜 𝓡 code.env))
     (cited 𝓤 H (Counted 𝓤 H (𝓖 .A) (𝓜 .mem) (𝓡 .run)) 𝓜 𝓡 code.env #counted counted-def.routine code.calls-by-value·counted (counted-thm.met 𝓤 H 𝓜 𝓖 𝓡))
-    (cited 𝓤 H (G 𝓤 H (𝓖 .A) (𝓜 .mem) (𝓡 .run)) 𝓜 𝓡 code.env #g g-def.routine code.calls-ext·write-ext-fields-strict (g-thm.met 𝓤 H 𝓜 𝓖 𝓡)))
+    (cited 𝓤 H (G 𝓤 H (𝓖 .A) (𝓜 .mem) (𝓡 .run)) 𝓜 𝓡 code.env #g g-def.routine code.calls-ext-write·write-ext-fields-strict (g-thm.met 𝓤 H 𝓜 𝓖 𝓡)))
