@@ -15,6 +15,7 @@ use Rattle.header_reader.specs.Phase.{moved}
 use Rattle.header.specs.declared.HeaderMode.{HeaderMode}
 use Rattle.header.specs.declared.HeaderFields.{HeaderFields}
 use Rattle.header.specs.declared.ParsedHeader.{ParsedHeader}
+use Rattle.header_reader.specs.declared.phase.PartialInteger.{PartialInteger}
 use Rattle.header_reader.specs.declared.phase.Phase.{Phase}
 use Rattle.header_reader.specs.declared.phase.PhaseStep.{PhaseStep}
 use Rattle.header_reader.specs.declared.reader.HeaderReader.{HeaderReader}
@@ -88,32 +89,35 @@ reader p = record { mode = lenient; phase = p }
 abbrev sized : ParsedHeader
 sized = record { width = 9; height = 2; «data_offset» = 4; «fix_header» = 0; «ext_fields» = HeaderFields.Absent }
 
+abbrev begun : ℕ → PartialInteger
+begun at = record { at = at; value = 0; count = 0 }
+
 takes : (p : Phase) (b : ℕ) (x : PhaseStep) → moved x ≡ stepOf (settings lenient) (state p) b → Stepped (reader p) b (asReader lenient x)
 takes p b x e = stepped (reader p) b x x e refl
 
-type : Stepped (reader (Phase.InType 0 0 0)) 0 (HeaderStep.More (reader (Phase.AtFix 1)))
+type : Stepped (reader (Phase.InType (begun 0))) 0 (HeaderStep.More (reader (Phase.AtFix 1)))
 unfolding stepOf readByte
-type = takes (Phase.InType 0 0 0) 0 (PhaseStep.More (Phase.AtFix 1)) refl
+type = takes (Phase.InType (begun 0)) 0 (PhaseStep.More (Phase.AtFix 1)) refl
 
-fix : Stepped (reader (Phase.AtFix 1)) 0 (HeaderStep.More (reader (Phase.InWidth 0 HeaderFields.Absent 2 0 0)))
+fix : Stepped (reader (Phase.AtFix 1)) 0 (HeaderStep.More (reader (Phase.InWidth 0 HeaderFields.Absent (begun 2))))
 unfolding stepOf
-fix = takes (Phase.AtFix 1) 0 (PhaseStep.More (Phase.InWidth 0 HeaderFields.Absent 2 0 0)) refl
+fix = takes (Phase.AtFix 1) 0 (PhaseStep.More (Phase.InWidth 0 HeaderFields.Absent (begun 2))) refl
 
-width : Stepped (reader (Phase.InWidth 0 HeaderFields.Absent 2 0 0)) 9 (HeaderStep.More (reader (Phase.InHeight 0 HeaderFields.Absent 9 3 0 0)))
+width : Stepped (reader (Phase.InWidth 0 HeaderFields.Absent (begun 2))) 9 (HeaderStep.More (reader (Phase.InHeight 0 HeaderFields.Absent 9 (begun 3))))
 unfolding stepOf readByte
-width = takes (Phase.InWidth 0 HeaderFields.Absent 2 0 0) 9 (PhaseStep.More (Phase.InHeight 0 HeaderFields.Absent 9 3 0 0)) refl
+width = takes (Phase.InWidth 0 HeaderFields.Absent (begun 2)) 9 (PhaseStep.More (Phase.InHeight 0 HeaderFields.Absent 9 (begun 3))) refl
 
-height : Stepped (reader (Phase.InHeight 0 HeaderFields.Absent 9 3 0 0)) 2 (HeaderStep.Done sized)
+height : Stepped (reader (Phase.InHeight 0 HeaderFields.Absent 9 (begun 3))) 2 (HeaderStep.Done sized)
 unfolding stepOf readByte
-height = takes (Phase.InHeight 0 HeaderFields.Absent 9 3 0 0) 2 (PhaseStep.Done sized) refl
+height = takes (Phase.InHeight 0 HeaderFields.Absent 9 (begun 3)) 2 (PhaseStep.Done sized) refl
 
-opened : Represents (reader (Phase.InType 0 0 0)) (settings lenient) start
+opened : Represents (reader (Phase.InType (begun 0))) (settings lenient) start
 opened = record { mode-is = refl; phase-is = refl; sound = sound-start }
 
-cut : Run (reader (Phase.InType 0 0 0)) ((0 ∷ []) ∷ [] ∷ (0 ∷ 9 ∷ []) ∷ (2 ∷ []) ∷ []) (gives (parsed sized))
+cut : Run (reader (Phase.InType (begun 0))) ((0 ∷ []) ∷ [] ∷ (0 ∷ 9 ∷ []) ∷ (2 ∷ []) ∷ []) (gives (parsed sized))
 cut = piece (byte type nothing) (piece nothing (piece (byte fix (byte width nothing)) (whole (last height))))
 
-uncut : Run (reader (Phase.InType 0 0 0)) ((0 ∷ 0 ∷ 9 ∷ 2 ∷ []) ∷ []) (gives (parsed sized))
+uncut : Run (reader (Phase.InType (begun 0))) ((0 ∷ 0 ∷ 9 ∷ 2 ∷ []) ∷ []) (gives (parsed sized))
 uncut = whole (byte type (byte fix (byte width (last height))))
 
 card : gives (parsed sized) ≡ map outline (readHeader (settings lenient) (0 ∷ 0 ∷ 9 ∷ 2 ∷ []))

@@ -1,17 +1,19 @@
 -- From what a phase does to what its reader promises.
 use Prim.Native.Nat.{ℕ}
 use mathlib.Core.Path.{_≡_, _∙_, refl, sym, ap, subst, subst⁻¹}
-use mathlib.Core.Bool.{Bool, false}
+use mathlib.Core.Bool.{Bool, true, false}
 use mathlib.Core.List.{[]}
 use native.Mathlib.Omega.{arith}
 use Rattle.error.specs.Answer.{refusal}
 use Rattle.error.specs.declared.WbmpError.{WbmpError}
 use Rattle.laws.proofs.Tests.{zero-one}
 use Rattle.header.specs.Settings.{Settings, settings}
-use Rattle.header_reader.specs.Machine.{State, inType, atFix, inOctets, atOctet, atPair, inIdentifier, inValue, inWidth, inHeight, Step, stepOf, resume}
-use Rattle.header_reader.specs.Represents.{state, Sound, Answers, Stepped, Ended}
+use Rattle.header_reader.specs.Machine.{State, inType, atFix, inOctets, atOctet, atPair, inIdentifier, inValue, inWidth, inHeight, Step, inFields, stepOf, resume}
+use Rattle.header_reader.specs.Represents.{fieldsState, state, Sound, Answers, Stepped, Ended}
+use Rattle.header_reader.specs.Known.{unknown, knownIn}
 use Rattle.header_reader.specs.Phase.{moved, Bounded, Tells}
 use Rattle.header.specs.declared.HeaderMode.{HeaderMode}
+use Rattle.header_reader.specs.declared.phase.FieldsPhase.{FieldsPhase}
 use Rattle.header_reader.specs.declared.phase.PhaseStep.{PhaseStep}
 use Rattle.header_reader.specs.declared.reader.HeaderReader.{HeaderReader}
 use Rattle.header_reader.specs.declared.reader.HeaderStep.{HeaderStep}
@@ -28,6 +30,21 @@ bounded (inIdentifier fix from at pairs begun left size again fault) s = omega a
 bounded (inValue fix from at pairs begun left again fault) s = omega arith
 bounded (inWidth fix f at v n) s = omega arith
 bounded (inHeight fix f w at v n) s = omega arith
+
+-- the phases of the fields
+pub fields-in : (p : FieldsPhase) → true ≡ inFields (fieldsState p)
+fields-in (FieldsPhase.InOctets fix from at) = refl
+fields-in (FieldsPhase.AtOctet fix at) = refl
+fields-in (FieldsPhase.AtPair c) = refl
+fields-in (FieldsPhase.InIdentifier c p size) = refl
+fields-in (FieldsPhase.InValue c p) = refl
+
+pub fields-unknown : (p : FieldsPhase) → unknown ≡ knownIn (fieldsState p)
+fields-unknown (FieldsPhase.InOctets fix from at) = refl
+fields-unknown (FieldsPhase.AtOctet fix at) = refl
+fields-unknown (FieldsPhase.AtPair c) = refl
+fields-unknown (FieldsPhase.InIdentifier c p size) = refl
+fields-unknown (FieldsPhase.InValue c p) = refl
 
 -- a phase's step as the reader's
 abbrev pub asReader : HeaderMode → PhaseStep → HeaderStep

@@ -1,7 +1,7 @@
 -- Bytes of extension fields that are taken at once come to what they come to one by one.
 use Prim.Native.Nat.{ℕ, suc, _+_, _-_, _/_, _%_, _<_, _≤_}
 use mathlib.Core.Path.{_≡_, _∙_, refl, sym, ap, subst, subst⁻¹}
-use mathlib.Core.Bool.{Bool, true, false}
+use mathlib.Core.Bool.{true, false}
 use mathlib.Core.List.{List, [], _∷_, _++_}
 use mathlib.Core.Logic.{_⊎_, inl, inr}
 use native.Mathlib.Numerals.{add-one}
@@ -9,21 +9,20 @@ use native.Mathlib.Omega.{arith}
 use borrow.Author.Tests.{lt-ltb, le-ltb, le-leb, lt-leb, ne-eqb}
 use lib.ListN.{length, take, drop, getD, length-take, length-drop, take-append-drop}
 use lib.Seq.{take-suc, take-add, drop-cons}
-use Rattle.laws.proofs.Tests.{zero-one}
 use Rattle.ext.specs.Bytewise.{identifierFault, valueFault}
 use Rattle.header.specs.Settings.{Settings, settings}
 use Rattle.header_reader.specs.Machine.{State, inOctets, atPair, inIdentifier, inValue, inFields, Step, more, stepOf, steps}
-use Rattle.header_reader.specs.Represents.{state, Represents}
-use Rattle.header_reader.specs.Phase.{Bounded, Tells}
+use Rattle.header_reader.specs.Represents.{fieldsState, state, Represents}
 use Rattle.header_reader.specs.Pieces.{onward}
-use Rattle.header_reader.specs.Run.{fieldsStart, Inside, Ran, Runs, PhaseRuns, OctetsAhead, Continued, PairsAhead}
+use Rattle.header_reader.specs.Run.{fieldsStart, Inside, Ran, Runs, FieldsRuns, OctetsAhead, Continued, PairsAhead}
+use Rattle.header_reader.specs.declared.phase.FieldsPhase.{FieldsPhase}
+use Rattle.header_reader.specs.declared.phase.PairChain.{PairChain}
 use Rattle.header_reader.specs.declared.phase.Phase.{Phase}
 use Rattle.header_reader.specs.declared.run.PairsRun.{PairsRun}
-use Rattle.header_reader.specs.declared.run.PhaseRun.{PhaseRun}
+use Rattle.header_reader.specs.declared.run.FieldsRun.{FieldsRun}
 use Rattle.header_reader.specs.declared.reader.HeaderReader.{HeaderReader}
 use Rattle.header_reader.proofs.Machine.{steps-cons, steps-append}
 use Rattle.header_reader.proofs.Keeps.{SoundStep, sound-steps}
-use Rattle.header_reader.proofs.Represented.{bounded}
 
 -- ---- octets
 
@@ -176,38 +175,45 @@ module _ (most : ℕ) (piece : List ℕ) where
 -- ---- where a reading stands
 
 -- the same under an equation
-pub phased : {p q : Phase} {o : Settings} {piece : List ℕ} {r : PhaseRun} → p ≡ q → PhaseRuns o (state q) piece r → PhaseRuns o (state p) piece r
-phased {o = o} {piece = piece} {r = r} e a = subst⁻¹ (λ (x : Phase). PhaseRuns o (state x) piece r) e a
+pub phased : {p q : FieldsPhase} {o : Settings} {piece : List ℕ} {r : FieldsRun} → p ≡ q → FieldsRuns o (fieldsState q) piece r
+    → FieldsRuns o (fieldsState p) piece r
+phased {o = o} {piece = piece} {r = r} e a = subst⁻¹ (λ (x : FieldsPhase). FieldsRuns o (fieldsState x) piece r) e a
 
-pub stayed : {p : Phase} {piece : List ℕ} {r : PhaseRun} → r ≡ record { taken = 0; phase = p } → (o : Settings) → PhaseRuns o (state p) piece r
+pub stayed : {p : FieldsPhase} {piece : List ℕ} {r : FieldsRun} → r ≡ record { taken = 0; phase = p } → (o : Settings)
+    → FieldsRuns o (fieldsState p) piece r
 unfolding steps
 stayed {p} {piece} e o =
-    subst⁻¹ (λ (x : PhaseRun). PhaseRuns o (state p) piece x) e (record { within = omega arith; reached = refl; inside = inl refl })
+    subst⁻¹ (λ (x : FieldsRun). FieldsRuns o (fieldsState p) piece x) e (record { within = omega arith; reached = refl; inside = inl refl })
 
 pub octets-run : {fix start at most n : ℕ} {piece : List ℕ} → OctetsAhead most piece n → at + most ≤ start + 4096 → (o : Settings)
-    → PhaseRuns o (inOctets fix start at) piece (record { taken = n; phase = Phase.InOctets fix start (at + n) })
+    → FieldsRuns o (inOctets fix start at) piece (record { taken = n; phase = FieldsPhase.InOctets fix start (at + n) })
 octets-run a h o =
     record { within = a .within; reached = a .reached o _ _ _ h; inside = inr (record { here = refl; there = refl; same = refl }) }
 
-pub pairs-run : {fix start at pairs most : ℕ} {piece : List ℕ} {r : PairsRun} → PairsAhead most piece r → at + most ≤ start + 4096
+-- pairs and r of them more
+abbrev pub further : PairChain → PairsRun → PairChain
+further c r = record { fix = c .fix; start = c .start; at = c .at + r .taken; pairs = c .pairs + r .pairs }
+
+pub pairs-run : {c : PairChain} {most : ℕ} {piece : List ℕ} {r : PairsRun} → PairsAhead most piece r → c .at + most ≤ c .start + 4096
     → (o : Settings) → o .classes ≡ false
-    → PhaseRuns o (atPair fix start at pairs) piece (record { taken = r .taken; phase = Phase.AtPair fix start (at + r .taken) (pairs + r .pairs) })
+    → FieldsRuns o (fieldsState (FieldsPhase.AtPair c)) piece (record { taken = r .taken; phase = FieldsPhase.AtPair (further c r) })
 pairs-run a h o off =
     record { within = a .within; reached = a .reached o _ _ _ _ off h; inside = inr (record { here = refl; there = refl; same = refl }) }
 
 -- ---- the reader
 
 module _ (r : HeaderReader) (piece : List ℕ) where
-  pub ran : (x : PhaseRun) → PhaseRuns (settings (r .mode)) (state (r .phase)) piece x
-      → Runs r piece (record { taken = x .taken; reader = record { mode = r .mode; phase = x .phase } })
-  ran x a =
+  pub ran : {p : FieldsPhase} {x : FieldsRun} → r .phase ≡ Phase.InFields p → FieldsRuns (settings (r .mode)) (fieldsState p) piece x
+      → Runs r piece (record { taken = x .taken; reader = record { mode = r .mode; phase = Phase.InFields (x .phase) } })
+  ran {p} {x} e a =
       record {
         within = a .within;
         does = λ o st h.
-            let run : PhaseRuns o st piece x =
-            subst (λ (k : State). PhaseRuns o k piece x) (h .phase-is) (subst (λ (k : Settings). PhaseRuns k (state (r .phase)) piece x) (h .mode-is) a) in
+            let is : fieldsState p ≡ st = sym (ap state e) ∙ h .phase-is in
+            let run : FieldsRuns o st piece x =
+            subst (λ (k : State). FieldsRuns o k piece x) is (subst (λ (k : Settings). FieldsRuns k (fieldsState p) piece x) (h .mode-is) a) in
             record {
-              next = state (x .phase);
+              next = fieldsState (x .phase);
               represents =
                   record {
                     mode-is = h .mode-is;
@@ -215,23 +221,16 @@ module _ (r : HeaderReader) (piece : List ℕ) where
                     sound = subst SoundStep (run .reached) (sound-steps o (take (x .taken) piece) st (h .sound));
                   };
               reached = run .reached;
-              inside = none-or o st x run;
+              inside = none-or o st (run .inside);
             };
       }
     where
-      none-or : (o : Settings) (st : State) (x : PhaseRun) → PhaseRuns o st piece x → (take (x .taken) piece ≡ []) ⊎ Inside st (state (x .phase))
-      none-or o st x a = go (a .inside)
-        where
-          go : (x .taken ≡ 0) ⊎ Inside st (state (x .phase)) → (take (x .taken) piece ≡ []) ⊎ Inside st (state (x .phase))
-          go (inl e) = inl (ap (λ (k : ℕ). take k piece) e)
-          go (inr i) = inr i
+      none-or : (o : Settings) (st : State) → (x .taken ≡ 0) ⊎ Inside st (fieldsState (x .phase))
+          → (take (x .taken) piece ≡ []) ⊎ Inside st (fieldsState (x .phase))
+      none-or o st (inl e) = inl (ap (λ (k : ℕ). take k piece) e)
+      none-or o st (inr i) = inr i
 
-  -- a reader that is out of range stands for nothing
-  pub unmoved : (t : Bool) → Tells (Bounded (state (r .phase))) t → t ≡ false → Runs r piece (record { taken = 0; reader = r })
-  unmoved t w e =
-      record {
-        within = omega arith;
-        does = λ o st h.
-            let q : t ≡ true = w .yes (subst⁻¹ Bounded (h .phase-is) (bounded st (h .sound))) in
-            zero-one (cc);
-      }
+  -- none taken
+  pub unmoved : Runs r piece (record { taken = 0; reader = r })
+  unfolding steps
+  unmoved = record { within = omega arith; does = λ o st h. record { next = st; represents = h; reached = refl; inside = inl refl } }

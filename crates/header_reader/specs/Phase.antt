@@ -7,7 +7,9 @@ use Rattle.error.specs.Choice.{if}
 use Rattle.ext.specs.Kinds.{Span}
 use Rattle.header.specs.Read.{parsed}
 use Rattle.header_reader.specs.Machine.{State, inType, atFix, inOctets, atOctet, atPair, inIdentifier, inValue, inWidth, inHeight, Step, more, done, refused, found, toWidth}
-use Rattle.header_reader.specs.Represents.{state}
+use Rattle.header_reader.specs.Represents.{fieldsState, state}
+use Rattle.header_reader.specs.declared.phase.FieldsPhase.{FieldsPhase}
+use Rattle.header_reader.specs.declared.phase.PairChain.{PairChain}
 use Rattle.header_reader.specs.declared.phase.PhaseStep.{PhaseStep}
 
 abbrev pub moved : PhaseStep → Step
@@ -15,10 +17,12 @@ moved (PhaseStep.More p) = more (state p)
 moved (PhaseStep.Done h) = done (parsed h)
 moved (PhaseStep.Refused e) = refused (e .code) (e .offset)
 
--- what follows a pair whose fault waited, and both sizes
-abbrev pub afterPair : ℕ → ℕ → ℕ → ℕ → Bool → ℕ → Step
-afterPair fix start at pairs again fault =
-    if (eqb fault 0) (if again (more (atPair fix start at pairs)) (toWidth fix (found fix start at pairs) at)) (refused fault at)
+-- what follows the last of the pairs, its fault having waited, and both sizes
+abbrev pub afterPair : PairChain → Bool → ℕ → Step
+afterPair c again fault =
+    if (eqb fault 0)
+    (if again (more (fieldsState (FieldsPhase.AtPair c))) (toWidth (c .fix) (found (c .fix) (c .start) (c .at) (c .pairs)) (c .at)))
+    (refused fault (c .at))
 
 abbrev pub afterSizes : ℕ → Span → ℕ → ℕ → ℕ → Step
 afterSizes fix f width height at =
@@ -31,6 +35,9 @@ IntegerBound at count = (at < 8192) × (count < 8)
 
 abbrev pub FieldsBound : ℕ → ℕ → ℕ → Type 0
 FieldsBound start at pairs = (start ≤ at) × (at < 8192) × (pairs < 8192)
+
+abbrev pub Chained : PairChain → Type 0
+Chained c = FieldsBound (c .start) (c .at) (c .pairs)
 
 abbrev pub Bounded : State → Type 0
 Bounded (inType at v n) = IntegerBound at n

@@ -8,20 +8,25 @@ use Rattle.error.specs.declared.WbmpError.{WbmpError}
 use Rattle.header.specs.Settings.{Settings, settings}
 use Rattle.header.specs.Read.{extSpan, parsed}
 use Rattle.header_reader.specs.Machine.{State, inType, atFix, inOctets, atOctet, atPair, inIdentifier, inValue, inWidth, inHeight, Step, more, done, refused, stepOf, resume}
+use Rattle.header_reader.specs.declared.phase.FieldsPhase.{FieldsPhase}
 use Rattle.header_reader.specs.declared.phase.Phase.{Phase}
 use Rattle.header_reader.specs.declared.reader.HeaderReader.{HeaderReader}
 use Rattle.header_reader.specs.declared.reader.HeaderStep.{HeaderStep}
 
+abbrev pub fieldsState : FieldsPhase → State
+fieldsState (FieldsPhase.InOctets fix start at) = inOctets fix start at
+fieldsState (FieldsPhase.AtOctet fix at) = atOctet fix at
+fieldsState (FieldsPhase.AtPair c) = atPair (c .fix) (c .start) (c .at) (c .pairs)
+fieldsState (FieldsPhase.InIdentifier c p size) =
+    inIdentifier (c .fix) (c .start) (c .at) (c .pairs) (p .begun) (p .left) size (p .more) (p .fault)
+fieldsState (FieldsPhase.InValue c p) = inValue (c .fix) (c .start) (c .at) (c .pairs) (p .begun) (p .left) (p .more) (p .fault)
+
 abbrev pub state : Phase → State
-state (Phase.InType at v n) = inType at v n
+state (Phase.InType i) = inType (i .at) (i .value) (i .count)
 state (Phase.AtFix at) = atFix at
-state (Phase.InOctets fix start at) = inOctets fix start at
-state (Phase.AtOctet fix at) = atOctet fix at
-state (Phase.AtPair fix start at pairs) = atPair fix start at pairs
-state (Phase.InIdentifier fix start at pairs begun left size again fault) = inIdentifier fix start at pairs begun left size again fault
-state (Phase.InValue fix start at pairs begun left again fault) = inValue fix start at pairs begun left again fault
-state (Phase.InWidth fix f at v n) = inWidth fix (extSpan f) at v n
-state (Phase.InHeight fix f w at v n) = inHeight fix (extSpan f) w at v n
+state (Phase.InFields p) = fieldsState p
+state (Phase.InWidth fix f i) = inWidth fix (extSpan f) (i .at) (i .value) (i .count)
+state (Phase.InHeight fix f w i) = inHeight fix (extSpan f) w (i .at) (i .value) (i .count)
 
 -- How far a reading can have come: an integer has at most 7 bytes that are accepted, the FixHeader byte is one, and fields are at most
 -- 4,118 bytes, so the width starts at 4,128 or before and the height 8 bytes later or before. A waiting fault is no end of input.

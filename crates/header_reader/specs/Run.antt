@@ -7,9 +7,9 @@ use mathlib.Core.Logic.{_⊎_}
 use lib.ListN.{length, take}
 use Rattle.header.specs.Settings.{Settings}
 use Rattle.header_reader.specs.Machine.{State, inType, atFix, inOctets, atOctet, atPair, inIdentifier, inValue, inWidth, inHeight, inFields, more, steps}
-use Rattle.header_reader.specs.Represents.{state, Represents}
+use Rattle.header_reader.specs.Represents.{fieldsState, Represents}
 use Rattle.header_reader.specs.declared.run.PairsRun.{PairsRun}
-use Rattle.header_reader.specs.declared.run.PhaseRun.{PhaseRun}
+use Rattle.header_reader.specs.declared.run.FieldsRun.{FieldsRun}
 use Rattle.header_reader.specs.declared.reader.HeaderReader.{HeaderReader}
 use Rattle.header_reader.specs.declared.reader.HeaderRun.{HeaderRun}
 
@@ -43,11 +43,11 @@ pub record Runs (r : HeaderReader) (piece : List ℕ) (x : HeaderRun) : Type 0 w
   pub within : x .taken ≤ length piece
   pub does : (o : Settings) (st : State) → Represents r o st → Ran o st (take (x .taken) piece) (x .reader)
 
--- the same for where a reading stands
-pub record PhaseRuns (o : Settings) (st : State) (piece : List ℕ) (r : PhaseRun) : Type 0 where
+-- the same for where in the fields a reading stands
+pub record FieldsRuns (o : Settings) (st : State) (piece : List ℕ) (r : FieldsRun) : Type 0 where
   pub within : r .taken ≤ length piece
-  pub reached : steps o st (take (r .taken) piece) ≡ more (state (r .phase))
-  pub inside : (r .taken ≡ 0) ⊎ Inside st (state (r .phase))
+  pub reached : steps o st (take (r .taken) piece) ≡ more (fieldsState (r .phase))
+  pub inside : (r .taken ≡ 0) ⊎ Inside st (fieldsState (r .phase))
 
 -- octets behind which others come, from any place that is `most` bytes or more before the ceiling
 pub record OctetsAhead (most : ℕ) (piece : List ℕ) (n : ℕ) : Type 0 where

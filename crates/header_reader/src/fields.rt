@@ -1,28 +1,48 @@
-// The FixHeader byte and the extension fields.
+// One byte more of the FixHeader byte and of the extension fields.
 use crate::faults::identifier_fault;
 use crate::faults::value_fault;
+use crate::phase::FieldsPhase;
+use crate::phase::PairChain;
+use crate::phase::PairPart;
+use crate::phase::PartialInteger;
 use crate::phase::Phase;
 use crate::phase::PhaseStep;
+use crate::phase::refuse;
 use error::EXT_TOO_LONG;
 use error::FIX_HEADER_NOT_ZERO;
 use error::IDENTIFIER_LENGTH;
 use error::VALUE_LENGTH;
-use error::WbmpError;
+use ext::ExtFieldType;
 use ext::ExtFields;
 use ext::FixHeaderField;
 use header::HeaderFields;
 use header::HeaderMode;
 ghost use mathlib.Core.Path.{_≡_};
 ghost use mathlib.Core.Bool.{_&&_};
-ghost use Prim.Native.Nat.{_≤_};
+ghost use Prim.Native.Nat.{ℕ, _≤_};
 ghost use Rattle.error.specs.Choice.{if};
-ghost use Rattle.ext.specs.Kinds.{absent, fieldsFollow};
+ghost use Rattle.ext.specs.Kinds.{absent, fieldsFollow, kindBits, kindNumber};
 ghost use Rattle.header.specs.Settings.{Settings, settings};
-ghost use Rattle.header_reader.specs.Machine.{atFix, inOctets, atOctet, atPair, inIdentifier, inValue, toWidth, toFields, found, stepOf};
-ghost use Rattle.header_reader.specs.Phase.{moved, afterPair, Bounded};
+ghost use Rattle.header.specs.Read.{extSpan};
+ghost use Rattle.header_reader.specs.Machine.{atFix, inOctets, atOctet, toWidth, toFields, found, stepOf};
+ghost use Rattle.header_reader.specs.Represents.{fieldsState};
+ghost use Rattle.header_reader.specs.Phase.{moved, afterPair, Bounded, Chained};
+ghost use Rattle.header_reader.specs.declared.phase.FieldsPhase.{FieldsPhase};
 
 // No octet and no pair starts so many bytes after the first one, or more.
 const CEILING: usize = 4096;
+
+// The width comes next.
+fn to_width(fix: u8, fields: HeaderFields, at: usize) -> PhaseStep
+    ensures { λ r. ⌜ moved r ≡ toWidth fix (extSpan fields) at ⌝ }
+{
+    let integer = PartialInteger::start(at);
+    PhaseStep::More(Phase::InWidth {
+        fix,
+        fields,
+        integer,
+    })
+}
 
 // The width comes next, after fields that stand from `start` to `end`.
 fn after_fields(fix: u8, start: usize, end: usize, pairs: usize) -> PhaseStep
@@ -37,51 +57,40 @@ fn after_fields(fix: u8, start: usize, end: usize, pairs: usize) -> PhaseStep
         len: end - start,
         pairs,
     });
-    PhaseStep::More(Phase::InWidth {
-        fix,
-        fields,
-        at: end,
-        value: 0,
-        count: 0,
-    })
+    to_width(fix, fields, end)
 }
 
 // Fields of the FixHeader byte's kind come next.
-fn to_fields(fix: u8, at: usize) -> PhaseStep
+fn to_fields(fix: u8, ext_type: ExtFieldType, at: usize) -> PhaseStep
+    requires { ⌜ kindNumber «ext_type» ≡ kindBits fix ⌝ }
     ensures { λ r. ⌜ moved r ≡ toFields fix at ⌝ }
 {
-    let kind = fix / 32 % 4;
-    if kind == 0 {
-        return PhaseStep::More(Phase::InOctets { fix, start: at, at });
-    }
-    if kind == 3 {
-        return PhaseStep::More(Phase::AtPair {
+    let phase = match ext_type {
+        ExtFieldType::Bitfield00 => FieldsPhase::InOctets { fix, start: at, at },
+        ExtFieldType::Reserved01 => FieldsPhase::AtOctet { fix, at },
+        ExtFieldType::Reserved10 => FieldsPhase::AtOctet { fix, at },
+        ExtFieldType::ParameterPairs11 => FieldsPhase::AtPair(PairChain {
             fix,
             start: at,
             at,
             pairs: 0,
-        });
-    }
-    PhaseStep::More(Phase::AtOctet { fix, at })
+        }),
+    };
+    PhaseStep::More(Phase::InFields(phase))
 }
 
-// Fields, or without them the width.
+// Fields or, without them, the width.
 fn after_fix(honoured: bool, fix: u8, at: usize) -> PhaseStep
     ensures { λ r. ⌜ moved r ≡ if (honoured && fieldsFollow fix) (toFields fix at) (toWidth fix absent at) ⌝ }
 {
+    let fix_header = FixHeaderField::from_byte(fix);
     if honoured {
-        if 128 <= fix {
-            return to_fields(fix, at);
+        if fix_header.ext_fields_follow {
+            let ext_type = fix_header.ext_type;
+            return to_fields(fix, ext_type, at);
         }
     }
-    let fields = HeaderFields::Absent;
-    PhaseStep::More(Phase::InWidth {
-        fix,
-        fields,
-        at,
-        value: 0,
-        count: 0,
-    })
+    to_width(fix, HeaderFields::Absent, at)
 }
 
 pub(crate) fn at_fix(mode: HeaderMode, at: usize, byte: u8) -> PhaseStep
@@ -90,10 +99,7 @@ pub(crate) fn at_fix(mode: HeaderMode, at: usize, byte: u8) -> PhaseStep
 {
     if mode.fix_zero {
         if 0 < byte {
-            return PhaseStep::Refused(WbmpError {
-                code: FIX_HEADER_NOT_ZERO,
-                offset: at,
-            });
+            return refuse(FIX_HEADER_NOT_ZERO, at);
         }
     }
     after_fix(mode.fields, byte, at + 1)
@@ -104,158 +110,107 @@ pub(crate) fn in_octets(fix: u8, start: usize, at: usize, byte: u8) -> PhaseStep
     ensures { λ r. ⌜ ((o : Settings) → moved r ≡ stepOf o (inOctets fix start at) byte) ⌝ }
 {
     if start + CEILING <= at {
-        return PhaseStep::Refused(WbmpError {
-            code: EXT_TOO_LONG,
-            offset: at,
-        });
+        return refuse(EXT_TOO_LONG, at);
     }
+    let next = at + 1;
     if byte < 128 {
-        return after_fields(fix, start, at + 1, 0);
+        return after_fields(fix, start, next, 0);
     }
-    PhaseStep::More(Phase::InOctets {
+    let phase = FieldsPhase::InOctets {
         fix,
         start,
-        at: at + 1,
-    })
+        at: next,
+    };
+    PhaseStep::More(Phase::InFields(phase))
 }
 
-pub(crate) fn at_octet(fix: u8, at: usize, byte: u8) -> PhaseStep
+pub(crate) fn at_octet(fix: u8, at: usize) -> PhaseStep
     requires { ⌜ Bounded (atOctet fix at) ⌝ }
-    ensures { λ r. ⌜ ((o : Settings) → moved r ≡ stepOf o (atOctet fix at) byte) ⌝ }
+    ensures { λ r. ⌜ ((o : Settings) (byte : ℕ) → moved r ≡ stepOf o (atOctet fix at) byte) ⌝ }
 {
     after_fields(fix, at, at + 1, 0)
 }
 
-pub(crate) fn at_pair(fix: u8, start: usize, at: usize, pairs: usize, byte: u8) -> PhaseStep
-    requires { ⌜ Bounded (atPair fix start at pairs) ⌝ }
-    ensures { λ r. ⌜ ((o : Settings) → moved r ≡ stepOf o (atPair fix start at pairs) byte) ⌝ }
+pub(crate) fn at_pair(chain: PairChain, byte: u8) -> PhaseStep
+    requires { ⌜ Chained chain ⌝ }
+    ensures { λ r. ⌜ ((o : Settings) → moved r ≡ stepOf o (fieldsState (FieldsPhase.AtPair chain)) byte) ⌝ }
 {
-    if start + CEILING <= at {
-        return PhaseStep::Refused(WbmpError {
-            code: EXT_TOO_LONG,
-            offset: at,
-        });
+    if chain.start + CEILING <= chain.at {
+        return refuse(EXT_TOO_LONG, chain.at);
     }
+    let begun = chain.at + 1;
     let left = byte / 16 % 8;
     if left == 0 {
-        return PhaseStep::Refused(WbmpError {
-            code: IDENTIFIER_LENGTH,
-            offset: at + 1,
-        });
+        return refuse(IDENTIFIER_LENGTH, begun);
     }
     let size = byte % 16;
     if size == 0 {
-        return PhaseStep::Refused(WbmpError {
-            code: VALUE_LENGTH,
-            offset: at + 1,
-        });
+        return refuse(VALUE_LENGTH, begun);
     }
-    PhaseStep::More(Phase::InIdentifier {
-        fix,
-        start,
-        at: at + 1,
-        pairs,
-        begun: at + 1,
+    let part = PairPart {
+        begun,
         left,
-        size,
         more: 128 <= byte,
         fault: 0,
-    })
+    };
+    let chain = chain.grown();
+    PhaseStep::More(Phase::InFields(FieldsPhase::InIdentifier { chain, part, size }))
 }
 
 pub(crate) fn in_identifier(
     mode: HeaderMode,
-    fix: u8,
-    start: usize,
-    at: usize,
-    pairs: usize,
-    begun: usize,
-    left: u8,
+    chain: PairChain,
+    part: PairPart,
     size: u8,
-    more: bool,
-    fault: u8,
     byte: u8,
 ) -> PhaseStep
-    requires { ⌜ Bounded (inIdentifier fix start at pairs begun left size more fault) ⌝ }
-    ensures { λ r. ⌜ moved r ≡ stepOf (settings mode) (inIdentifier fix start at pairs begun left size more fault) byte ⌝ }
+    requires { ⌜ Chained chain ⌝ }
+    ensures { λ r. ⌜ moved r ≡ stepOf (settings mode) (fieldsState (FieldsPhase.InIdentifier chain part size)) byte ⌝ }
 {
-    let fault = identifier_fault(mode.classes, fault, byte);
-    if 1 < left {
-        return PhaseStep::More(Phase::InIdentifier {
-            fix,
-            start,
-            at: at + 1,
-            pairs,
-            begun,
-            left: left - 1,
-            size,
-            more,
-            fault,
-        });
+    let fault = identifier_fault(mode.classes, part.fault, byte);
+    let chain = chain.grown();
+    if 1 < part.left {
+        let part = part.shrunk(fault);
+        return PhaseStep::More(Phase::InFields(FieldsPhase::InIdentifier { chain, part, size }));
     }
-    PhaseStep::More(Phase::InValue {
-        fix,
-        start,
-        at: at + 1,
-        pairs,
-        begun: at + 1,
+    let part = PairPart {
+        begun: chain.at,
         left: size,
-        more,
+        more: part.more,
         fault,
-    })
+    };
+    PhaseStep::More(Phase::InFields(FieldsPhase::InValue { chain, part }))
 }
 
-// After a pair: the refusal that waited for its end, one more pair, or the width.
-fn after_pair(fix: u8, start: usize, at: usize, pairs: usize, more: bool, fault: u8) -> PhaseStep
-    requires { ⌜ start ≤ at ⌝ }
-    ensures { λ r. ⌜ moved r ≡ afterPair fix start at pairs more fault ⌝ }
+// After a pair that the chain counts: the refusal that waited for its end, one more pair, or the width.
+fn after_pair(chain: PairChain, more: bool, fault: u8) -> PhaseStep
+    requires { ⌜ chain .start ≤ chain .at ⌝ }
+    ensures { λ r. ⌜ moved r ≡ afterPair chain more fault ⌝ }
 {
     if fault == 0 {
         if more {
-            PhaseStep::More(Phase::AtPair {
-                fix,
-                start,
-                at,
-                pairs,
-            })
-        } else {
-            after_fields(fix, start, at, pairs)
+            return PhaseStep::More(Phase::InFields(FieldsPhase::AtPair(chain)));
         }
-    } else {
-        PhaseStep::Refused(WbmpError {
-            code: fault,
-            offset: at,
-        })
+        return after_fields(chain.fix, chain.start, chain.at, chain.pairs);
     }
+    refuse(fault, chain.at)
 }
 
-pub(crate) fn in_value(
-    mode: HeaderMode,
-    fix: u8,
-    start: usize,
-    at: usize,
-    pairs: usize,
-    begun: usize,
-    left: u8,
-    more: bool,
-    fault: u8,
-    byte: u8,
-) -> PhaseStep
-    requires { ⌜ Bounded (inValue fix start at pairs begun left more fault) ⌝ }
-    ensures { λ r. ⌜ moved r ≡ stepOf (settings mode) (inValue fix start at pairs begun left more fault) byte ⌝ }
+pub(crate) fn in_value(mode: HeaderMode, chain: PairChain, part: PairPart, byte: u8) -> PhaseStep
+    requires { ⌜ Chained chain ⌝ }
+    ensures { λ r. ⌜ moved r ≡ stepOf (settings mode) (fieldsState (FieldsPhase.InValue chain part)) byte ⌝ }
 {
-    let fault = value_fault(mode.classes, fault, byte);
-    if 1 < left {
-        return PhaseStep::More(Phase::InValue {
-            fix,
-            start,
-            at: at + 1,
-            pairs,
-            begun,
-            left: left - 1,
-            more,
-            fault,
-        });
+    let fault = value_fault(mode.classes, part.fault, byte);
+    if 1 < part.left {
+        let chain = chain.grown();
+        let part = part.shrunk(fault);
+        return PhaseStep::More(Phase::InFields(FieldsPhase::InValue { chain, part }));
     }
-    after_pair(fix, start, at + 1, pairs + 1, more, fault)
+    let counted = PairChain {
+        fix: chain.fix,
+        start: chain.start,
+        at: chain.at + 1,
+        pairs: chain.pairs + 1,
+    };
+    after_pair(counted, part.more, fault)
 }

@@ -1,8 +1,9 @@
-// The integers of a header: type, width and height.
+// One byte more of a header's integers: type, width and height.
+use crate::phase::PartialInteger;
 use crate::phase::Phase;
 use crate::phase::PhaseStep;
+use crate::phase::refuse;
 use error::TYPE_UNSUPPORTED;
-use error::WbmpError;
 use error::ZERO_DIMENSION;
 use header::HeaderFields;
 use header::HeaderMode;
@@ -12,27 +13,29 @@ use mbi::mbi_step;
 ghost use mathlib.Core.Path.{_≡_};
 ghost use Rattle.header.specs.Settings.{settings};
 ghost use Rattle.header.specs.Read.{extSpan};
-ghost use Rattle.header_reader.specs.Machine.{inType, inWidth, inHeight, stepOf};
-ghost use Rattle.header_reader.specs.Phase.{moved, afterSizes, Bounded};
+ghost use Rattle.header_reader.specs.Machine.{stepOf};
+ghost use Rattle.header_reader.specs.Represents.{state};
+ghost use Rattle.header_reader.specs.Phase.{moved, afterSizes, IntegerBound};
+ghost use Rattle.header_reader.specs.declared.phase.Phase.{Phase};
 
-pub(crate) fn in_type(mode: HeaderMode, at: usize, value: u32, count: u8, byte: u8) -> PhaseStep
-    requires { ⌜ Bounded (inType at value count) ⌝ }
-    ensures { λ r. ⌜ moved r ≡ stepOf (settings mode) (inType at value count) byte ⌝ }
+pub(crate) fn in_type(mode: HeaderMode, integer: PartialInteger, byte: u8) -> PhaseStep
+    requires { ⌜ IntegerBound (integer .at) (integer .count) ⌝ }
+    ensures { λ r. ⌜ moved r ≡ stepOf (settings mode) (state (Phase.InType integer)) byte ⌝ }
 {
-    match mbi_step(mode.shortest, at, value, count, byte) {
-        MbiStep::Goes(v) => PhaseStep::More(Phase::InType {
-            at: at + 1,
-            value: v,
-            count: count + 1,
-        }),
+    match mbi_step(
+        mode.shortest,
+        integer.at,
+        integer.value,
+        integer.count,
+        byte,
+    ) {
+        MbiStep::Goes(v) => PhaseStep::More(Phase::InType(integer.grown(v))),
         MbiStep::Ends(v) => {
+            let at = integer.at + 1;
             if v == 0 {
-                PhaseStep::More(Phase::AtFix { at: at + 1 })
+                PhaseStep::More(Phase::AtFix { at })
             } else {
-                PhaseStep::Refused(WbmpError {
-                    code: TYPE_UNSUPPORTED,
-                    offset: at + 1,
-                })
+                refuse(TYPE_UNSUPPORTED, at)
             }
         }
         MbiStep::Refused(e) => PhaseStep::Refused(e),
@@ -43,30 +46,36 @@ pub(crate) fn in_width(
     mode: HeaderMode,
     fix: u8,
     fields: HeaderFields,
-    at: usize,
-    value: u32,
-    count: u8,
+    integer: PartialInteger,
     byte: u8,
 ) -> PhaseStep
-    requires { ⌜ Bounded (inWidth fix (extSpan fields) at value count) ⌝ }
-    ensures { λ r. ⌜ moved r ≡ stepOf (settings mode) (inWidth fix (extSpan fields) at value count) byte ⌝ }
+    requires { ⌜ IntegerBound (integer .at) (integer .count) ⌝ }
+    ensures { λ r. ⌜ moved r ≡ stepOf (settings mode) (state (Phase.InWidth fix fields integer)) byte ⌝ }
 {
-    match mbi_step(mode.shortest, at, value, count, byte) {
-        MbiStep::Goes(v) => PhaseStep::More(Phase::InWidth {
-            fix,
-            fields,
-            at: at + 1,
-            value: v,
-            count: count + 1,
-        }),
-        MbiStep::Ends(v) => PhaseStep::More(Phase::InHeight {
-            fix,
-            fields,
-            width: v,
-            at: at + 1,
-            value: 0,
-            count: 0,
-        }),
+    match mbi_step(
+        mode.shortest,
+        integer.at,
+        integer.value,
+        integer.count,
+        byte,
+    ) {
+        MbiStep::Goes(v) => {
+            let integer = integer.grown(v);
+            PhaseStep::More(Phase::InWidth {
+                fix,
+                fields,
+                integer,
+            })
+        }
+        MbiStep::Ends(v) => {
+            let height = PartialInteger::start(integer.at + 1);
+            PhaseStep::More(Phase::InHeight {
+                fix,
+                fields,
+                width: v,
+                integer: height,
+            })
+        }
         MbiStep::Refused(e) => PhaseStep::Refused(e),
     }
 }
@@ -76,16 +85,10 @@ fn sized(fix: u8, fields: HeaderFields, width: u32, height: u32, body: usize) ->
     ensures { λ r. ⌜ moved r ≡ afterSizes fix (extSpan fields) width height body ⌝ }
 {
     if width == 0 {
-        return PhaseStep::Refused(WbmpError {
-            code: ZERO_DIMENSION,
-            offset: body,
-        });
+        return refuse(ZERO_DIMENSION, body);
     }
     if height == 0 {
-        return PhaseStep::Refused(WbmpError {
-            code: ZERO_DIMENSION,
-            offset: body,
-        });
+        return refuse(ZERO_DIMENSION, body);
     }
     PhaseStep::Done(ParsedHeader {
         width,
@@ -101,24 +104,29 @@ pub(crate) fn in_height(
     fix: u8,
     fields: HeaderFields,
     width: u32,
-    at: usize,
-    value: u32,
-    count: u8,
+    integer: PartialInteger,
     byte: u8,
 ) -> PhaseStep
-    requires { ⌜ Bounded (inHeight fix (extSpan fields) width at value count) ⌝ }
-    ensures { λ r. ⌜ moved r ≡ stepOf (settings mode) (inHeight fix (extSpan fields) width at value count) byte ⌝ }
+    requires { ⌜ IntegerBound (integer .at) (integer .count) ⌝ }
+    ensures { λ r. ⌜ moved r ≡ stepOf (settings mode) (state (Phase.InHeight fix fields width integer)) byte ⌝ }
 {
-    match mbi_step(mode.shortest, at, value, count, byte) {
-        MbiStep::Goes(v) => PhaseStep::More(Phase::InHeight {
-            fix,
-            fields,
-            width,
-            at: at + 1,
-            value: v,
-            count: count + 1,
-        }),
-        MbiStep::Ends(v) => sized(fix, fields, width, v, at + 1),
+    match mbi_step(
+        mode.shortest,
+        integer.at,
+        integer.value,
+        integer.count,
+        byte,
+    ) {
+        MbiStep::Goes(v) => {
+            let integer = integer.grown(v);
+            PhaseStep::More(Phase::InHeight {
+                fix,
+                fields,
+                width,
+                integer,
+            })
+        }
+        MbiStep::Ends(v) => sized(fix, fields, width, v, integer.at + 1),
         MbiStep::Refused(e) => PhaseStep::Refused(e),
     }
 }

@@ -7,6 +7,7 @@ mod integers;
 mod phase;
 mod reader;
 mod run;
+mod step;
 
 pub use reader::HeaderReader;
 pub use reader::HeaderRun;

@@ -1,41 +1,47 @@
-// Where a reading of a header stands between two bytes, and what one byte more does.
+// Where a reading of a header stands between two bytes. `at` is how many bytes were taken.
 use crate::FieldsSeen;
-use crate::fields::at_fix;
-use crate::fields::at_octet;
-use crate::fields::at_pair;
-use crate::fields::in_identifier;
-use crate::fields::in_octets;
-use crate::fields::in_value;
-use crate::integers::in_height;
-use crate::integers::in_type;
-use crate::integers::in_width;
 use error::EXT_TRUNCATED;
 use error::FIX_HEADER_MISSING;
 use error::MBI_TRUNCATED;
 use error::PAIR_TRUNCATED;
 use error::WbmpError;
 use header::HeaderFields;
-use header::HeaderMode;
 use header::ParsedHeader;
 ghost use mathlib.Core.Path.{_≡_};
 ghost use mathlib.Core.List.{[]};
+ghost use Prim.Native.Nat.{_+_, _-_, _<_};
 ghost use Rattle.error.specs.Answer.{refusal};
-ghost use Rattle.header.specs.Settings.{Settings, settings};
-ghost use Rattle.header_reader.specs.Machine.{inFields, resume, stepOf};
-ghost use Rattle.header_reader.specs.Represents.{state};
+ghost use Rattle.header.specs.Settings.{Settings};
+ghost use Rattle.header_reader.specs.Machine.{inFields, resume};
+ghost use Rattle.header_reader.specs.Represents.{state, fieldsState};
 ghost use Rattle.header_reader.specs.Known.{knownIn, knownMeaning};
-ghost use Rattle.header_reader.specs.Phase.{moved, IntegerBound, FieldsBound, Bounded, Tells};
+ghost use Rattle.header_reader.specs.Phase.{IntegerBound, FieldsBound, Chained, Bounded, Tells};
 
-// `at` is how many bytes were taken.
-pub enum Phase {
-    InType {
-        at: usize,
-        value: u32,
-        count: u8,
-    },
-    AtFix {
-        at: usize,
-    },
+// An integer so far: the value of its first `count` bytes.
+pub struct PartialInteger {
+    pub at: usize,
+    pub value: u32,
+    pub count: u8,
+}
+
+// Pairs so far: the FixHeader byte before them, where the first one starts, and how many are done.
+pub struct PairChain {
+    pub fix: u8,
+    pub start: usize,
+    pub at: usize,
+    pub pairs: usize,
+}
+
+// A pair's identifier or value: where it begins, how many of its bytes are left, whether one more pair follows, and the class refusal that
+// waits for the pair's end.
+pub struct PairPart {
+    pub begun: usize,
+    pub left: u8,
+    pub more: bool,
+    pub fault: u8,
+}
+
+pub enum FieldsPhase {
     InOctets {
         fix: u8,
         start: usize,
@@ -45,47 +51,34 @@ pub enum Phase {
         fix: u8,
         at: usize,
     },
-    AtPair {
-        fix: u8,
-        start: usize,
-        at: usize,
-        pairs: usize,
-    },
+    AtPair(PairChain),
     InIdentifier {
-        fix: u8,
-        start: usize,
-        at: usize,
-        pairs: usize,
-        begun: usize,
-        left: u8,
+        chain: PairChain,
+        part: PairPart,
         size: u8,
-        more: bool,
-        fault: u8,
     },
     InValue {
-        fix: u8,
-        start: usize,
-        at: usize,
-        pairs: usize,
-        begun: usize,
-        left: u8,
-        more: bool,
-        fault: u8,
+        chain: PairChain,
+        part: PairPart,
     },
+}
+
+pub enum Phase {
+    InType(PartialInteger),
+    AtFix {
+        at: usize,
+    },
+    InFields(FieldsPhase),
     InWidth {
         fix: u8,
         fields: HeaderFields,
-        at: usize,
-        value: u32,
-        count: u8,
+        integer: PartialInteger,
     },
     InHeight {
         fix: u8,
         fields: HeaderFields,
         width: u32,
-        at: usize,
-        value: u32,
-        count: u8,
+        integer: PartialInteger,
     },
 }
 
@@ -96,19 +89,130 @@ pub enum PhaseStep {
     Refused(WbmpError),
 }
 
-fn integer_within(at: usize, count: u8) -> bool
-    ensures { λ r. ⌜ Tells (IntegerBound at count) r ⌝ }
+// No reading comes so far.
+const FAR: usize = 8192;
+
+pub(crate) fn refuse(code: u8, offset: usize) -> PhaseStep
+    ensures { λ r. ⌜ r ≡ PhaseStep.Refused (record { code = code; offset = offset }) ⌝ }
 {
-    if at < 8192 { count < 8 } else { false }
+    PhaseStep::Refused(WbmpError { code, offset })
+}
+
+impl PartialInteger {
+    pub(crate) fn start(at: usize) -> PartialInteger
+        ensures { λ r. ⌜ r ≡ record { at = at; value = 0; count = 0 } ⌝ }
+    {
+        PartialInteger {
+            at,
+            value: 0,
+            count: 0,
+        }
+    }
+
+    // One byte more, which brings it to a value.
+    pub(crate) fn grown(self, value: u32) -> PartialInteger
+        requires { ⌜ IntegerBound (self .at) (self .count) ⌝ }
+        ensures { λ r. ⌜ r ≡ record { at = self .at + 1; value = value; count = self .count + 1 } ⌝ }
+    {
+        PartialInteger {
+            at: self.at + 1,
+            value,
+            count: self.count + 1,
+        }
+    }
+
+    fn within(self) -> bool
+        ensures { λ r. ⌜ Tells (IntegerBound (self .at) (self .count)) r ⌝ }
+    {
+        if self.at < FAR { self.count < 8 } else { false }
+    }
 }
 
 fn fields_within(start: usize, at: usize, pairs: usize) -> bool
     ensures { λ r. ⌜ Tells (FieldsBound start at pairs) r ⌝ }
 {
-    if at < 8192 {
-        if pairs < 8192 { start <= at } else { false }
+    if at < FAR {
+        if pairs < FAR { start <= at } else { false }
     } else {
         false
+    }
+}
+
+impl PairChain {
+    // One byte more.
+    pub(crate) fn grown(self) -> PairChain
+        requires { ⌜ Chained self ⌝ }
+        ensures { λ r. ⌜ r ≡ record { fix = self .fix; start = self .start; at = self .at + 1; pairs = self .pairs } ⌝ }
+    {
+        PairChain {
+            fix: self.fix,
+            start: self.start,
+            at: self.at + 1,
+            pairs: self.pairs,
+        }
+    }
+
+    fn within(self) -> bool
+        ensures { λ r. ⌜ Tells (Chained self) r ⌝ }
+    {
+        fields_within(self.start, self.at, self.pairs)
+    }
+}
+
+impl PairPart {
+    // One byte less is left.
+    pub(crate) fn shrunk(self, fault: u8) -> PairPart
+        requires { ⌜ 0 < self .left ⌝ }
+        ensures { λ r. ⌜ r ≡ record { begun = self .begun; left = self .left - 1; more = self .more; fault = fault } ⌝ }
+    {
+        PairPart {
+            begun: self.begun,
+            left: self.left - 1,
+            more: self.more,
+            fault,
+        }
+    }
+}
+
+impl FieldsPhase {
+    pub(crate) fn within(self) -> bool
+        ensures { λ r. ⌜ Tells (Bounded (fieldsState self)) r ⌝ }
+    {
+        match self {
+            FieldsPhase::InOctets { start, at, .. } => fields_within(start, at, 0),
+            FieldsPhase::AtOctet { at, .. } => at < FAR,
+            FieldsPhase::AtPair(chain) => chain.within(),
+            FieldsPhase::InIdentifier { chain, .. } => chain.within(),
+            FieldsPhase::InValue { chain, .. } => chain.within(),
+        }
+    }
+
+    // The input ends inside the fields.
+    fn ended(self) -> WbmpError
+        ensures { λ r. ⌜ ((o : Settings) → refusal r ≡ resume o (fieldsState self) []) ⌝ }
+    {
+        match self {
+            FieldsPhase::InOctets { at, .. } => WbmpError {
+                code: EXT_TRUNCATED,
+                offset: at,
+            },
+            FieldsPhase::AtOctet { at, .. } => WbmpError {
+                code: EXT_TRUNCATED,
+                offset: at,
+            },
+            FieldsPhase::AtPair(chain) => WbmpError {
+                code: EXT_TRUNCATED,
+                offset: chain.at,
+            },
+            FieldsPhase::InIdentifier { part, .. } => WbmpError {
+                code: PAIR_TRUNCATED,
+                offset: part.begun,
+            },
+            FieldsPhase::InValue { part, .. } => WbmpError {
+                code: PAIR_TRUNCATED,
+                offset: part.begun,
+            },
+        }
     }
 }
 
@@ -118,30 +222,11 @@ impl Phase {
         ensures { λ r. ⌜ Tells (Bounded (state self)) r ⌝ }
     {
         match self {
-            Phase::InType { at, count, .. } => integer_within(at, count),
-            Phase::AtFix { at } => at < 8192,
-            Phase::InOctets { start, at, .. } => fields_within(start, at, 0),
-            Phase::AtOctet { at, .. } => at < 8192,
-            Phase::AtPair {
-                start,
-                at,
-                pairs,
-                ..
-            } => fields_within(start, at, pairs),
-            Phase::InIdentifier {
-                start,
-                at,
-                pairs,
-                ..
-            } => fields_within(start, at, pairs),
-            Phase::InValue {
-                start,
-                at,
-                pairs,
-                ..
-            } => fields_within(start, at, pairs),
-            Phase::InWidth { at, count, .. } => integer_within(at, count),
-            Phase::InHeight { at, count, .. } => integer_within(at, count),
+            Phase::InType(integer) => integer.within(),
+            Phase::AtFix { at } => at < FAR,
+            Phase::InFields(phase) => phase.within(),
+            Phase::InWidth { integer, .. } => integer.within(),
+            Phase::InHeight { integer, .. } => integer.within(),
         }
     }
 
@@ -150,13 +235,9 @@ impl Phase {
         ensures { λ r. ⌜ r ≡ inFields (state self) ⌝ }
     {
         match self {
-            Phase::InType { .. } => false,
+            Phase::InType(_) => false,
             Phase::AtFix { .. } => false,
-            Phase::InOctets { .. } => true,
-            Phase::AtOctet { .. } => true,
-            Phase::AtPair { .. } => true,
-            Phase::InIdentifier { .. } => true,
-            Phase::InValue { .. } => true,
+            Phase::InFields(_) => true,
             Phase::InWidth { .. } => false,
             Phase::InHeight { .. } => false,
         }
@@ -167,13 +248,9 @@ impl Phase {
         ensures { λ r. ⌜ knownMeaning r ≡ knownIn (state self) ⌝ }
     {
         match self {
-            Phase::InType { .. } => FieldsSeen::Unread,
+            Phase::InType(_) => FieldsSeen::Unread,
             Phase::AtFix { .. } => FieldsSeen::Unread,
-            Phase::InOctets { .. } => FieldsSeen::Unread,
-            Phase::AtOctet { .. } => FieldsSeen::Unread,
-            Phase::AtPair { .. } => FieldsSeen::Unread,
-            Phase::InIdentifier { .. } => FieldsSeen::Unread,
-            Phase::InValue { .. } => FieldsSeen::Unread,
+            Phase::InFields(_) => FieldsSeen::Unread,
             Phase::InWidth { fields, .. } => FieldsSeen::Seen(fields),
             Phase::InHeight { fields, .. } => FieldsSeen::Seen(fields),
         }
@@ -184,109 +261,23 @@ impl Phase {
         ensures { λ r. ⌜ ((o : Settings) → refusal r ≡ resume o (state self) []) ⌝ }
     {
         match self {
-            Phase::InType { at, .. } => WbmpError {
+            Phase::InType(integer) => WbmpError {
                 code: MBI_TRUNCATED,
-                offset: at,
+                offset: integer.at,
             },
             Phase::AtFix { at } => WbmpError {
                 code: FIX_HEADER_MISSING,
                 offset: at,
             },
-            Phase::InOctets { at, .. } => WbmpError {
-                code: EXT_TRUNCATED,
-                offset: at,
-            },
-            Phase::AtOctet { at, .. } => WbmpError {
-                code: EXT_TRUNCATED,
-                offset: at,
-            },
-            Phase::AtPair { at, .. } => WbmpError {
-                code: EXT_TRUNCATED,
-                offset: at,
-            },
-            Phase::InIdentifier { begun, .. } => WbmpError {
-                code: PAIR_TRUNCATED,
-                offset: begun,
-            },
-            Phase::InValue { begun, .. } => WbmpError {
-                code: PAIR_TRUNCATED,
-                offset: begun,
-            },
-            Phase::InWidth { at, .. } => WbmpError {
+            Phase::InFields(phase) => phase.ended(),
+            Phase::InWidth { integer, .. } => WbmpError {
                 code: MBI_TRUNCATED,
-                offset: at,
+                offset: integer.at,
             },
-            Phase::InHeight { at, .. } => WbmpError {
+            Phase::InHeight { integer, .. } => WbmpError {
                 code: MBI_TRUNCATED,
-                offset: at,
+                offset: integer.at,
             },
-        }
-    }
-
-    // One byte more.
-    pub(crate) fn step(self, mode: HeaderMode, byte: u8) -> PhaseStep
-        requires { ⌜ Bounded (state self) ⌝ }
-        ensures { λ r. ⌜ moved r ≡ stepOf (settings mode) (state self) byte ⌝ }
-    {
-        match self {
-            Phase::InType { at, value, count } => in_type(mode, at, value, count, byte),
-            Phase::AtFix { at } => at_fix(mode, at, byte),
-            Phase::InOctets { fix, start, at } => in_octets(fix, start, at, byte),
-            Phase::AtOctet { fix, at } => at_octet(fix, at, byte),
-            Phase::AtPair {
-                fix,
-                start,
-                at,
-                pairs,
-            } => at_pair(fix, start, at, pairs, byte),
-            Phase::InIdentifier {
-                fix,
-                start,
-                at,
-                pairs,
-                begun,
-                left,
-                size,
-                more,
-                fault,
-            } => in_identifier(
-                mode,
-                fix,
-                start,
-                at,
-                pairs,
-                begun,
-                left,
-                size,
-                more,
-                fault,
-                byte,
-            ),
-            Phase::InValue {
-                fix,
-                start,
-                at,
-                pairs,
-                begun,
-                left,
-                more,
-                fault,
-            } => in_value(mode, fix, start, at, pairs, begun, left, more, fault, byte),
-            Phase::InWidth {
-                fix,
-                fields,
-                at,
-                value,
-                count,
-            } => in_width(mode, fix, fields, at, value, count, byte),
-            Phase::InHeight {
-                fix,
-                fields,
-                width,
-                at,
-                value,
-                count,
-            } => in_height(mode, fix, fields, width, at, value, count, byte),
         }
     }
 }

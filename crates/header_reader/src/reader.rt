@@ -1,8 +1,10 @@
 // A header reader that takes one byte at a time.
 use crate::FieldsSeen;
+use crate::phase::PartialInteger;
 use crate::phase::Phase;
 use crate::phase::PhaseStep;
-use crate::run::run_phase;
+use crate::run::run_fields;
+use crate::step::step_phase;
 use error::WbmpError;
 use header::HeaderMode;
 use header::ParsedHeader;
@@ -35,11 +37,7 @@ impl HeaderReader {
     pub fn new(mode: HeaderMode) -> HeaderReader
         ensures { λ r. ⌜ Represents r (settings mode) start ⌝ }
     {
-        let phase = Phase::InType {
-            at: 0,
-            value: 0,
-            count: 0,
-        };
+        let phase = Phase::InType(PartialInteger::start(0));
         HeaderReader { mode, phase }
     }
 
@@ -50,7 +48,7 @@ impl HeaderReader {
         let mode = self.mode;
         let phase = self.phase;
         if phase.within() {
-            match phase.step(mode, byte) {
+            match step_phase(phase, mode, byte) {
                 PhaseStep::More(next) => HeaderStep::More(HeaderReader { mode, phase: next }),
                 PhaseStep::Done(header) => HeaderStep::Done(header),
                 PhaseStep::Refused(e) => HeaderStep::Refused(e),
@@ -67,14 +65,17 @@ impl HeaderReader {
     {
         let mode = self.mode;
         let phase = self.phase;
-        if phase.within() {
-            let run = run_phase(phase, mode, piece);
-            let next = run.phase;
-            let reader = HeaderReader { mode, phase: next };
-            return HeaderRun {
-                taken: run.taken,
-                reader,
-            };
+        if let Phase::InFields(fields) = phase {
+            if fields.within() {
+                let run = run_fields(fields, mode, piece);
+                let next = run.phase;
+                let phase = Phase::InFields(next);
+                let reader = HeaderReader { mode, phase };
+                return HeaderRun {
+                    taken: run.taken,
+                    reader,
+                };
+            }
         }
         HeaderRun {
             taken: 0,

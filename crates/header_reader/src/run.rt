@@ -1,23 +1,25 @@
 // Many bytes of extension fields at once.
-use crate::phase::Phase;
+use crate::phase::FieldsPhase;
+use crate::phase::PairChain;
 use header::HeaderMode;
 ghost use mathlib.Core.Path.{_≡_};
 ghost use mathlib.Core.Bool.{false};
 ghost use mathlib.Core.Logic.{_⊎_};
 ghost use Prim.Native.Nat.{_≤_};
 ghost use Rattle.header.specs.Settings.{Settings, settings};
-ghost use Rattle.header_reader.specs.Machine.{inOctets, atPair};
-ghost use Rattle.header_reader.specs.Represents.{state};
-ghost use Rattle.header_reader.specs.Phase.{Bounded};
-ghost use Rattle.header_reader.specs.Run.{OctetsAhead, Continued, PairsAhead, PhaseRuns};
+ghost use Rattle.header_reader.specs.Machine.{inOctets};
+ghost use Rattle.header_reader.specs.Represents.{fieldsState};
+ghost use Rattle.header_reader.specs.Phase.{Bounded, Chained};
+ghost use Rattle.header_reader.specs.Run.{OctetsAhead, Continued, PairsAhead, FieldsRuns};
+ghost use Rattle.header_reader.specs.declared.phase.FieldsPhase.{FieldsPhase};
 
 // No octet and no pair starts so many bytes after the first one, or more.
 const CEILING: usize = 4096;
 
-// How many bytes of a piece are taken, and where the reading stands then.
-pub struct PhaseRun {
+// How many bytes of a piece are taken, and where in the fields the reading stands then.
+pub struct FieldsRun {
     pub taken: usize,
-    pub phase: Phase,
+    pub phase: FieldsPhase,
 }
 
 // How many bytes whole pairs have, and how many pairs they are.
@@ -86,75 +88,63 @@ fn pairs_ahead(most: usize, piece: &[u8]) -> PairsRun
     PairsRun { taken: i, pairs }
 }
 
-fn stay(phase: Phase) -> PhaseRun
+fn stay(phase: FieldsPhase) -> FieldsRun
     ensures { λ r. ⌜ r ≡ record { taken = 0; phase = phase } ⌝ }
 {
-    PhaseRun { taken: 0, phase }
+    FieldsRun { taken: 0, phase }
 }
 
-fn run_octets(fix: u8, start: usize, at: usize, piece: &[u8]) -> PhaseRun
+fn run_octets(fix: u8, start: usize, at: usize, piece: &[u8]) -> FieldsRun
     requires { ⌜ Bounded (inOctets fix start at) ⌝ }
-    ensures { λ r. ⌜ ((o : Settings) → PhaseRuns o (inOctets fix start at) (now (piece .entry)) r) ⌝ }
+    ensures { λ r. ⌜ ((o : Settings) → FieldsRuns o (inOctets fix start at) (now (piece .entry)) r) ⌝ }
 {
     if start + CEILING <= at {
-        return stay(Phase::InOctets { fix, start, at });
+        return stay(FieldsPhase::InOctets { fix, start, at });
     }
     let taken = octets_ahead(start + CEILING - at, piece);
-    let phase = Phase::InOctets {
+    let phase = FieldsPhase::InOctets {
         fix,
         start,
         at: at + taken,
     };
-    PhaseRun { taken, phase }
+    FieldsRun { taken, phase }
 }
 
-fn run_pairs(fix: u8, start: usize, at: usize, pairs: usize, piece: &[u8]) -> PhaseRun
-    requires { ⌜ Bounded (atPair fix start at pairs) ⌝ }
-    ensures { λ r. ⌜ ((o : Settings) → o .classes ≡ false → PhaseRuns o (atPair fix start at pairs) (now (piece .entry)) r) ⌝ }
+fn run_pairs(chain: PairChain, piece: &[u8]) -> FieldsRun
+    requires { ⌜ Chained chain ⌝ }
+    ensures { λ r. ⌜ ((o : Settings) → o .classes ≡ false → FieldsRuns o (fieldsState (FieldsPhase.AtPair chain)) (now (piece .entry)) r) ⌝ }
 {
-    if start + CEILING <= at {
-        return stay(Phase::AtPair {
-            fix,
-            start,
-            at,
-            pairs,
-        });
+    if chain.start + CEILING <= chain.at {
+        return stay(FieldsPhase::AtPair(chain));
     }
-    let run = pairs_ahead(start + CEILING - at, piece);
-    let taken = run.taken;
-    let phase = Phase::AtPair {
-        fix,
-        start,
-        at: at + taken,
-        pairs: pairs + run.pairs,
-    };
-    PhaseRun { taken, phase }
+    let run = pairs_ahead(chain.start + CEILING - chain.at, piece);
+    let phase = FieldsPhase::AtPair(PairChain {
+        fix: chain.fix,
+        start: chain.start,
+        at: chain.at + run.taken,
+        pairs: chain.pairs + run.pairs,
+    });
+    FieldsRun {
+        taken: run.taken,
+        phase,
+    }
 }
 
 // Whole pairs are taken at once where their classes are not tested, and octets up to the last.
-pub(crate) fn run_phase(phase: Phase, mode: HeaderMode, piece: &[u8]) -> PhaseRun
-    requires { ⌜ Bounded (state phase) ⌝ }
-    ensures { λ r. ⌜ PhaseRuns (settings mode) (state phase) (now (piece .entry)) r ⌝ }
+pub(crate) fn run_fields(phase: FieldsPhase, mode: HeaderMode, piece: &[u8]) -> FieldsRun
+    requires { ⌜ Bounded (fieldsState phase) ⌝ }
+    ensures { λ r. ⌜ FieldsRuns (settings mode) (fieldsState phase) (now (piece .entry)) r ⌝ }
 {
     match phase {
-        Phase::InOctets { fix, start, at } => run_octets(fix, start, at, piece),
-        Phase::AtPair {
-            fix,
-            start,
-            at,
-            pairs,
-        } => {
+        FieldsPhase::InOctets { fix, start, at } => run_octets(fix, start, at, piece),
+        FieldsPhase::AtOctet { .. } => stay(phase),
+        FieldsPhase::AtPair(chain) => {
             if mode.classes {
                 return stay(phase);
             }
-            run_pairs(fix, start, at, pairs, piece)
+            run_pairs(chain, piece)
         }
-        Phase::InType { .. } => stay(phase),
-        Phase::AtFix { .. } => stay(phase),
-        Phase::AtOctet { .. } => stay(phase),
-        Phase::InIdentifier { .. } => stay(phase),
-        Phase::InValue { .. } => stay(phase),
-        Phase::InWidth { .. } => stay(phase),
-        Phase::InHeight { .. } => stay(phase),
+        FieldsPhase::InIdentifier { .. } => stay(phase),
+        FieldsPhase::InValue { .. } => stay(phase),
     }
 }

@@ -11,7 +11,7 @@ after-fields-requires c κs = search needs
 
 returns : tie.Need-returns
 unfolding stepOf
-returns c = λ o. c .after-fields .ensures
+returns c = λ o byte. c .after-fields .ensures
 
 pub at-octet-spec : {M : Type 1} → statement M
 at-octet-spec = tie.close (tie.spec add-after-fields after-fields-requires returns)

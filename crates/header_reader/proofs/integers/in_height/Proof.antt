@@ -11,11 +11,8 @@ mbi-step-requires c κs = search needs
 enum-known-v : tie.Need-enum-known-v
 enum-known-v c = search needs
 
-add-t14 : tie.Need-add-t14
-add-t14 c = search needs
-
-add-t15 : tie.Need-add-t15
-add-t15 c = search needs
+grown-requires : tie.Need-grown-requires
+grown-requires c κs = search needs
 
 enum-known-v-2 : tie.Need-enum-known-v-2
 enum-known-v-2 c = search needs
@@ -31,11 +28,11 @@ enum-known-e c = search needs
 
 returns : tie.Need-returns
 unfolding stepOf
-returns c = simp (byte-is (c .before .before .before .mbi-step .ensures) (c .before .v .given .1) (omega arith))
+returns c = simp (byte-is (c .before .before .before .before .mbi-step .ensures) (c .before .before .v .given .1) (omega arith), c .grown .ensures)
 
 returns-2 : tie.Need-returns-2
 unfolding stepOf
-returns-2 c = simp (byte-is (c .before .before .before .before .mbi-step .ensures) (c .before .before .v2 .given .1) (omega arith)) (c .sized .ensures)
+returns-2 c = simp (byte-is (c .before .before .before .before .before .mbi-step .ensures) (c .before .before .before .v2 .given .1) (omega arith)) (c .sized .ensures)
 
 returns-3 : tie.Need-returns-3
 unfolding stepOf
@@ -47,8 +44,7 @@ in-height-spec =
     (tie.spec
     mbi-step-requires
     enum-known-v
-    add-t14
-    add-t15
+    grown-requires
     enum-known-v-2
     add-sized
     sized-requires

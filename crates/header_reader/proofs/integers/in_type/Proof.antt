@@ -12,35 +12,34 @@ mbi-step-requires c κs = search needs
 enum-known-v : tie.Need-enum-known-v
 enum-known-v c = search needs
 
-add-t11 : tie.Need-add-t11
-add-t11 c = search needs
-
-add-t12 : tie.Need-add-t12
-add-t12 c = search needs
+grown-requires : tie.Need-grown-requires
+grown-requires c κs = search needs
 
 enum-known-v-2 : tie.Need-enum-known-v-2
 enum-known-v-2 c = search needs
 
-add-t16 : tie.Need-add-t16
-add-t16 c = search needs
+add-at : tie.Need-add-at
+add-at c = search needs
 
-add-t18 : tie.Need-add-t18
-add-t18 c = search needs
+refuse-requires : tie.Need-refuse-requires
+refuse-requires c κs = search needs
 
 enum-known-e : tie.Need-enum-known-e
 enum-known-e c = search needs
 
 returns : tie.Need-returns
 unfolding stepOf
-returns c = simp (byte-is (c .before .before .before .mbi-step .ensures) (c .before .v .given .1) (omega arith))
+returns c = simp (byte-is (c .before .before .before .before .mbi-step .ensures) (c .before .before .v .given .1) (omega arith), c .grown .ensures)
 
 returns-2 : tie.Need-returns-2
 unfolding stepOf
-returns-2 c = simp (byte-is (c .before .before .before .before .mbi-step .ensures) (c .before .before .v2 .given .1) (omega arith), eq-eqb _ _ (c .if1 .taken))
+returns-2 c = simp (byte-is (c .before .before .before .before .before .mbi-step .ensures) (c .before .before .before .v2 .given .1) (omega arith), eq-eqb _ _ (c .if1 .taken))
 
 returns-3 : tie.Need-returns-3
 unfolding stepOf
-returns-3 c = simp (byte-is (c .before .before .before .before .mbi-step .ensures) (c .before .before .v2 .given .1) (omega arith), ne-eqb _ _ (c .if1 .left))
+returns-3 c =
+    simp
+    (byte-is (c .before .before .before .before .before .before .mbi-step .ensures) (c .before .before .before .before .v2 .given .1) (omega arith), ne-eqb _ _ (c .before .if1 .left), c .refuse .ensures)
 
 returns-4 : tie.Need-returns-4
 unfolding stepOf
@@ -52,11 +51,10 @@ in-type-spec =
     (tie.spec
     mbi-step-requires
     enum-known-v
-    add-t11
-    add-t12
+    grown-requires
     enum-known-v-2
-    add-t16
-    add-t18
+    add-at
+    refuse-requires
     enum-known-e
     returns
     returns-2

@@ -11,28 +11,28 @@ mbi-step-requires c κs = search needs
 enum-known-v : tie.Need-enum-known-v
 enum-known-v c = search needs
 
-add-t13 : tie.Need-add-t13
-add-t13 c = search needs
-
-add-t14 : tie.Need-add-t14
-add-t14 c = search needs
+grown-requires : tie.Need-grown-requires
+grown-requires c κs = search needs
 
 enum-known-v-2 : tie.Need-enum-known-v-2
 enum-known-v-2 c = search needs
 
-add-t16 : tie.Need-add-t16
-add-t16 c = search needs
+add-start : tie.Need-add-start
+add-start c = search needs
+
+start-requires : tie.Need-start-requires
+start-requires c κs = search needs
 
 enum-known-e : tie.Need-enum-known-e
 enum-known-e c = search needs
 
 returns : tie.Need-returns
 unfolding stepOf
-returns c = simp (byte-is (c .before .before .before .mbi-step .ensures) (c .before .v .given .1) (omega arith))
+returns c = simp (byte-is (c .before .before .before .before .mbi-step .ensures) (c .before .before .v .given .1) (omega arith), c .grown .ensures)
 
 returns-2 : tie.Need-returns-2
 unfolding stepOf
-returns-2 c = simp (byte-is (c .before .before .before .mbi-step .ensures) (c .before .v2 .given .1) (omega arith))
+returns-2 c = simp (byte-is (c .before .before .before .before .before .mbi-step .ensures) (c .before .before .before .v2 .given .1) (omega arith), c .start .ensures)
 
 returns-3 : tie.Need-returns-3
 unfolding stepOf
@@ -44,10 +44,10 @@ in-width-spec =
     (tie.spec
     mbi-step-requires
     enum-known-v
-    add-t13
-    add-t14
+    grown-requires
     enum-known-v-2
-    add-t16
+    add-start
+    start-requires
     enum-known-e
     returns
     returns-2

@@ -1,5 +1,5 @@
 use native.Mathlib.Omega.{arith}
-use Rattle.header_reader.specs.declared.phase.Phase.{Phase}
+use Rattle.header_reader.specs.declared.phase.FieldsPhase.{FieldsPhase}
 use Rattle.header_reader.proofs.Running.{stayed, octets-run}
 use borrow.Author.Needs.{needs}
 use Rattle.header_reader.proofs.run.run_octets.Statement.{statement}
@@ -12,7 +12,7 @@ stay-requires : tie.Need-stay-requires
 stay-requires c κs = search needs
 
 returns : tie.Need-returns
-returns c = stayed {p = Phase.InOctets _ _ _} (c .stay .ensures)
+returns c = stayed {p = FieldsPhase.InOctets _ _ _} (c .stay .ensures)
 
 add-octets-ahead : tie.Need-add-octets-ahead
 add-octets-ahead c = search needs

@@ -13,23 +13,14 @@ enum-known-self-2 c = search needs
 enum-known-self-3 : tie.Need-enum-known-self-3
 enum-known-self-3 c = search needs
 
+ended-requires : tie.Need-ended-requires
+ended-requires c κs = search needs
+
 enum-known-self-4 : tie.Need-enum-known-self-4
 enum-known-self-4 c = search needs
 
 enum-known-self-5 : tie.Need-enum-known-self-5
 enum-known-self-5 c = search needs
-
-enum-known-self-6 : tie.Need-enum-known-self-6
-enum-known-self-6 c = search needs
-
-enum-known-self-7 : tie.Need-enum-known-self-7
-enum-known-self-7 c = search needs
-
-enum-known-self-8 : tie.Need-enum-known-self-8
-enum-known-self-8 c = search needs
-
-enum-known-self-9 : tie.Need-enum-known-self-9
-enum-known-self-9 c = search needs
 
 returns : tie.Need-returns
 returns c = λ o. rw (c .before .self .given .1) (sym (end-is o _))
@@ -38,25 +29,13 @@ returns-2 : tie.Need-returns-2
 returns-2 c = λ o. rw (c .before .self2 .given .1) (sym (end-is o _))
 
 returns-3 : tie.Need-returns-3
-returns-3 c = λ o. rw (c .before .self3 .given .1) (sym (end-is o _))
+returns-3 c = λ o. rw (c .before .before .self3 .given .1) (c .ended .ensures o)
 
 returns-4 : tie.Need-returns-4
 returns-4 c = λ o. rw (c .before .self4 .given .1) (sym (end-is o _))
 
 returns-5 : tie.Need-returns-5
 returns-5 c = λ o. rw (c .before .self5 .given .1) (sym (end-is o _))
-
-returns-6 : tie.Need-returns-6
-returns-6 c = λ o. rw (c .before .self6 .given .1) (sym (end-is o _))
-
-returns-7 : tie.Need-returns-7
-returns-7 c = λ o. rw (c .before .self7 .given .1) (sym (end-is o _))
-
-returns-8 : tie.Need-returns-8
-returns-8 c = λ o. rw (c .before .self8 .given .1) (sym (end-is o _))
-
-returns-9 : tie.Need-returns-9
-returns-9 c = λ o. rw (c .before .self9 .given .1) (sym (end-is o _))
 
 pub ended-spec : {M : Type 1} → statement M
 ended-spec =
@@ -65,18 +44,11 @@ ended-spec =
     enum-known-self
     enum-known-self-2
     enum-known-self-3
+    ended-requires
     enum-known-self-4
     enum-known-self-5
-    enum-known-self-6
-    enum-known-self-7
-    enum-known-self-8
-    enum-known-self-9
     returns
     returns-2
     returns-3
     returns-4
-    returns-5
-    returns-6
-    returns-7
-    returns-8
-    returns-9)
+    returns-5)

@@ -1,3 +1,4 @@
+use Rattle.header_reader.proofs.Represented.{fields-unknown}
 use borrow.Author.Needs.{needs}
 use Rattle.header_reader.proofs.phase.Phase.fields.Statement.{statement}
 use Rattle.header_reader.proofs.phase.Phase.fields.Tie as tie
@@ -10,18 +11,6 @@ enum-told-2 c = search needs
 
 enum-told-3 : tie.Need-enum-told-3
 enum-told-3 c = search needs
-
-enum-told-4 : tie.Need-enum-told-4
-enum-told-4 c = search needs
-
-enum-told-5 : tie.Need-enum-told-5
-enum-told-5 c = search needs
-
-enum-told-6 : tie.Need-enum-told-6
-enum-told-6 c = search needs
-
-enum-told-7 : tie.Need-enum-told-7
-enum-told-7 c = search needs
 
 enum-known-self : tie.Need-enum-known-self
 enum-known-self c = search needs
@@ -36,25 +25,13 @@ returns-2 : tie.Need-returns-2
 returns-2 c = search needs
 
 returns-3 : tie.Need-returns-3
-returns-3 c = search needs
+returns-3 c = rw (c .enum-told3 .given .1) (fields-unknown (c .enum-told3 .given .0 .0))
 
 returns-4 : tie.Need-returns-4
-returns-4 c = search needs
+returns-4 c = rw (c .before .self .given .1)
 
 returns-5 : tie.Need-returns-5
-returns-5 c = search needs
-
-returns-6 : tie.Need-returns-6
-returns-6 c = search needs
-
-returns-7 : tie.Need-returns-7
-returns-7 c = search needs
-
-returns-8 : tie.Need-returns-8
-returns-8 c = rw (c .before .self .given .1)
-
-returns-9 : tie.Need-returns-9
-returns-9 c = rw (c .before .self2 .given .1)
+returns-5 c = rw (c .before .self2 .given .1)
 
 pub fields-spec : {M : Type 1} → statement M
 fields-spec =
@@ -63,18 +40,10 @@ fields-spec =
     enum-told
     enum-told-2
     enum-told-3
-    enum-told-4
-    enum-told-5
-    enum-told-6
-    enum-told-7
     enum-known-self
     enum-known-self-2
     returns
     returns-2
     returns-3
     returns-4
-    returns-5
-    returns-6
-    returns-7
-    returns-8
-    returns-9)
+    returns-5)

@@ -6,8 +6,8 @@ use Rattle.header_reader.proofs.phase.Phase.within.Tie as tie
 enum-known-self : tie.Need-enum-known-self
 enum-known-self c = search needs
 
-integer-within-requires : tie.Need-integer-within-requires
-integer-within-requires c κs = search needs
+within-requires : tie.Need-within-requires
+within-requires c κs = search needs
 
 enum-known-self-2 : tie.Need-enum-known-self-2
 enum-known-self-2 c = search needs
@@ -15,95 +15,51 @@ enum-known-self-2 c = search needs
 enum-known-self-3 : tie.Need-enum-known-self-3
 enum-known-self-3 c = search needs
 
-fields-within-requires : tie.Need-fields-within-requires
-fields-within-requires c κs = search needs
+within-requires-2 : tie.Need-within-requires-2
+within-requires-2 c κs = search needs
 
 enum-known-self-4 : tie.Need-enum-known-self-4
 enum-known-self-4 c = search needs
 
+within-requires-3 : tie.Need-within-requires-3
+within-requires-3 c κs = search needs
+
 enum-known-self-5 : tie.Need-enum-known-self-5
 enum-known-self-5 c = search needs
 
-fields-within-requires-2 : tie.Need-fields-within-requires-2
-fields-within-requires-2 c κs = search needs
-
-enum-known-self-6 : tie.Need-enum-known-self-6
-enum-known-self-6 c = search needs
-
-fields-within-requires-3 : tie.Need-fields-within-requires-3
-fields-within-requires-3 c κs = search needs
-
-enum-known-self-7 : tie.Need-enum-known-self-7
-enum-known-self-7 c = search needs
-
-fields-within-requires-4 : tie.Need-fields-within-requires-4
-fields-within-requires-4 c κs = search needs
-
-enum-known-self-8 : tie.Need-enum-known-self-8
-enum-known-self-8 c = search needs
-
-integer-within-requires-2 : tie.Need-integer-within-requires-2
-integer-within-requires-2 c κs = search needs
-
-enum-known-self-9 : tie.Need-enum-known-self-9
-enum-known-self-9 c = search needs
-
-integer-within-requires-3 : tie.Need-integer-within-requires-3
-integer-within-requires-3 c κs = search needs
+within-requires-4 : tie.Need-within-requires-4
+within-requires-4 c κs = search needs
 
 returns : tie.Need-returns
-returns c = rw (c .before .before .self .given .1) (c .integer-within .ensures)
+returns c = rw (c .before .before .self .given .1) (c .within .ensures)
 
 returns-2 : tie.Need-returns-2
 returns-2 c = rw (c .before .self2 .given .1) (record { yes = λ h. lt-ltb _ _ h; holds = λ e. ltb-true _ _ e })
 
 returns-3 : tie.Need-returns-3
-returns-3 c = rw (c .before .before .self3 .given .1) (c .fields-within .ensures)
+returns-3 c = rw (c .before .before .self3 .given .1) (c .within2 .ensures)
 
 returns-4 : tie.Need-returns-4
-returns-4 c = rw (c .before .self4 .given .1) (record { yes = λ h. lt-ltb _ _ h; holds = λ e. ltb-true _ _ e })
+returns-4 c = rw (c .before .before .self4 .given .1) (c .within3 .ensures)
 
 returns-5 : tie.Need-returns-5
-returns-5 c = rw (c .before .before .self5 .given .1) (c .fields-within2 .ensures)
-
-returns-6 : tie.Need-returns-6
-returns-6 c = rw (c .before .before .self6 .given .1) (c .fields-within3 .ensures)
-
-returns-7 : tie.Need-returns-7
-returns-7 c = rw (c .before .before .self7 .given .1) (c .fields-within4 .ensures)
-
-returns-8 : tie.Need-returns-8
-returns-8 c = rw (c .before .before .self8 .given .1) (c .integer-within2 .ensures)
-
-returns-9 : tie.Need-returns-9
-returns-9 c = rw (c .before .before .self9 .given .1) (c .integer-within3 .ensures)
+returns-5 c = rw (c .before .before .self5 .given .1) (c .within4 .ensures)
 
 pub within-spec : {M : Type 1} → statement M
 within-spec =
     tie.close
     (tie.spec
     enum-known-self
-    integer-within-requires
+    within-requires
     enum-known-self-2
     enum-known-self-3
-    fields-within-requires
+    within-requires-2
     enum-known-self-4
+    within-requires-3
     enum-known-self-5
-    fields-within-requires-2
-    enum-known-self-6
-    fields-within-requires-3
-    enum-known-self-7
-    fields-within-requires-4
-    enum-known-self-8
-    integer-within-requires-2
-    enum-known-self-9
-    integer-within-requires-3
+    within-requires-4
     returns
     returns-2
     returns-3
     returns-4
-    returns-5
-    returns-6
-    returns-7
-    returns-8
-    returns-9)
+    returns-5)
