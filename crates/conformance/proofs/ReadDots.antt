@@ -24,7 +24,8 @@ module _ (w h : ℕ) (wide : 0 < w) (high : 0 < h) (wb : w < 4294967296) (hb : h
 
   pub plane-fits : planeBytes w h < 2 ^ 64
   plane-fits =
-      let m : rowBytes w * h ≤ 536870912 * 4294967296 = mul-le-mul {n₁ = rowBytes w} {m₁ = h} {n₂ = 536870912} {m₂ = 4294967296} (omega arith) (omega arith) in
+      let m : rowBytes w * h ≤ 536870912 * 4294967296 =
+      mul-le-mul {n₁ = rowBytes w} {m₁ = h} {n₂ = 536870912} {m₂ = 4294967296} (omega arith) (omega arith) in
       omega arith
 
   pub plane-passes : checkGeometry w h (rowBytes w) (planeBytes w h) ≡ gives tt

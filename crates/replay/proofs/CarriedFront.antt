@@ -16,7 +16,8 @@ use Rattle.quantize.specs.Asked.{carries}
 use Rattle.quantize.specs.Bits.{bit}
 use Rattle.quantize.specs.Diffusion.{toRight, white, residual}
 use Rattle.quantize.specs.Finished.{Setting}
-use Rattle.quantize.specs.Machine.{clamp, Carry, leftOf, overOf, valueOf, diffused, machineDot, next, State, Step, lastOf, byteStep, stepOf, carried}
+use Rattle.quantize.specs.Machine.{clamp, Carry, leftOf, overOf, valueOf, diffused, machineDot, next}
+use Rattle.quantize.specs.Machine.{State, Step, lastOf, byteStep, stepOf, carried}
 use Rattle.quantize.specs.Rule.{Rule, threshold, dither, ordered}
 use Rattle.quantize.proofs.Tracing.{carried-long}
 
