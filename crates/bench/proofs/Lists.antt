@@ -115,7 +115,15 @@ makes-list w h dithered numbers gray work out answers s o old new last work′ o
     let f = subst (λ (t : EncodeOptions). MakingSession.Opens (Making.opening t w h [] []) (length work) o old new) e p in
     let k = making-opened w h (length work) dithered work o old new wide high room f in
     record {
-      does = record { last = last; made = refl; counts = q .counts _ (k .stands); shows = q .does _ k; leaves = q .leaves _ (k .stands) };
+      does = record {
+        last = last;
+        made = refl;
+        counts = q .counts _ (k .stands);
+        shows = q .does _ k;
+        leaves = q .leaves _ (k .stands);
+        first = o .session;
+        keeps = q .keeps _ (k .stands);
+      };
     }
 
 -- ---- whole making

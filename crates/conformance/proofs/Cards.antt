@@ -16,6 +16,8 @@ use Rattle.conformance.specs.Table.{table}
 use Rattle.conformance.specs.Check.{allPass}
 
 pub cards : allPass table ≡ true
-unfolding sniffed sniffBody areClear mbiBytes groups readRest readByte readHeader readFields readPairs readPair convertFormat convertRows convertRow clearPadding
-    part value white residual valueFrom handed rowValue above valueAt number numbers bound dot begunBytes count frame dotOf bitAt byteAt finished upto appended
+unfolding sniffed sniffBody areClear mbiBytes groups readRest readByte readHeader readFields readPairs readPair convertFormat convertRows
+    convertRow clearPadding
+    part value white residual valueFrom handed rowValue above valueAt number numbers bound dot begunBytes count frame dotOf bitAt byteAt
+    finished upto appended
 cards = refl

@@ -1,4 +1,5 @@
--- Examples of the plain machines, which make a card in two calls and read it in three, and of cuts: no session stands here. Lists on the sessions themselves are those of the functions in src/lib.rt.
+-- Examples of the plain machines, which make a card in two calls and read it in three, and of cuts: no session stands here. Lists on the
+-- sessions themselves are those of the functions in src/lib.rt.
 use Prim.Native.Nat.{ℕ}
 use mathlib.Core.Path.{_≡_, refl}
 use mathlib.Core.Bool.{true, false}
@@ -62,7 +63,8 @@ made =
     ∷ []
 
 made-so : Making.replies (Making.opened card) making ≡ made
-unfolding Making.replies Making.outcome Making.taken Making.written upto appended part value white residual valueFrom handed rowValue above valueAt dot begunBytes count frame dotOf bitAt byteAt finished Finished.most Finished.takes
+unfolding Making.replies Making.outcome Making.taken Making.written upto appended part value white residual valueFrom handed rowValue above
+    valueAt dot begunBytes count frame dotOf bitAt byteAt finished Finished.most Finished.takes
 made-so = refl
 
 made-whole : (wasClosed made ≡ true) × (samplesOf making made ≡ 127 ∷ 128 ∷ []) × (MakingTrace.joined made ≡ 0x40 ∷ [])
@@ -93,7 +95,8 @@ read =
     ∷ []
 
 read-so : Reading.replies (Reading.opened lenient) reading ≡ read
-unfolding ceilingOf Reading.replies Reading.outcome Reading.grown Reading.written fieldBytes bodyFrom sequence most readRest readByte readFields readPairs readPair readHeader testBody readImage checkLimits all isAlphaDigit
+unfolding ceilingOf Reading.replies Reading.outcome Reading.grown Reading.written fieldBytes bodyFrom sequence most readRest readByte
+    readFields readPairs readPair readHeader testBody readImage checkLimits all isAlphaDigit
 read-so = refl
 
 read-cut : ReadingTrace.Cut file 0 false reading read (gives (Reading.frames 1))
@@ -126,8 +129,9 @@ refused =
     ∷ []
 
 refused-so : Reading.replies (Reading.opened lenient) trying ≡ refused
-unfolding ceilingOf Reading.replies Reading.outcome Reading.grown Reading.written fieldBytes bodyFrom sequence most readRest readByte readFields readHeader testBody readImage checkLimits
+unfolding ceilingOf Reading.replies Reading.outcome Reading.grown Reading.written fieldBytes bodyFrom sequence most readRest readByte
+    readFields readHeader testBody readImage checkLimits
 refused-so = refl
 
 refused-cut : ReadingTrace.Cut bad 0 false trying refused (refuses 8 4)
-refused-cut = ReadingTrace.part 3 (ReadingTrace.part 1 (ReadingTrace.part 1 (ReadingTrace.part 1 ReadingTrace.refusal)))
+refused-cut = ReadingTrace.part 3 (ReadingTrace.part 1 (ReadingTrace.part 1 (ReadingTrace.part 1 ReadingTrace.afterRefusal)))

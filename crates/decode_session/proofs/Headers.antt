@@ -26,7 +26,8 @@ module _ (o : Settings) where
   done-past [] st h e = zero-one (cc)
   done-past (b ∷ σ) st h e = go (stepOf o st b) (moves-step o st b) (λ s. done-past σ s h) (sym (steps-cons o st b σ) ∙ e)
     where
-      go : (x : Step) → Moves (taken st) x → ((s : State) → steps o s σ ≡ done h → taken s < h .body) → onward o x σ ≡ done h → taken st < h .body
+      go : (x : Step) → Moves (taken st) x → ((s : State) → steps o s σ ≡ done h → taken s < h .body) → onward o x σ ≡ done h
+          → taken st < h .body
       go (more s) m ih q = omega (arith, m, ih s q)
       go (done g) m ih q = let e : g ≡ h = cc in omega (arith, m, ap (λ (g : Outline). g .body) e)
       go (refused code offset) m ih q = zero-one (cc)
@@ -37,7 +38,8 @@ module _ (o : Settings) where
     header-later h e τ = direct o (s ++ τ) ∙ found o start s h (finds o start s h (sym (direct o s) ∙ e)) τ
 
     -- the bytes up to its body have it
-    pub header-cut : (τ : List ℕ) (h : Outline) → map outline (readHeader o (s ++ τ)) ≡ gives h → h .body ≡ length s → map outline (readHeader o s) ≡ gives h
+    pub header-cut : (τ : List ℕ) (h : Outline) → map outline (readHeader o (s ++ τ)) ≡ gives h → h .body ≡ length s
+        → map outline (readHeader o s) ≡ gives h
     header-cut τ h e n =
         direct o s ∙ steps-all o s start ∙ go (steps o start s) refl (sym (steps-law o s τ start) ∙ sym (direct o (s ++ τ)) ∙ e)
       where

@@ -82,7 +82,8 @@ module _ (o : Settings) where
   pub zone-step : (st : State) (b : ℕ) → Sound st → Moved (taken st) (zone st) (stepOf o st b)
   unfolding stepOf
   zone-step (inType at v n) b s =
-      number at before (readByte (o .shortest) at v n b) _ _ (λ w. early) (λ w. pick at before (eqb w 0) _ _ (λ e. early) (λ e. tt)) (λ code place. tt)
+      number at before (readByte (o .shortest) at v n b) _ _ (λ w. early) (λ w. pick at before (eqb w 0) _ _ (λ e. early) (λ e. tt))
+      (λ code place. tt)
   zone-step (atFix at) b s =
       pick at before (o .fixZero && ltb 0 b) _ _ (λ e. tt)
       (λ e. pick at before (o .honoured && fieldsFollow b) _ _

@@ -37,7 +37,8 @@ Ends o bytes piece at r (HeadEnd.Refused e) =
 pub record Heads (r₀ : HeaderReader) (at kept : ℕ) (piece ext : List ℕ) (r : HeadFed) (ext′ : List ℕ) : Type 0 where
   pub within : r .taken ≤ length piece
   pub does : (o : Settings) (bytes : List ℕ) → Reached o bytes r₀ at kept → Ends o bytes piece at r (r .end)
-  pub stores : (o : Settings) (bytes : List ℕ) → Reached o bytes r₀ at kept → ext′ ≡ sets ext kept (drop kept (fieldBytes o (bytes ++ piece)))
+  pub stores : (o : Settings) (bytes : List ℕ) → Reached o bytes r₀ at kept
+      → ext′ ≡ sets ext kept (drop kept (fieldBytes o (bytes ++ piece)))
 
 -- whether a byte at an offset is stored: one of the fields, and before the place of its refusal
 abbrev pub isKept : Bool → ℕ → HeaderStep → Bool

@@ -1,5 +1,5 @@
-// The header's part of a piece: its bytes go to the header's reader, one by one or in runs, and those of extension fields to the lent buffer
-// too.
+// The header's part of a piece: its bytes go to the header's reader, one by one or in runs, and those of extension fields to the lent
+// buffer too.
 use error::WbmpError;
 use header::ParsedHeader;
 use header_reader::HeaderReader;

@@ -1,4 +1,4 @@
 pub mod Limited
-pub mod Settled
+pub mod SettingsSame
 pub mod Ceilings
 pub mod Examples

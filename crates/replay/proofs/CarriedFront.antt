@@ -17,7 +17,9 @@ use Rattle.rules.specs.Carry.{clamp, Carry, leftOf, overOf, valueOf, diffused, 
 use Rattle.rules.specs.Diffusion.{toRight, white, residual}
 use Rattle.rules.specs.Rule.{Rule, threshold, dither, ordered, carries}
 use Rattle.quantize.specs.Finished.{Setting}
+use Rattle.rules.specs.Carry.{clamp, Carry, leftOf, overOf, valueOf, diffused, machineDot, next}
 use Rattle.quantize.specs.Machine.{State, Step, lastOf, byteStep, stepOf, carried}
+use Rattle.rules.specs.Rule.{Rule, threshold, dither, ordered}
 use Rattle.quantize.proofs.Tracing.{carried-long}
 
 -- numbers behind those that are kept

@@ -13,8 +13,9 @@ use lib.Seq.{length-take-le}
 use Rattle.laws.proofs.Tests.{zero-one}
 use Rattle.quantize.specs.Finished.{takes}
 use Rattle.quantize.proofs.Growing.{takes-le, takes-within}
-use Rattle.encode_session.specs.Model.{Opening, settingOf, Model, opened, Call, feed, close, taken, isWhole, Outcome, outcome, finally}
-use Rattle.encode_session.proofs.Answering.{by-feed, by-close}
+use Rattle.encode_session.specs.Model.{Opening, settingOf, Model, opened, Call, feed, close, taken, isWhole, Outcome, outcome}
+use Rattle.encode_session.specs.Model.{finally}
+use Rattle.encode_session.proofs.OutcomeCases.{by-feed, by-close}
 
 -- the opening stays, no sample is past the last frame, and a closed machine has whole frames
 pub record Reached (a : Opening) (m : Model) : Type 0 where
@@ -65,7 +66,8 @@ frames-of w h n area few e =
     let p = ltb-true 0 n (b .0) in
     let q = eqb-true (n % (w * h)) 0 (b .1) in
     let all : n ≡ n / (w * h) * (w * h) = sym (omega (arith, div-add-mod' n (w * h))) in
-    let le : n ≤ w * h * 16 = let u : 16 * h * w ≡ w * h * 16 = mul-comm (16 * h) w ∙ ap (λ (k : ℕ). w * k) (mul-comm 16 h) ∙ sym (mul-assoc w h 16) in omega arith in
+    let le : n ≤ w * h * 16 =
+    let u : 16 * h * w ≡ w * h * 16 = mul-comm (16 * h) w ∙ ap (λ (k : ℕ). w * k) (mul-comm 16 h) ∙ sym (mul-assoc w h 16) in omega arith in
     (some (n / (w * h)) p all, div-le-of-le-mul (w * h) le, all)
   where
     some : (k : ℕ) → 0 < n → n ≡ k * (w * h) → 1 ≤ k

@@ -77,7 +77,8 @@ module _ (a : Opening) (work : ℕ) where
 
   pub passed : (bytes : List ℕ) → header a work ≡ gives bytes → Passed bytes
   unfolding header
-  passed bytes given = go (eqb (a .width) 0) (eqb (a .height) 0) (knownRule (a .options .quantize)) (serves a work) refl refl refl refl given
+  passed bytes given =
+      go (eqb (a .width) 0) (eqb (a .height) 0) (knownRule (a .options .quantize)) (serves a work) refl refl refl refl given
     where
       go : (p q r s : Bool) → eqb (a .width) 0 ≡ p → eqb (a .height) 0 ≡ q → knownRule (a .options .quantize) ≡ r → serves a work ≡ s
           → if (p || q) (refuses 8 0) (if r (if s fields (refuses 28 0)) (refuses 29 0)) ≡ gives bytes → Passed bytes
@@ -86,10 +87,19 @@ module _ (a : Opening) (work : ℕ) where
       go false false false s e1 e2 e3 e4 z = zero-one (cc)
       go false false true false e1 e2 e3 e4 z = zero-one (cc)
       go false false true true e1 e2 e3 e4 z =
-          record { given = given; wide = omega (arith, eqb-false (a .width) 0 e1); high = omega (arith, eqb-false (a .height) 0 e2); known = e3; served = e4; headed = z }
+          record {
+            given = given;
+            wide = omega (arith, eqb-false (a .width) 0 e1);
+            high = omega (arith, eqb-false (a .height) 0 e2);
+            known =
+                e3;
+            served = e4;
+            headed = z;
+          }
 
   -- a refusal by the tests leaves no pairs to put
-  pub left-no : (code : ℕ) → header a work ≡ refuses code 0 → (b : PairsBegun) (out : List ℕ) → (b .to ≡ length out) × (written (b .answer) ≡ refuses code 0)
+  pub left-no : (code : ℕ) → header a work ≡ refuses code 0 → (b : PairsBegun) (out : List ℕ)
+      → (b .to ≡ length out) × (written (b .answer) ≡ refuses code 0)
       → Left (a .options .strict) (a .text) (a .lengths) out b (Emits (header a work) (written (b .answer)) out)
   left-no code e b out f =
       none-left (f .0)
@@ -113,7 +123,11 @@ module _ (a : Opening) (work : ℕ) where
             let k = held (headed-by n old (header a work) (sym e ∙ h .answer)) any in
             record { stands = record { live = l ∙ ap isGiven e; left = none-done; place = λ _. k .stands }; keeps = λ _. k };
         refused = λ code place e any.
-            record { stands = record { live = l ∙ ap isGiven e; left = none-done; place = λ f. zero-one (cc) }; keeps = λ f. zero-one (cc) };
+            record {
+              stands = record { live = l ∙ ap isGiven e; left = none-done; place = λ f. zero-one (cc) };
+              keeps =
+                  λ f. zero-one (cc);
+            };
       }
     where
       none-done : q .place .frames + 0 / (a .width * a .height) ≡ 16
@@ -123,7 +137,8 @@ module _ (a : Opening) (work : ℕ) where
       held b any = let p = passed (b .0) (b .1) in o .holds (p .known) (p .wide) (p .high) any
 
 -- an accepted opening had a header to write
-pub accepted : {a : Opening} {work : ℕ} {r : EncodeOpened} {old new : List ℕ} → Opens a work r old new → (n : ℕ) → written (r .answer) ≡ gives n
+pub accepted : {a : Opening} {work : ℕ} {r : EncodeOpened} {old new : List ℕ} → Opens a work r old new → (n : ℕ)
+    → written (r .answer) ≡ gives n
     → (bytes : List ℕ) × Passed a work bytes
 accepted {a} {work} {r} {old} o n e =
     let b = headed-by n old (header a work) (sym e ∙ o .emits .answer) in

@@ -19,7 +19,7 @@ use Rattle.quantize.specs.Machine.{State, carried}
 use Rattle.quantize.specs.Turn.{stateOf}
 use Rattle.encode_session.specs.Model.{Opening, serves, Model, Call, feed, close, Outcome, taken, fedBy, unaltered, outcome}
 use Rattle.encode_session.specs.Model as Machine
-use Rattle.encode_session.proofs.Answering.{by-feed, by-close}
+use Rattle.encode_session.proofs.OutcomeCases.{by-feed, by-close}
 use Rattle.replay.specs.Encode.{Leaves}
 
 -- lists that are alike from an index on, with the same behind them

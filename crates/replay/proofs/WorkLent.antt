@@ -53,7 +53,11 @@ module _ (q : Quantizer) (s : Setting) (xs : List ℕ) (n : ℕ) (work work′ :
 pub lent-same : (s : EncodeSession) (m : Model) (n : ℕ) (work work′ : List ℤ) → serves (m .opening) n ≡ true → take n work ≡ take n work′
     → Holds s work m → Holds s work′ m
 lent-same s m n work work′ r e h =
-    record { stands = h .stands; keeps = λ l. holds-same (s .quantizer) (settingOf (m .opening)) (m .samples) n work work′ e r (h .keeps l) }
+    record {
+      stands = h .stands;
+      keeps =
+          λ l. holds-same (s .quantizer) (settingOf (m .opening)) (m .samples) n work work′ e r (h .keeps l);
+    }
 
 -- under a rule that keeps carries, a buffer that serves has 2 × width numbers
 pub served-room : (m : Model) (n : ℕ) → serves (m .opening) n ≡ true → carries (settingOf (m .opening) .rule) ≡ true → m .opening .width ≤ n

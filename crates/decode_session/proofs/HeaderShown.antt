@@ -8,7 +8,7 @@ use Rattle.header_reader.specs.declared.FieldsSeen.{FieldsSeen}
 use Rattle.header.specs.declared.ParsedHeader.{ParsedHeader}
 use Rattle.header_reader.specs.declared.reader.HeaderReader.{HeaderReader}
 use Rattle.decoder.specs.Image.{imageSettings, headerOf}
-use Rattle.decode_session.specs.Model.{Met, nothing, refusal}
+use Rattle.decode_session.specs.Model.{Met, nothing, metAt}
 use Rattle.decode_session.specs.Session.{unread, seenOf, Sees}
 use Rattle.decode_session.specs.declared.Stage.{Stage}
 use Rattle.decode_session.specs.declared.DecodeSession.{DecodeSession}
@@ -24,7 +24,8 @@ module _ (s : DecodeSession) where
             λ m st.
             let u = staged m g (st .stage) in
             let e = unread-end (imageSettings (m .options .mode)) (m .bytes) (u .1 .state) (u .1 .reached) in
-            sym (ap (λ (x : Met). seenOf (headerOf (m .options .mode) (m .bytes)) x) (u .0) ∙ ap (λ (a : Answer Outline). seenOf a nothing) e);
+            sym (ap (λ (x : Met). seenOf (headerOf (m .options .mode) (m .bytes)) x) (u .0)
+            ∙ ap (λ (a : Answer Outline). seenOf a nothing) e);
       }
 
   pub sees-it : (p : ParsedHeader) (whole begun : ℕ) → s .stage ≡ Stage.Body p whole begun → Sees s (HeaderSeen.Header p)
@@ -33,7 +34,8 @@ module _ (s : DecodeSession) where
         does =
             λ m st.
             let b = in-body m g (st .stage) in
-            sym (ap (λ (x : Met). seenOf (headerOf (m .options .mode) (m .bytes)) x) (b .nothingMet) ∙ ap (λ (a : Answer Outline). seenOf a nothing) (b .headerIs));
+            sym (ap (λ (x : Met). seenOf (headerOf (m .options .mode) (m .bytes)) x) (b .nothingMet)
+            ∙ ap (λ (a : Answer Outline). seenOf a nothing) (b .headerIs));
       }
 
   pub sees-refused : (e : WbmpError) (f : FieldsSeen) → s .stage ≡ Stage.Refused e f → Sees s HeaderSeen.Unread
@@ -45,6 +47,6 @@ module _ (s : DecodeSession) where
             ∙ hidden (headerOf (m .options .mode) (m .bytes)));
       }
     where
-      hidden : (a : Answer Outline) → seenOf a (refusal (e .code) (e .offset)) ≡ unread
+      hidden : (a : Answer Outline) → seenOf a (metAt (e .code) (e .offset)) ≡ unread
       hidden (gives h) = refl
       hidden (refuses code place) = refl

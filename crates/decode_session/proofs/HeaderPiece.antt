@@ -42,7 +42,8 @@ pub nothing-shown : (m : Model) (s : List ℕ) (r : HeaderReader) (at kept : ℕ
     → sequence (ceilingOf (m .options)) (m .options) s ≡ []
 unfolding sequence
 nothing-shown m s r at kept h =
-    ap (sequenceOf (ceilingOf (m .options)) (m .options .format) s) (unread-end (imageSettings (m .options .mode)) s (h .state) (h .reached))
+    ap (sequenceOf (ceilingOf (m .options)) (m .options .format) s)
+    (unread-end (imageSettings (m .options .mode)) s (h .state) (h .reached))
 
 module _ (o : DecodeOptions) (reader : HeaderReader) (at kept : ℕ) (piece out ext ext′ : List ℕ) (f : HeadFed)
     (heads : Heads reader at kept piece ext f ext′) (long : 4118 ≤ length ext) where
@@ -75,7 +76,8 @@ module _ (o : DecodeOptions) (reader : HeaderReader) (at kept : ℕ) (piece out 
 
       unmet : meets m piece ≡ nothing
       unmet =
-          header-short m piece (endCode (later .state)) (endOffset (later .state)) (unread-end settings file (later .state) (later .reached))
+          header-short m piece (endCode (later .state)) (endOffset (later .state))
+          (unread-end settings file (later .state) (later .reached))
           (end-code (later .state))
 
       all : m .bytes ++ take (length piece) piece ≡ file
@@ -96,7 +98,8 @@ module _ (o : DecodeOptions) (reader : HeaderReader) (at kept : ℕ) (piece out 
       writes-none : written m piece (length out) ≡ []
       unfolding written grown
       writes-none =
-          ap (λ (k : ℕ). drop (length (sequence (ceilingOf (m .options)) (m .options) (m .bytes))) (sequence (ceilingOf (m .options)) (m .options) (m .bytes ++ take k piece))) takes-all
+          ap (λ (k : ℕ). drop (length (sequence (ceilingOf (m .options)) (m .options) (m .bytes)))
+          (sequence (ceilingOf (m .options)) (m .options) (m .bytes ++ take k piece))) takes-all
           ∙ ap (drop (length (sequence (ceilingOf (m .options)) (m .options) (m .bytes)))) none
           ∙ drop-nil (length (sequence (ceilingOf (m .options)) (m .options) (m .bytes)))
 
@@ -114,7 +117,9 @@ module _ (o : DecodeOptions) (reader : HeaderReader) (at kept : ℕ) (piece out 
           (λ (x : Met). Agrees (takenIn o (Stage.Header next now (f .kept)) (f .taken) 0) out ext′ (fedBy m piece out ext x))
           (sym unmet)
           (record {
-            reply = replied (cc) (ap (λ (l : List ℕ). l ++ drop (length l) out) w) (stored-as m ext (grown m piece (length out)) file (ap (fieldBytes settings) grows) ∙ stored-is);
+            reply =
+                replied (cc) (ap (λ (l : List ℕ). l ++ drop (length l) out) w)
+                (stored-as m ext (grown m piece (length out)) file (ap (fieldBytes settings) grows) ∙ stored-is);
             stands =
                 record {
                   tested = st .tested;

@@ -14,7 +14,7 @@ use Rattle.encode_session.specs.declared.EncodeSession.{EncodeSession}
 use Rattle.encode_session.specs.declared.EncodeClosed.{EncodeClosed}
 use Rattle.encode_session.specs.Model.{settingOf, Model, shut, close, Told, isWhole, Outcome, closedBy, unaltered, outcome}
 use Rattle.encode_session.specs.Session.{refusedClosed, Stands, Holds, Closes}
-use Rattle.encode_session.proofs.Answering.{close-shut, close-early, close-whole}
+use Rattle.encode_session.proofs.OutcomeCases.{close-shut, close-early, close-whole}
 
 module _ (s : EncodeSession) where
   -- a call that the machine refuses too
@@ -45,10 +45,13 @@ module _ (s : EncodeSession) where
     closes-whole e =
         record {
           refused = λ code place f. zero-one (cc);
-          counts = λ m t. subst (λ (x : Outcome). (gives Told.closed ≡ x .reply .answer) × Stands closed-session (x .next)) (sym (closed-by m t)) (refl, still m t);
+          counts =
+              λ m t. subst (λ (x : Outcome). (gives Told.closed ≡ x .reply .answer) × Stands closed-session (x .next)) (sym (closed-by m t))
+              (refl, still m t);
           does = λ m work h.
               let t = h .stands in
-              subst (λ (x : Outcome). Holds closed-session work (x .next)) (sym (closed-by m t)) (record { stands = still m t; keeps = λ f. zero-one (cc) });
+              subst (λ (x : Outcome). Holds closed-session work (x .next)) (sym (closed-by m t))
+              (record { stands = still m t; keeps = λ f. zero-one (cc) });
         }
       where
         closed-by : (m : Model) → Stands s m → outcome m close ≡ closedBy m

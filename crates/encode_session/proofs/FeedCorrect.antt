@@ -20,7 +20,7 @@ use Rattle.encode_session.specs.declared.EncodeFed.{EncodeFed}
 use Rattle.encode_session.specs.declared.EncodeFeed.the-variants.{Took}
 use Rattle.encode_session.specs.Model.{settingOf, serves, Model, feed, took, taken, written, Outcome, unaltered, outcome}
 use Rattle.encode_session.specs.Session.{refusedFed, Stands, Holds, Feeds}
-use Rattle.encode_session.proofs.Answering.{feed-shut, feed-short, feed-busy}
+use Rattle.encode_session.proofs.OutcomeCases.{feed-shut, feed-short, feed-busy}
 
 -- the engine tests what the machine does
 pub served-is : (s : EncodeSession) (m : Model) (work : ℕ) (b : Bool) → Stands s m → m .live ≡ true → b ≡ roomFor (s .quantizer) work
@@ -44,7 +44,8 @@ module _ (s : EncodeSession) (xs out : List ℕ) (work : List ℤ) where
       subst (λ (x : EncodeFed). Feeds s xs out work x out work) (sym f)
       (idle-feed 30 (λ m t. feed-shut m xs out (length work) (sym (t .live) ∙ l)))
 
-  pub feeds-short : (r : EncodeFed) → r ≡ refusedFed s 28 → s .live ≡ true → (b : Bool) → b ≡ roomFor (s .quantizer) (length work) → b ≡ false
+  pub feeds-short : (r : EncodeFed) → r ≡ refusedFed s 28 → s .live ≡ true → (b : Bool) → b ≡ roomFor (s .quantizer) (length work)
+      → b ≡ false
       → Feeds s xs out work r out work
   feeds-short r f l b tells e =
       subst (λ (x : EncodeFed). Feeds s xs out work x out work) (sym f)
@@ -53,7 +54,8 @@ module _ (s : EncodeSession) (xs out : List ℕ) (work : List ℤ) where
 
 -- ---- the engine ran
 
-module _ (s : EncodeSession) (xs out : List ℕ) (work : List ℤ) (l : s .live ≡ true) (b : Bool) (tells : b ≡ roomFor (s .quantizer) (length work)) (e : b ≡ true)
+module _ (s : EncodeSession) (xs out : List ℕ) (work : List ℤ) (l : s .live ≡ true) (b : Bool)
+    (tells : b ≡ roomFor (s .quantizer) (length work)) (e : b ≡ true)
     (r : Ran) (out′ : List ℕ) (work′ : List ℤ) (R : Runs (s .quantizer) xs out work r out′ work′) where
   abbrev next : EncodeSession
   next = record { quantizer = r .quantizer; live = true }
@@ -93,7 +95,8 @@ module _ (s : EncodeSession) (xs out : List ℕ) (work : List ℤ) (l : s .live 
 
     stands : Stands next (record { opening = m .opening; live = true; samples = m .samples ++ taken m xs (length out) })
     stands =
-        let a : QStands (r .quantizer) (settingOf (m .opening)) (length (m .samples ++ taken m xs (length out))) = rw joined-long (C .stands) in
+        let a : QStands (r .quantizer) (settingOf (m .opening)) (length (m .samples ++ taken m xs (length out))) =
+        rw joined-long (C .stands) in
         record { live = refl; left = frames-done _ _ _ _ _ (a .at); place = λ _. a }
 
   pub feeds-ran : Feeds s xs out work (record { session = next; answer = Took (r .taken) (r .written) }) out′ work′
@@ -104,7 +107,8 @@ module _ (s : EncodeSession) (xs out : List ℕ) (work : List ℤ) (l : s .live 
             let p : r .taken ≡ n = cc in
             let q : r .written ≡ k = cc in
             subst (λ (i : ℕ). Runs (s .quantizer) xs out work (record { quantizer = r .quantizer; taken = i; written = k }) out′ work′) p
-            (subst (λ (i : ℕ). Runs (s .quantizer) xs out work (record { quantizer = r .quantizer; taken = r .taken; written = i }) out′ work′) q R);
+            (subst (λ (i : ℕ). Runs (s .quantizer) xs out work (record { quantizer = r .quantizer; taken = r .taken; written = i })
+            out′ work′) q R);
         counts = λ m t.
             subst (λ (x : Outcome). (gives (took (r .taken) (r .written)) ≡ x .reply .answer) × Stands next (x .next))
             (sym (feed-busy m xs out (length work) (open-is m t) (served m t)))
@@ -117,7 +121,8 @@ module _ (s : EncodeSession) (xs out : List ℕ) (work : List ℤ) (l : s .live 
             (D .bytes ∙ bytes-are m t, record { stands = stands m t; keeps = λ _. kept m t (D .holds) });
       }
     where
-      told : (m : Model) (t : Stands s m) → gives (took (r .taken) (r .written)) ≡ gives (took (length (taken m xs (length out))) (length (written m xs (length out))))
+      told : (m : Model) (t : Stands s m)
+          → gives (took (r .taken) (r .written)) ≡ gives (took (length (taken m xs (length out))) (length (written m xs (length out))))
       told m t = rw (taken-long m t, written-long m t)
 
       kept : (m : Model) (t : Stands s m) → QHolds (r .quantizer) work′ (settingOf (m .opening)) (m .samples ++ take (r .taken) xs)
@@ -129,5 +134,6 @@ module _ (s : EncodeSession) (xs out : List ℕ) (work : List ℤ) (l : s .live 
           ≡ written m xs (length out) ++ drop (length (written m xs (length out))) out
       bytes-are m t =
           ap (λ (y : List ℕ). newly (settingOf (m .opening)) (m .samples) (m .samples ++ y) ++ drop (r .written) out) (sym (taken-is m t))
-          ∙ ap (λ (k : ℕ). newly (settingOf (m .opening)) (m .samples) (m .samples ++ taken m xs (length out)) ++ drop k out) (sym (written-long m t))
+          ∙ ap (λ (k : ℕ). newly (settingOf (m .opening)) (m .samples) (m .samples ++ taken m xs (length out)) ++ drop k out)
+          (sym (written-long m t))
           ∙ ap (λ (y : List ℕ). y ++ drop (length (written m xs (length out))) out) (sym (written-is m t))

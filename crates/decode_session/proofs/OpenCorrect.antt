@@ -35,13 +35,15 @@ reached-none o r h = record { state = start; represents = h; reached = refl; atI
 pub opening-is : (d : Decoding) (n : ℕ) → opening d n ≡ if (leb 4118 n) (gives tt) (refuses 28 0)
 opening-is d n = ap (λ (a : Answer Decoding). bind a (λ _. if (leb 4118 n) (gives tt) (refuses 28 0))) (passes d)
 
-module _ (o : DecodeOptions) (r : HeaderReader) (n : ℕ) (s : Settings) (p : Represents r s start) (q : s ≡ imageSettings (modeOf (o .mode))) where
+module _ (o : DecodeOptions) (r : HeaderReader) (n : ℕ) (s : Settings) (p : Represents r s start)
+    (q : s ≡ imageSettings (modeOf (o .mode))) where
   -- before the first byte
   begun : StageOf (Stage.Header r 0 0) (opened (decoding o))
   begun = (refl, reached-none (imageSettings (modeOf (o .mode))) r (subst (λ (s : Settings). Represents r s start) q p))
 
   pub opens : 4118 ≤ n
-      → Opens (opening (decoding o) n) (record { session = record { options = o; stage = Stage.Header r 0 0; live = true }; answer = Accepted }) (opened (decoding o))
+      → Opens (opening (decoding o) n)
+      (record { session = record { options = o; stage = Stage.Header r 0 0; live = true }; answer = Accepted }) (opened (decoding o))
   opens h =
       let e = opening-is (decoding o) n ∙ if-true (leb 4118 n) (gives tt) (refuses 28 0) (le-leb 4118 n h) in
       record {
@@ -57,7 +59,9 @@ module _ (o : DecodeOptions) (r : HeaderReader) (n : ℕ) (s : Settings) (p : Re
       }
 
   pub opens-not : n < 4118 → (e : WbmpError) → e ≡ record { code = 28; offset = 0 }
-      → Opens (opening (decoding o) n) (record { session = record { options = o; stage = Stage.Header r 0 0; live = false }; answer = Checked.Refused e }) (opened (decoding o))
+      → Opens (opening (decoding o) n)
+      (record { session = record { options = o; stage = Stage.Header r 0 0; live = false }; answer = Checked.Refused e })
+      (opened (decoding o))
   opens-not h e z =
       let k = opening-is (decoding o) n ∙ if-false (leb 4118 n) (gives tt) (refuses 28 0) (lt-leb 4118 n h) in
       record {

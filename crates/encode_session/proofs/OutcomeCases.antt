@@ -22,7 +22,8 @@ module _ (m : Model) (xs out : List ℕ) (work : ℕ) where
   unfolding outcome
   feed-busy l k = if-true _ _ _ l ∙ if-true _ _ _ k
 
-  pub by-feed : (P : Outcome → Type 0) → P (unaltered m 30 out) → P (unaltered m 28 out) → P (fedBy m xs out) → P (outcome m (feed xs out work))
+  pub by-feed : (P : Outcome → Type 0) → P (unaltered m 30 out) → P (unaltered m 28 out) → P (fedBy m xs out)
+      → P (outcome m (feed xs out work))
   unfolding outcome
   by-feed P p q r = go (m .live) (serves (m .opening) work)
     where
@@ -45,7 +46,8 @@ module _ (m : Model) where
   unfolding outcome
   close-whole l k = if-true _ _ _ l ∙ if-true _ _ _ k
 
-  pub by-close : (P : Outcome → Type 0) → P (unaltered m 30 []) → P (unaltered m 22 []) → (isWhole m ≡ true → P (closedBy m)) → P (outcome m close)
+  pub by-close : (P : Outcome → Type 0) → P (unaltered m 30 []) → P (unaltered m 22 []) → (isWhole m ≡ true → P (closedBy m))
+      → P (outcome m close)
   unfolding outcome
   by-close P p q r = go (m .live) (isWhole m) refl
     where

@@ -9,15 +9,15 @@ use lib.Seq.{take-all, take-at, drop-at, drop-drop}
 use Rattle.replay.specs.declared.call.Named.{Named}
 use Rattle.replay.specs.declared.call.Named.the-variants.{Close, Feed}
 use Rattle.replay.specs.declared.call.Next.{Next}
-use Rattle.replay.specs.Calls.{roomOf, lentOf, named, roomIn, Within, joined, over, Spares, There, Goes, Nexts, replaced}
+use Rattle.replay.specs.Calls.{roomOf, lentOf, named, roomIn, Within, concatMap, over, Spares, There, Goes, Nexts, replaced}
 use Rattle.replay.proofs.Parts.{replaced-behind, replaced-long}
 
 -- ---- lists that grow at their end
 
-pub joined-more : {A : Type 0} (f : A → List ℕ) (xs : List A) (x : A) → joined f (xs ++ (x ∷ [])) ≡ joined f xs ++ f x
-unfolding joined
-joined-more f [] x = append-nil (f x)
-joined-more f (a ∷ xs) x = ap (λ (l : List ℕ). f a ++ l) (joined-more f xs x) ∙ sym (append-assoc (f a) (joined f xs) (f x))
+pub concat-more : {A : Type 0} (f : A → List ℕ) (xs : List A) (x : A) → concatMap f (xs ++ (x ∷ [])) ≡ concatMap f xs ++ f x
+unfolding concatMap
+concat-more f [] x = append-nil (f x)
+concat-more f (a ∷ xs) x = ap (λ (l : List ℕ). f a ++ l) (concat-more f xs x) ∙ sym (append-assoc (f a) (concatMap f xs) (f x))
 
 room-more : (cs : List Named) (c : Named) → roomIn (cs ++ (c ∷ [])) ≡ roomIn cs + roomOf c
 unfolding roomIn

@@ -8,9 +8,9 @@ abbrev pub settings : Bound → Bound → Bound → Bound → Mode → PixelForm
 settings width height pixels bytes m f =
     record { maxWidth = width; maxHeight = height; maxPixels = pixels; maxBytes = bytes; mode = m; format = f }
 
-pub settled : {a a′ b b′ c c′ d d′ : Bound} (m : Mode) (f : PixelFormat) → a ≡ a′ → b ≡ b′ → c ≡ c′ → d ≡ d′
+pub settings-same : {a a′ b b′ c c′ d d′ : Bound} (m : Mode) (f : PixelFormat) → a ≡ a′ → b ≡ b′ → c ≡ c′ → d ≡ d′
     → settings a b c d m f ≡ settings a′ b′ c′ d′ m f
-settled m f p q r t = rw (p, q, r, t)
+settings-same m f p q r t = rw (p, q, r, t)
 
 module _ {o₀ o₁ o₂ o₃ o₄ : Decoding} {a b c d : Bound} where
   pub in-turn : o₀ ≡ defaults → o₁ ≡ withMaxWidth a o₀ → o₂ ≡ withMaxHeight b o₁ → o₃ ≡ withMaxPixels c o₂ → o₄ ≡ withMaxBytes d o₃

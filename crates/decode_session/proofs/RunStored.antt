@@ -40,7 +40,8 @@ pub record KeptSo (ext₀ run : List ℕ) (kept n : ℕ) (ext : List ℕ) (i : �
 pub kept-first : {ext run : List ℕ} {kept : ℕ} → kept + length run ≤ length ext → KeptSo ext run kept (length run) ext 0
 kept-first h = record { size = refl; room = h; within = omega arith; same = refl; stored = refl }
 
-sets-more : (ext run : List ℕ) (kept i : ℕ) → i < length run → set (sets ext kept (take i run)) (kept + i) (getD run i 0) ≡ sets ext kept (take (i + 1) run)
+sets-more : (ext run : List ℕ) (kept i : ℕ) → i < length run
+    → set (sets ext kept (take i run)) (kept + i) (getD run i 0) ≡ sets ext kept (take (i + 1) run)
 sets-more ext run kept i h =
     let n : length (take i run) ≡ i = length-take-le i run (omega arith) in
     ap (λ (k : ℕ). set (sets ext kept (take i run)) (kept + k) (getD run i 0)) (sym n)
@@ -58,7 +59,8 @@ kept-next {ext₀} {run} {kept} {n} {ext} {i} k h =
       stored = ap (λ (l : List ℕ). set l (kept + i) (getD run i 0)) (k .stored) ∙ sets-more ext₀ run kept i (omega (arith, k .size));
     }
 
-pub kept-last : {ext₀ run : List ℕ} {kept n : ℕ} {ext : List ℕ} {i : ℕ} → KeptSo ext₀ run kept n ext i → n ≤ i → KeepsRun kept run ext₀ (kept + n) ext
+pub kept-last : {ext₀ run : List ℕ} {kept n : ℕ} {ext : List ℕ} {i : ℕ} → KeptSo ext₀ run kept n ext i → n ≤ i
+    → KeepsRun kept run ext₀ (kept + n) ext
 kept-last {ext₀} {run} {kept} {n} {ext} {i} k h =
     let e : ext ≡ sets ext₀ kept run = k .stored ∙ ap (sets ext₀ kept) (take-all i run (omega (arith, k .size))) in
     record {
@@ -94,7 +96,8 @@ pub runs-on : (r₀ : HeaderReader) (kept i : ℕ) (piece ext : List ℕ) (x : H
     → Runs r₀ (take (length piece - i) (drop i piece)) x → KeepsRun kept (take (i + x .taken - i) (drop i piece)) ext count ext′
     → RunsOn r₀ kept i piece ext (record { taken = i + x .taken; kept = count; reader = x .reader }) ext′
 runs-on r₀ kept i piece ext x count ext′ h a k =
-    let rest : take (length piece - i) (drop i piece) ≡ drop i piece = take-all (length piece - i) (drop i piece) (rw length-drop (omega arith)) in
+    let rest : take (length piece - i) (drop i piece) ≡ drop i piece =
+    take-all (length piece - i) (drop i piece) (rw length-drop (omega arith)) in
     let b = subst (λ (l : List ℕ). Runs r₀ l x) rest a in
     let n : i + x .taken - i ≡ x .taken = omega arith in
     record {
@@ -122,7 +125,8 @@ module _ (o : Settings) (σ ρ : List ℕ) (st next : State) (e : steps o start 
       rw (from-there, length-drop (fieldsStart st) (σ ++ ρ))
       (omega (arith, in-bounds next (i .there) later .1, taken-so o (σ ++ ρ) next f, i .same))
 
-module _ (o : Settings) (bytes piece ext₀ : List ℕ) (at kept i : ℕ) (r : HeaderReader) (count : ℕ) (ext : List ℕ) (h : HeadRun) (ext′ : List ℕ)
+module _ (o : Settings) (bytes piece ext₀ : List ℕ) (at kept i : ℕ) (r : HeaderReader) (count : ℕ) (ext : List ℕ) (h : HeadRun)
+    (ext′ : List ℕ)
     (g : Going o bytes piece ext₀ at kept i r count ext) (a : RunsOn r count i piece ext h ext′) (big : 4118 ≤ length ext) where
   abbrev σ : List ℕ
   σ = bytes ++ take i piece
@@ -158,8 +162,12 @@ module _ (o : Settings) (bytes piece ext₀ : List ℕ) (at kept i : ℕ) (r : H
         (omega (arith, k .0), k .1 ∙ ap (sets ext count) (sym e)),
       )
   stores (inr n) =
-      let b = inside-bytes o σ ρ (g .reached .state) (ran .next) (g .reached .reached) there (g .reached .represents .sound) (ran .represents .sound) n in
-      let m = inside-room o σ ρ (g .reached .state) (ran .next) (g .reached .reached) there (g .reached .represents .sound) (ran .represents .sound) n in
+      let b =
+      inside-bytes o σ ρ (g .reached .state) (ran .next) (g .reached .reached) there (g .reached .represents .sound)
+      (ran .represents .sound) n in
+      let m =
+      inside-room o σ ρ (g .reached .state) (ran .next) (g .reached .reached) there (g .reached .represents .sound) (ran .represents .sound)
+      n in
       let s : length (fieldBytes o (σ ++ ρ)) ≡ length (fieldBytes o σ) + length ρ = ap length b ∙ length-append (fieldBytes o σ) ρ in
       (b, a .keeps .stored (omega (arith, g .reached .keptIs)))
 
