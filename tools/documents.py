@@ -1,6 +1,7 @@
 #!/usr/bin/env python3
 """Checks that what README.md and docs/*.md name is there: paths, definitions and theorems (crate/File.name), edits,
-groups of vectors, functions; and that README.md's graph of crates and table of definitions are the present ones.
+groups of vectors, functions; that the numbers of refusals in include/wbmp.h and docs/REFUSALS.md are those of crate
+error; and that README.md's graph of crates and table of definitions are the present ones.
 
 Usage: tools/documents.py [--write]      --write puts the present graph and table into README.md
 """
@@ -28,7 +29,8 @@ LISTED = [line.split(":") for line in read("crates.txt").splitlines() if ":" in 
 CRATES = [name for name, _ in LISTED]
 GROUPS = [line.rsplit(" ", 1)[0] for line in read("crates/vectors/stdout").splitlines()]
 CODE = "\n".join(read(p) for p in glob.glob("crates/*/src/**/*.rt", recursive=True))
-MODULE = re.compile(r"(?<![\w/·])(%s)/(?:(?:specs|proofs)/(?:Internal/)?)?([A-Z]\w*)(?:\.(?!antt\b)([A-Za-z][\w-]*′?))?" % "|".join(CRATES))
+MODULE = re.compile(
+    r"(?<![\w/·])(%s)/(?:(?:specs|proofs)/(?:Internal/)?)?([A-Z]\w*)(?:\.(?!antt\b)([A-Za-z][\w-]*′?))?" % "|".join(CRATES))
 PATH = re.compile(r"(?<![\w/.-])((?:crates|tools|docs|examples|include|\.ci)/[\w./*-]*[\w*])")
 
 
@@ -45,7 +47,7 @@ def defines(text, name):
 def declared(name):
     """Whether the code has a crate, function, type, constant or case of this name, or a method Type::name."""
     last = name.split("::")[-1]
-    return last in CRATES or re.search(r"\b(?:fn|struct|enum|const|mod) %s\b" % last, CODE) or re.search(r"^    %s(?:\(|,| \{)" % last, CODE, re.M)
+    return last in CRATES or re.search(r"\b(?:fn|struct|enum|const|mod) %s\b|^    %s(?:\(|,| \{)" % (last, last), CODE, re.M)
 
 
 def check_text(place, text):
@@ -114,6 +116,18 @@ def check_rows(path):
             check_tests(place, cells[-1])
 
 
+def check_numbers():
+    """The numbers of refusals, by their constants."""
+    numbers = dict(re.findall(r"pub const (\w+): u8 = (\d+);", read("crates/error/src/lib.rt")))
+    for name, number in re.findall(r"#define WBMP_(\w+) (\d+) +/\*", read("include/wbmp.h")):
+        if numbers.get(name) != number:
+            tell("include/wbmp.h", f"{name} is not {number}")
+    rows = re.findall(r"^\| ([\d, ]+) \| ([`\w, ]+) \|", read("docs/REFUSALS.md"), re.M)
+    told = {n.strip("` "): k.strip() for ks, ns in rows for k, n in zip(ks.split(","), ns.split(","))}
+    if told != numbers:
+        tell("docs/REFUSALS.md", f"other numbers than in crate error: {sorted(set(told.items()) ^ set(numbers.items()))}")
+
+
 def definitions():
     """The table of README.md: the modules of specs/ in the order of crates.txt and specs/Lib.antt, with their lines."""
     rows, files, lines = [], 0, 0
@@ -154,5 +168,6 @@ elif present(readme) != readme:
 for document in ["README.md"] + sorted(glob.glob("docs/**/*.md", recursive=True)):
     check_text(document, read(document))
 check_rows("docs/TRACEABILITY.md")
+check_numbers()
 print(f"{wrong} wrong")
 sys.exit(wrong > 0)
