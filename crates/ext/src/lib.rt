@@ -28,6 +28,9 @@ pub use write::put_lengths;
 pub use write::write_ext_fields_lengths;
 pub use write::write_ext_fields_lengths_strict;
 
+// An octet or a pair starts less than this far from the first one.
+pub const MAX_EXT_LEN: usize = 4096;
+
 // The kind of the fields: bits 6-5 of the FixHeader byte.
 pub enum ExtFieldType {
     Bitfield00,

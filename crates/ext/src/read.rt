@@ -3,6 +3,7 @@ use crate::ExtFieldType;
 use crate::ExtFields;
 use crate::ExtRead;
 use crate::FixHeaderField;
+use crate::MAX_EXT_LEN;
 use crate::PairRead;
 use crate::class::identifier_in_class;
 use crate::class::value_in_class;
@@ -15,9 +16,6 @@ ghost use Rattle.error.specs.Answer.{gives, refuses, map};
 ghost use Rattle.ext.specs.Kinds.{kindNumber, span, spanOf, meaning};
 ghost use Rattle.ext.specs.Read.{readPair, readFields};
 ghost use Rattle.ext.specs.Pairwise.{pairMeaning, pairStep};
-
-// An octet or a pair starts less than this far from the first one.
-pub const MAX_EXT_FIELD_BYTES: usize = 4096;
 
 fn refused(code: u8, offset: usize) -> ExtRead
     ensures { λ r. ⌜ meaning r ≡ refuses code offset ⌝ }
@@ -85,7 +83,7 @@ fn parse_parameter_pairs(bytes: &[u8], offset: usize, strict: bool) -> ExtRead
     let mut at = offset;
     let mut pairs: usize = 0;
     while at < bytes.len() {
-        if MAX_EXT_FIELD_BYTES <= at - offset {
+        if MAX_EXT_LEN <= at - offset {
             return refused(error::EXT_TOO_LONG, at);
         }
         match parse_pair(bytes, at, strict) {
@@ -111,7 +109,7 @@ fn parse_bitfield00(bytes: &[u8], offset: usize) -> ExtRead
 {
     let mut at = offset;
     while at < bytes.len() {
-        if MAX_EXT_FIELD_BYTES <= at - offset {
+        if MAX_EXT_LEN <= at - offset {
             return refused(error::EXT_TOO_LONG, at);
         }
         if bytes[at] < 128 {
