@@ -9,6 +9,7 @@ use lib.Dec.{ltb, leb, eqb}
 use Rattle.error.specs.Choice.{if}
 use Rattle.error.specs.Answer.{isEnd}
 use Rattle.mbi.specs.Read.{ByteRead, goes, ends, wrong, readByte}
+use Rattle.mbi.proofs.Step.{known}
 use Rattle.ext.specs.Classes.{isChar, isAlphaDigit}
 use Rattle.ext.specs.Kinds.{fieldsFollow, kindBits}
 use Rattle.ext.specs.Bytewise.{identifierFault, valueFault}
@@ -16,7 +17,6 @@ use Rattle.header.specs.Settings.{Settings}
 use Rattle.header_reader.specs.Machine.{State, inType, atFix, inOctets, atOctet, atPair, inIdentifier, inValue, inWidth, inHeight, start, Step, more, done, refused, onByte, stepOf, steps}
 use Rattle.header_reader.specs.Represents.{Sound}
 use Rattle.header_reader.specs.Pieces.{onward}
-use Rattle.header_reader.proofs.IntegerByte.{goes-below, wrong-code}
 use Rattle.header_reader.proofs.Machine.{steps-cons}
 
 -- a fault that waits is 14 or 15
@@ -50,9 +50,9 @@ pick false x y p q = q refl
 module _ (o : Settings) where
   number : (at v n b : ℕ) (r : ByteRead) (g l : ℕ → Step) → readByte (o .shortest) at v n b ≡ r
       → ((w : ℕ) → n < 7 → SoundStep (g w)) → ((w : ℕ) → SoundStep (l w)) → SoundStep (onByte r g l)
-  number at v n b (goes w) g l e p q = p w (goes-below (o .shortest) at v n b w e)
+  number at v n b (goes w) g l e p q = let k = known (o .shortest) v n b at (goes w) e in p w (k .0 .few)
   number at v n b (ends w) g l e p q = q w
-  number at v n b (wrong code offset) g l e p q = wrong-code (o .shortest) at v n b code offset e
+  number at v n b (wrong code offset) g l e p q = let k = known (o .shortest) v n b at (wrong code offset) e in k .0
 
   pub sound-step : (st : State) (b : ℕ) → Sound st → SoundStep (stepOf o st b)
   unfolding stepOf

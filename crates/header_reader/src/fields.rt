@@ -15,6 +15,7 @@ use error::VALUE_LENGTH;
 use ext::ExtFieldType;
 use ext::ExtFields;
 use ext::FixHeaderField;
+use ext::MAX_EXT_FIELD_BYTES;
 use header::HeaderFields;
 use header::HeaderMode;
 ghost use mathlib.Core.Path.{_≡_};
@@ -28,9 +29,6 @@ ghost use Rattle.header_reader.specs.Machine.{atFix, inOctets, atOctet, 
 ghost use Rattle.header_reader.specs.Represents.{fieldsState};
 ghost use Rattle.header_reader.specs.Phase.{moved, afterPair, Bounded, Chained};
 ghost use Rattle.header_reader.specs.declared.phase.FieldsPhase.{FieldsPhase};
-
-// No octet and no pair starts so many bytes after the first one, or more.
-const CEILING: usize = 4096;
 
 // The width comes next.
 fn to_width(fix: u8, fields: HeaderFields, at: usize) -> PhaseStep
@@ -109,7 +107,7 @@ pub(crate) fn in_octets(fix: u8, start: usize, at: usize, byte: u8) -> PhaseStep
     requires { ⌜ Bounded (inOctets fix start at) ⌝ }
     ensures { λ r. ⌜ ((o : Settings) → moved r ≡ stepOf o (inOctets fix start at) byte) ⌝ }
 {
-    if start + CEILING <= at {
+    if start + MAX_EXT_FIELD_BYTES <= at {
         return refuse(EXT_TOO_LONG, at);
     }
     let next = at + 1;
@@ -135,7 +133,7 @@ pub(crate) fn at_pair(chain: PairChain, byte: u8) -> PhaseStep
     requires { ⌜ Chained chain ⌝ }
     ensures { λ r. ⌜ ((o : Settings) → moved r ≡ stepOf o (fieldsState (FieldsPhase.AtPair chain)) byte) ⌝ }
 {
-    if chain.start + CEILING <= chain.at {
+    if chain.start + MAX_EXT_FIELD_BYTES <= chain.at {
         return refuse(EXT_TOO_LONG, chain.at);
     }
     let begun = chain.at + 1;

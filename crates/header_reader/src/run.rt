@@ -1,6 +1,7 @@
 // Many bytes of extension fields at once.
 use crate::phase::FieldsPhase;
 use crate::phase::PairChain;
+use ext::MAX_EXT_FIELD_BYTES;
 use header::HeaderMode;
 ghost use mathlib.Core.Path.{_≡_};
 ghost use mathlib.Core.Bool.{false};
@@ -12,9 +13,6 @@ ghost use Rattle.header_reader.specs.Represents.{fieldsState};
 ghost use Rattle.header_reader.specs.Phase.{Bounded, Chained};
 ghost use Rattle.header_reader.specs.Run.{OctetsAhead, Continued, PairsAhead, FieldsRuns};
 ghost use Rattle.header_reader.specs.declared.phase.FieldsPhase.{FieldsPhase};
-
-// No octet and no pair starts so many bytes after the first one, or more.
-const CEILING: usize = 4096;
 
 // How many bytes of a piece are taken, and where in the fields the reading stands then.
 pub struct FieldsRun {
@@ -98,10 +96,10 @@ fn run_octets(fix: u8, start: usize, at: usize, piece: &[u8]) -> FieldsRun
     requires { ⌜ Bounded (inOctets fix start at) ⌝ }
     ensures { λ r. ⌜ ((o : Settings) → FieldsRuns o (inOctets fix start at) (now (piece .entry)) r) ⌝ }
 {
-    if start + CEILING <= at {
+    if start + MAX_EXT_FIELD_BYTES <= at {
         return stay(FieldsPhase::InOctets { fix, start, at });
     }
-    let taken = octets_ahead(start + CEILING - at, piece);
+    let taken = octets_ahead(start + MAX_EXT_FIELD_BYTES - at, piece);
     let phase = FieldsPhase::InOctets {
         fix,
         start,
@@ -114,10 +112,10 @@ fn run_pairs(chain: PairChain, piece: &[u8]) -> FieldsRun
     requires { ⌜ Chained chain ⌝ }
     ensures { λ r. ⌜ ((o : Settings) → o .classes ≡ false → FieldsRuns o (fieldsState (FieldsPhase.AtPair chain)) (now (piece .entry)) r) ⌝ }
 {
-    if chain.start + CEILING <= chain.at {
+    if chain.start + MAX_EXT_FIELD_BYTES <= chain.at {
         return stay(FieldsPhase::AtPair(chain));
     }
-    let run = pairs_ahead(chain.start + CEILING - chain.at, piece);
+    let run = pairs_ahead(chain.start + MAX_EXT_FIELD_BYTES - chain.at, piece);
     let phase = FieldsPhase::AtPair(PairChain {
         fix: chain.fix,
         start: chain.start,
