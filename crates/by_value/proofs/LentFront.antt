@@ -2,7 +2,7 @@
 --     lends-front      the array's cell  →  ν's token, the slice of the first k records, and the lender's part
 --     front-back       ν's token and the lender's part  →  room for the array again, for it to be freed
 -- Assumes `Given`.
-use mathlib.Core.Path.{_≡_, refl, sym, ap, subst}
+use mathlib.Core.Path.{_≡_, refl, sym}
 use Prim.Native.Nat.{ℕ}
 use mathlib.Core.List.{List, [], _∷_, _++_}
 use lib.ListN.{length, take, drop as drop-list, take-append-drop}

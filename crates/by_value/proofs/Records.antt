@@ -17,7 +17,7 @@ use prog.Routine.{Routine}
 use prog.Wp.{Heap, Env, Calls, Loops}
 use ghost.Atoms.{Atoms, sem}
 use contract.Monad.{Fun, fact}
-use types.Kit.{Given, Item, Post, Step, step, raw, runs, lands, _$_, _∵_, !, qed, fjoin, join, frame, done}
+use types.Kit.{Given, Item, Post, Step, step, runs, lands, _$_, _∵_, !, qed, fjoin, join, frame, done}
 use types.Run.{Opds}
 use sound.WpLaws.{FmC}
 use denote.RattleType.{RattleType}
