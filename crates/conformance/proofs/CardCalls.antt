@@ -130,12 +130,12 @@ module _ (a : Making.Opening) (samples out out′ : List ℕ) (work work′ : Li
             ∙ R .machine S 0 engine .keeps));
         spared = λ g.
             R .spared (sym (carries-same (s .quantizer .rule) (s .quantizer .table)) ∙ ap carries (sym (engine .rule)) ∙ g);
-        beyond = subst (λ (k : ℕ). drop (2 * k) work′ ≡ drop (2 * k) work) (sym (engine .width)) (R .beyond);
+        beyond = subst (λ (k : ℕ). drop k work′ ≡ drop k work) (sym (engine .width)) (R .beyond);
       }
 
   idle : work′ ≡ work → KeepsWork a samples 0 work work′
   unfolding carried
-  idle e = record { corner = pos 0; kept = e; spared = λ _. e; beyond = ap (drop (2 * a .width)) e }
+  idle e = record { corner = pos 0; kept = e; spared = λ _. e; beyond = ap (drop (a .width)) e }
 
   by-answer : (y : EncodeFeed) → f .answer ≡ y → KeepsWork a samples (MakingTrace.tookOf (MakingSession.fedMeaning y)) work work′
   by-answer (Took n b) e = ran n b e

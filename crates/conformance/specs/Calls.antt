@@ -27,7 +27,7 @@ pub record KeepsWork (a : Making.Opening) (samples : List ℕ) (taken : ℕ) (wo
   pub kept : work′
       ≡ carried (Making.settingOf a) 0 (record { begun = 0; carry = record { corner = corner; kept = work } }) samples taken .carry .kept
   pub spared : carries (meaning (a .options .quantize)) ≡ false → work′ ≡ work
-  pub beyond : drop (2 * a .width) work′ ≡ drop (2 * a .width) work
+  pub beyond : drop (a .width) work′ ≡ drop (a .width) work
 
 -- opening an encode session, feeding it and closing it; behind a refused opening all calls are refused and alter nothing
 pub record MakesCard (a : Making.Opening) (samples : List ℕ) (work : List ℤ) (head out : List ℕ) (r : CardMade) (work′ : List ℤ)

@@ -106,7 +106,7 @@ module _ (s : EncodeSession) (p : Part) (samples : List ℕ) (work : List ℤ) (
       let t = took m xs o (p .lent) n b (sym answer-is ∙ ap fedMeaning q) in
       let Q = st .place (t .0) in
       let R = F .does .runs n b q in
-      let w = 2 * s .quantizer .width in
+      let w = s .quantizer .width in
       record {
         quiet = λ e.
             let z : n ≡ 0 = omega (arith, t .1, e) in
@@ -114,7 +114,7 @@ module _ (s : EncodeSession) (p : Part) (samples : List ℕ) (work : List ℤ) (
         spared = λ e.
             work-same (R .spared (sym (carries-same (s .quantizer .rule) (s .quantizer .table)) ∙ ap carries (sym (Q .rule)) ∙ e));
         beyond =
-            subst (λ (k : ℕ). drop (2 * k) work′ ≡ drop (2 * k) work) (sym (Q .width))
+            subst (λ (k : ℕ). drop k work′ ≡ drop k work) (sym (Q .width))
             (ap (drop w) (F .workIs)
             ∙ drop-front w (F .front) (take (p .lent) work) (drop (p .lent) work) (F .frontLong ∙ sym (F .lentLong)) (R .beyond)
             ∙ ap (drop w) (take-append-drop (p .lent) work));
