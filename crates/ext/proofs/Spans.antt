@@ -9,7 +9,7 @@ use Rattle.laws.proofs.Answers.{map-gives}
 use Rattle.ext.specs.Kinds.{Fields, Span, span, spanOf}
 use Rattle.ext.specs.Read.{readOctets, readOctet, readPairs, readFields}
 use Rattle.ext.specs.Bytewise.{fieldsFrom}
-use Rattle.ext.proofs.Cases.{by-kind}
+use Rattle.ext.proofs.FieldsCases.{by-kind}
 use Rattle.ext.proofs.Continuation.{pairCount, fields-in}
 
 -- fields that were read are of the kind that was asked for

@@ -1,7 +1,7 @@
 // Extension fields, WAP 4.4.1 to 4.4.3: their kinds and classes, read and looked up.
 ghost use mathlib.Core.Path.{_≡_};
 ghost use Prim.Native.Nat.{_<_};
-ghost use Rattle.ext.specs.Kinds.{kindNumber, SplitFix};
+ghost use Rattle.ext.specs.Kinds.{kindNumber, SplitFix, pairHeader};
 
 mod class;
 pub mod find;
@@ -56,6 +56,25 @@ impl FixHeaderField {
             raw,
             ext_fields_follow: 128 <= raw,
             ext_type,
+        }
+    }
+}
+
+// The header byte of a pair, taken apart.
+pub struct PairHeader {
+    pub identifier_len: u8,
+    pub value_len: u8,
+    pub more: bool,
+}
+
+impl PairHeader {
+    pub fn from_byte(raw: u8) -> PairHeader
+        ensures { λ r. ⌜ r ≡ pairHeader raw ⌝ }
+    {
+        PairHeader {
+            identifier_len: raw / 16 % 8,
+            value_len: raw % 16,
+            more: 128 <= raw,
         }
     }
 }

@@ -46,7 +46,8 @@ module _ (strict : Bool) (text : List ℕ) where
       check-two (drop k lengths) s (left-some lengths k h)
       ∙ rw (drop-drop 2 k lengths, getD-drop k lengths 0 0, getD-drop k lengths 1 0, add-zero) refl
 
-  pub check-goes : (lengths : List ℕ) (k : ℕ) (s s′ : PairsCheck) (i v : ℕ) → k < length lengths → i ≡ getD lengths k 0 → v ≡ getD lengths (k + 1) 0
+  pub check-goes : (lengths : List ℕ) (k : ℕ) (s s′ : PairsCheck) (i v : ℕ) → k < length lengths → i ≡ getD lengths k 0
+      → v ≡ getD lengths (k + 1) 0
       → s′ ≡ checkStep strict text s i v → checkPairs strict text (drop k lengths) s ≡ checkPairs strict text (drop (k + 2) lengths) s′
   check-goes lengths k s s′ i v h e f g = check-more lengths k s h ∙ (cc)
 
@@ -57,7 +58,8 @@ module _ (strict : Bool) (text : List ℕ) where
 module _ (text : List ℕ) where
   put-two : (ls out : List ℕ) (s : PairsPut) → 0 < length ls
       → putPairs text ls out s
-      ≡ putPairs text (drop 2 ls) (putOutput text out s (getD ls 0 0) (getD ls 1 0) (ltb 0 (length (drop 2 ls)))) (putStep text out s (getD ls 0 0) (getD ls 1 0))
+      ≡ putPairs text (drop 2 ls) (putOutput text out s (getD ls 0 0) (getD ls 1 0) (ltb 0 (length (drop 2 ls))))
+      (putStep text out s (getD ls 0 0) (getD ls 1 0))
   unfolding putPairs
   put-two [] out s h = absurd (omega arith)
   put-two (i ∷ []) out s h = refl
@@ -65,7 +67,8 @@ module _ (text : List ℕ) where
 
   put-more : (lengths : List ℕ) (k : ℕ) (out : List ℕ) (s : PairsPut) → k < length lengths
       → putPairs text (drop k lengths) out s
-      ≡ putPairs text (drop (k + 2) lengths) (putOutput text out s (getD lengths k 0) (getD lengths (k + 1) 0) (ltb (k + 2) (length lengths))) (putStep text out s (getD lengths k 0) (getD lengths (k + 1) 0))
+      ≡ putPairs text (drop (k + 2) lengths) (putOutput text out s (getD lengths k 0) (getD lengths (k + 1) 0)
+      (ltb (k + 2) (length lengths))) (putStep text out s (getD lengths k 0) (getD lengths (k + 1) 0))
   put-more lengths k out s h =
       put-two (drop k lengths) out s (left-some lengths k h)
       ∙ rw (drop-drop 2 k lengths, getD-drop k lengths 0 0, getD-drop k lengths 1 0, add-zero, left-more lengths (k + 2)) refl
@@ -198,7 +201,8 @@ lent-bytes text at i v more h =
 
 -- the pair that two parts of the text make, as the code cuts them
 pub parts-pair : (strict : Bool) (text : List ℕ) (at i v : ℕ)
-    → checkPair strict (record { identifier = take (at + i - at) (drop at text); value = take (at + i + v - (at + i)) (drop (at + i) text) })
+    → checkPair strict
+    (record { identifier = take (at + i - at) (drop at text); value = take (at + i + v - (at + i)) (drop (at + i) text) })
     ≡ checkPair strict (lentPair text at i v)
 parts-pair strict text at i v =
     let e : at + i - at ≡ i = omega arith in

@@ -15,10 +15,10 @@ use Rattle.ext.specs.Read.{readOctets, readOctet, readFields}
 use Rattle.ext_write.specs.Write.{octetsBytes, checkPair, pairsBytes, fieldsBytes}
 use Rattle.ext.specs.Classes.{all, isAlphaDigit}
 use Rattle.ext_write.specs.Ceiling.{kindOf, Readable}
-use Rattle.ext_write.proofs.Octets.{accepted-small, accepted-some, accepted-bytes, length-continued}
-use Rattle.ext_write.proofs.Laid.{pairs-laid, pairs-some, laid-count}
-use Rattle.ext_write.proofs.BackOctets.{octets-back}
-use Rattle.ext_write.proofs.BackPairs.{pairs-back}
+use Rattle.ext_write.proofs.OctetsWritten.{accepted-small, accepted-some, accepted-bytes, length-continued}
+use Rattle.ext_write.proofs.PairsLaid.{pairs-laid, pairs-some, laid-count}
+use Rattle.ext_write.proofs.OctetsBack.{octets-back}
+use Rattle.ext_write.proofs.PairsBack.{pairs-back}
 
 abbrev single : ℕ → ℕ × ℕ → Fields × ℕ
 single kind x = (reserved kind (x .0), x .1)
@@ -48,9 +48,11 @@ module _ (strict strict′ : Bool) (ease : strict′ ≡ true → strict ≡ tru
       (octets-back octets τ (length q) (length q) (accepted-some octets bytes e) (accepted-small octets bytes e) (omega arith))
       ∙ ap (λ (k : ℕ). gives (bitfield octets, length q + k)) (sym n)
   read-back (reserved kind octet) (inl h) e =
-      subst (λ (k : ℕ). readFields strict′ true k file (length q) ≡ gives (reserved k octet, length q + length bytes)) (sym h) (octet-back 1 octet (cc))
+      subst (λ (k : ℕ). readFields strict′ true k file (length q) ≡ gives (reserved k octet, length q + length bytes)) (sym h)
+      (octet-back 1 octet (cc))
   read-back (reserved kind octet) (inr h) e =
-      subst (λ (k : ℕ). readFields strict′ true k file (length q) ≡ gives (reserved k octet, length q + length bytes)) (sym h) (octet-back 2 octet (cc))
+      subst (λ (k : ℕ). readFields strict′ true k file (length q) ≡ gives (reserved k octet, length q + length bytes)) (sym h)
+      (octet-back 2 octet (cc))
   read-back (pairs ps) r e =
       let some = pairs-some strict ps bytes e in
       let l = sym (pairs-laid strict ps some) ∙ e in
@@ -59,10 +61,12 @@ module _ (strict strict′ : Bool) (ease : strict′ ≡ true → strict ≡ tru
       (omega (arith, laid-count strict ps bytes l, length-append q (bytes ++ τ), length-append bytes τ)))
 
 -- instances between two bytes: the pair k = 12 of card P5, strictly; two octets of kind 00; the octet of kind 10
-example-pairs : readFields true true 3 (0 ∷ 18 ∷ 107 ∷ 49 ∷ 50 ∷ 9 ∷ []) 1 ≡ gives (pairs (record { identifier = 107 ∷ []; value = 49 ∷ 50 ∷ [] } ∷ []), 5)
+example-pairs : readFields true true 3 (0 ∷ 18 ∷ 107 ∷ 49 ∷ 50 ∷ 9 ∷ []) 1
+    ≡ gives (pairs (record { identifier = 107 ∷ []; value = 49 ∷ 50 ∷ [] } ∷ []), 5)
 unfolding fieldsBytes pairsBytes checkPair all isAlphaDigit
 example-pairs =
-    read-back true true (λ e. refl) (0 ∷ []) (18 ∷ 107 ∷ 49 ∷ 50 ∷ []) (9 ∷ []) (pairs (record { identifier = 107 ∷ []; value = 49 ∷ 50 ∷ [] } ∷ [])) (omega arith, tt) refl
+    read-back true true (λ e. refl) (0 ∷ []) (18 ∷ 107 ∷ 49 ∷ 50 ∷ []) (9 ∷ [])
+    (pairs (record { identifier = 107 ∷ []; value = 49 ∷ 50 ∷ [] } ∷ [])) (omega arith, tt) refl
 
 example-octets : readFields false true 0 (0 ∷ 129 ∷ 2 ∷ 9 ∷ []) 1 ≡ gives (bitfield (1 ∷ 2 ∷ []), 3)
 unfolding fieldsBytes octetsBytes

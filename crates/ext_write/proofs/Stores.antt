@@ -18,7 +18,8 @@ sets-left xs ys j (v ∷ vs) h =
 
 set-right : (xs ys : List ℕ) (j v : ℕ) → set (xs ++ ys) (length xs + j) v ≡ xs ++ set ys j v
 set-right [] ys j v = ap (λ (n : ℕ). set ys n v) (zero-add j)
-set-right (x ∷ xs) ys j v = ap (λ (n : ℕ). set (x ∷ (xs ++ ys)) n v) (suc-add (length xs) j) ∙ ap (λ (r : List ℕ). x ∷ r) (set-right xs ys j v)
+set-right (x ∷ xs) ys j v = ap (λ (n : ℕ). set (x ∷ (xs ++ ys)) n v) (suc-add (length xs) j)
+    ∙ ap (λ (r : List ℕ). x ∷ r) (set-right xs ys j v)
 
 pub sets-right : (xs ys : List ℕ) (j : ℕ) (vs : List ℕ) → sets (xs ++ ys) (length xs + j) vs ≡ xs ++ sets ys j vs
 sets-right xs ys j [] = refl

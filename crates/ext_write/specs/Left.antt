@@ -1,5 +1,5 @@
--- What is left to put once all but the pairs is written: nothing, or the pairs of accepted fields, which have room within the bytes that the
--- writer says it wrote.
+-- What is left to put once all but the pairs is written: nothing, or the pairs of accepted fields, which have room within the bytes that
+-- the writer says it wrote.
 use Prim.Native.Nat.{ℕ, _+_, _≤_}
 use mathlib.Core.Path.{_≡_}
 use mathlib.Core.Bool.{Bool}

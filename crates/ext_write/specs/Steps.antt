@@ -1,5 +1,5 @@
--- Pairs to be written, one at a time: a step that checks one and a step that puts one, and what a run of each over all lengths comes to. Both
--- steps are total, so that a run needs no condition; `proofs/Checks` and `proofs/Puts` say what the runs come to.
+-- Pairs to be written, one at a time: a step that checks one and a step that puts one, and what a run of each over all lengths comes to.
+-- Both steps are total, so that a run needs no condition; `proofs/CheckRun` and `proofs/PutRun` say what the runs come to.
 use Prim.Native.Nat.{ℕ, _+_, _/_, _<_}
 use mathlib.Core.Bool.{Bool, false, _&&_}
 use mathlib.Core.List.{List, [], _∷_}

@@ -49,7 +49,8 @@ struct PairsPut {
     to: usize,
 }
 
-// Fields begun: all but the pairs is written. The first pair goes to `to`, which is the output's end where none is left to put; `answer` is the writer's.
+// Fields begun: all but the pairs is written. The first pair goes to `to`, which is the output's end where none is left to put; `answer` is
+// the writer's.
 pub struct PairsBegun {
     pub to: usize,
     pub answer: Written,

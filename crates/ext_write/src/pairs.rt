@@ -11,7 +11,8 @@ ghost use mathlib.Core.Path.{_≡_};
 ghost use lib.ListN.{length, take, drop, getD};
 ghost use lib.Seq.{sets};
 ghost use Rattle.error.specs.Choice.{if};
-ghost use Rattle.ext_write.specs.Steps.{checkStart, startAfter, checkStep, checkPairs, pairsLength, putStart, putStep, putOutput, putPairs};
+ghost use Rattle.ext_write.specs.Steps.{checkStart, startAfter, checkStep, checkPairs, pairsLength};
+ghost use Rattle.ext_write.specs.Steps.{putStart, putStep, putOutput, putPairs};
 
 pub(crate) fn check_start() -> PairsCheck
     ensures { λ r. ⌜ r ≡ checkStart ⌝ }
@@ -110,7 +111,8 @@ pub(crate) fn check_pairs(text: &[u8], lengths: &[usize], strict: bool) -> Pairs
     s
 }
 
-// What the end of a run of checks says of a text of `size` bytes and so many lengths: how many bytes the pairs are, or why they are refused.
+// What the end of a run of checks says of a text of `size` bytes and so many lengths: how many bytes the pairs are, or why they are
+// refused.
 pub(crate) fn pairs_length(size: usize, number: usize, s: PairsCheck) -> FieldsCheck
     requires { ⌜ size + number < 2 ^ 64 ⌝ }
     ensures { λ r. ⌜ r ≡ pairsLength size number s ⌝ }
@@ -118,18 +120,18 @@ pub(crate) fn pairs_length(size: usize, number: usize, s: PairsCheck) -> FieldsC
     let at = s.at;
     let first = s.code;
     if at != size {
-        return pairs_refused(error::PAIR_LENGTHS);
+        return refused(error::PAIR_LENGTHS);
     }
     if number == 0 {
-        return pairs_refused(error::FIELDS_EMPTY);
+        return refused(error::FIELDS_EMPTY);
     }
     if first != 0 {
-        return pairs_refused(first);
+        return refused(first);
     }
     FieldsCheck::Length(size + number / 2)
 }
 
-fn pairs_refused(code: u8) -> FieldsCheck
+pub(crate) fn refused(code: u8) -> FieldsCheck
     ensures { λ r. ⌜ r ≡ FieldsCheck.Refused (record { code = code; offset = 0 }) ⌝ }
 {
     FieldsCheck::Refused(WbmpError { code, offset: 0 })
@@ -169,7 +171,8 @@ pub(crate) fn put_pair(
     more: bool,
     out: &mut [u8],
 ) -> PairsPut
-    ensures { λ r. ⌜ (r ≡ putStep (now (text .entry)) (now (out .entry)) s «identifier_len» «value_len») × (now (out .exit) ≡ putOutput (now (text .entry)) (now (out .entry)) s «identifier_len» «value_len» more) ⌝ }
+    ensures { λ r. ⌜ (r ≡ putStep (now (text .entry)) (now (out .entry)) s «identifier_len» «value_len»)
+        × (now (out .exit) ≡ putOutput (now (text .entry)) (now (out .entry)) s «identifier_len» «value_len» more) ⌝ }
 {
     let at = s.at;
     let to = s.to;

@@ -40,7 +40,9 @@ pub fn put_parameters(
     begun: PairsBegun,
     out: &mut [u8],
 ) -> Written
-    ensures { λ r. ⌜ (r ≡ begun .answer) × (now (out .exit) ≡ putPairs (now (text .entry)) (flattened (now (parameters .entry))) (now (out .entry)) (putStart (begun .to))) ⌝ }
+    ensures { λ r. ⌜ (r ≡ begun .answer)
+        × (now (out .exit)
+        ≡ putPairs (now (text .entry)) (flattened (now (parameters .entry))) (now (out .entry)) (putStart (begun .to))) ⌝ }
 {
     let mut s = put_start(begun.to);
     let mut k: usize = 0;
@@ -65,7 +67,8 @@ pub fn write_ext_fields(
     parameters: &[Parameter],
     out: &mut [u8],
 ) -> Written
-    ensures { λ r. ⌜ Emits (lentBytes false (kindNumber «ext_type») (now (text .entry)) (flattened (now (parameters .entry)))) (written r) (now (out .entry)) (now (out .exit)) ⌝ }
+    ensures { λ r. ⌜ Emits (lentBytes false (kindNumber «ext_type») (now (text .entry)) (flattened (now (parameters .entry))))
+        (written r) (now (out .entry)) (now (out .exit)) ⌝ }
 {
     let found = check_parameters(text, parameters, false);
     let begun = begin_fields(ext_type, text, found, &mut *out);
@@ -78,7 +81,8 @@ pub fn write_ext_fields_strict(
     parameters: &[Parameter],
     out: &mut [u8],
 ) -> Written
-    ensures { λ r. ⌜ Emits (lentBytes true (kindNumber «ext_type») (now (text .entry)) (flattened (now (parameters .entry)))) (written r) (now (out .entry)) (now (out .exit)) ⌝ }
+    ensures { λ r. ⌜ Emits (lentBytes true (kindNumber «ext_type») (now (text .entry)) (flattened (now (parameters .entry))))
+        (written r) (now (out .entry)) (now (out .exit)) ⌝ }
 {
     let found = check_parameters(text, parameters, true);
     let begun = begin_fields(ext_type, text, found, &mut *out);

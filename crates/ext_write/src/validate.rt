@@ -43,7 +43,9 @@ impl Parameter {
     }
 
     pub fn new(identifier: &[u8], value: &[u8]) -> NewParameter
-        ensures { λ r. ⌜ newParameter r ≡ map (λ u. lengthsOf (record { identifier = now (identifier .entry); value = now (value .entry) })) (checkPair true (record { identifier = now (identifier .entry); value = now (value .entry) })) ⌝ }
+        ensures { λ r. ⌜ newParameter r
+            ≡ map (λ u. lengthsOf (record { identifier = now (identifier .entry); value = now (value .entry) }))
+            (checkPair true (record { identifier = now (identifier .entry); value = now (value .entry) })) ⌝ }
     {
         match Parameter::validate(identifier, value) {
             Checked::Accepted => NewParameter::Made(Parameter {

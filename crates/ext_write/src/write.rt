@@ -4,6 +4,7 @@ use crate::PairsBegun;
 use crate::pairs::check_pairs;
 use crate::pairs::pairs_length;
 use crate::pairs::put_pairs;
+use crate::pairs::refused;
 use error::WbmpError;
 use error::Written;
 use ext::ExtFieldType;
@@ -19,12 +20,6 @@ ghost use Rattle.ext.specs.Kinds.{kindNumber};
 ghost use Rattle.ext_write.specs.Write.{octetsBytes, octetBytes, lentBytes};
 ghost use Rattle.ext_write.specs.Left.{ChecksPairs, ChecksFields, BeginsPairs, BeginsFields};
 ghost use Rattle.ext_write.specs.Steps.{fieldsLength, octetLength, putStart, putPairs, continued, Small};
-
-fn refused(code: u8) -> FieldsCheck
-    ensures { λ r. ⌜ r ≡ FieldsCheck.Refused (record { code = code; offset = 0 }) ⌝ }
-{
-    FieldsCheck::Refused(WbmpError { code, offset: 0 })
-}
 
 // Kind 00.
 fn check_octets(text: &[u8]) -> FieldsCheck
@@ -195,7 +190,8 @@ pub fn begin_fields(
 
 // The pairs that are left to put, where their lengths are lent as numbers; the answer is the one begun.
 pub fn put_lengths(text: &[u8], lengths: &[usize], begun: PairsBegun, out: &mut [u8]) -> Written
-    ensures { λ r. ⌜ (r ≡ begun .answer) × (now (out .exit) ≡ putPairs (now (text .entry)) (now (lengths .entry)) (now (out .entry)) (putStart (begun .to))) ⌝ }
+    ensures { λ r. ⌜ (r ≡ begun .answer)
+        × (now (out .exit) ≡ putPairs (now (text .entry)) (now (lengths .entry)) (now (out .entry)) (putStart (begun .to))) ⌝ }
 {
     put_pairs(text, lengths, begun.to, out);
     begun.answer
@@ -208,7 +204,8 @@ fn write_fields(
     out: &mut [u8],
     strict: bool,
 ) -> Written
-    ensures { λ r. ⌜ Emits (lentBytes strict (kindNumber «ext_type») (now (text .entry)) (now (lengths .entry))) (written r) (now (out .entry)) (now (out .exit)) ⌝ }
+    ensures { λ r. ⌜ Emits (lentBytes strict (kindNumber «ext_type») (now (text .entry)) (now (lengths .entry)))
+        (written r) (now (out .entry)) (now (out .exit)) ⌝ }
 {
     let found = check_lengths(text, lengths, strict);
     let begun = begin_fields(ext_type, text, found, &mut *out);
@@ -221,7 +218,8 @@ pub fn write_ext_fields_lengths(
     lengths: &[usize],
     out: &mut [u8],
 ) -> Written
-    ensures { λ r. ⌜ Emits (lentBytes false (kindNumber «ext_type») (now (text .entry)) (now (lengths .entry))) (written r) (now (out .entry)) (now (out .exit)) ⌝ }
+    ensures { λ r. ⌜ Emits (lentBytes false (kindNumber «ext_type») (now (text .entry)) (now (lengths .entry)))
+        (written r) (now (out .entry)) (now (out .exit)) ⌝ }
 {
     write_fields(ext_type, text, lengths, out, false)
 }
@@ -232,7 +230,8 @@ pub fn write_ext_fields_lengths_strict(
     lengths: &[usize],
     out: &mut [u8],
 ) -> Written
-    ensures { λ r. ⌜ Emits (lentBytes true (kindNumber «ext_type») (now (text .entry)) (now (lengths .entry))) (written r) (now (out .entry)) (now (out .exit)) ⌝ }
+    ensures { λ r. ⌜ Emits (lentBytes true (kindNumber «ext_type») (now (text .entry)) (now (lengths .entry)))
+        (written r) (now (out .entry)) (now (out .exit)) ⌝ }
 {
     write_fields(ext_type, text, lengths, out, true)
 }

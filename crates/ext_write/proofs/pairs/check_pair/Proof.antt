@@ -67,7 +67,8 @@ returns-5 c =
     let a = k .before .before .before in
     let r = a .before .before .before .before .before .before .args in
     step-new _ _ _ _ _ (omega arith) _ (a .before .start-after .ensures) (gives tt) (a .if4 .left)
-    (ap checked (sym (c .enum-told .given .1)) ∙ k .check-parameter .ensures ∙ parts-pair _ (now (r .text)) (r .s .at) (r .identifier-len) (r .value-len))
+    (ap checked (sym (c .enum-told .given .1)) ∙ k .check-parameter .ensures ∙ parts-pair _ (now (r .text)) (r .s .at) (r .identifier-len)
+    (r .value-len))
 
 returns-6 : tie.Need-returns-6
 returns-6 c =
@@ -75,7 +76,8 @@ returns-6 c =
     let a = k .before .before .before in
     let r = a .before .before .before .before .before .before .args in
     step-new _ _ _ _ _ (omega arith) _ (a .before .start-after .ensures) _ (a .if4 .left)
-    (ap checked (sym (c .before .e .given .1)) ∙ k .check-parameter .ensures ∙ parts-pair _ (now (r .text)) (r .s .at) (r .identifier-len) (r .value-len))
+    (ap checked (sym (c .before .e .given .1)) ∙ k .check-parameter .ensures ∙ parts-pair _ (now (r .text)) (r .s .at) (r .identifier-len)
+    (r .value-len))
 
 pub check-pair-spec : {M : Type 1} → statement M
 check-pair-spec =

@@ -41,7 +41,8 @@ loop-less c = omega arith
 loop-again : tie.Need-loop-again Inv-loop μ-loop
 loop-again c =
     let l = c .before .before .before .before .loop in
-    l .inv ∙ check-goes _ _ _ (l .k) _ _ _ _ (omega arith) (c .before .before .length-at .ensures) (c .before .length-at2 .ensures) (c .check-pair .ensures)
+    l .inv ∙ check-goes _ _ _ (l .k) _ _ _ _ (omega arith) (c .before .before .length-at .ensures) (c .before .length-at2 .ensures)
+    (c .check-pair .ensures)
 
 returns : tie.Need-returns Inv-loop μ-loop
 returns c = sym (c .before .loop .inv ∙ check-end _ _ _ _ _ (c .loop-test .left))

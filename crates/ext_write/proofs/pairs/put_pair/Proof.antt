@@ -59,8 +59,12 @@ same-length c = ap length (c .before .before .copy .ensures) ∙ simp (length-se
 returns-7 : tie.Need-returns-7
 returns-7 c =
     let a = c .before .before .before .before .before .before .before .before .before .before .before .before .before .args in
-    let q = room (now (a .text)) (now (a .out)) (a .s) (a .identifier-len) (a .value-len) (omega arith) (omega arith) (omega arith) (omega arith) in
-    (put-moves _ _ _ _ _ (a .more) q, c .before .before .copy .ensures ∙ put-done _ _ _ _ _ _ q _ (c .before .before .before .before .pair-header .ensures) (omega arith))
+    let q = room (now (a .text)) (now (a .out)) (a .s) (a .identifier-len) (a .value-len) (omega arith) (omega arith) (omega arith)
+    (omega arith) in (
+      put-moves _ _ _ _ _ (a .more) q,
+      c .before .before .copy .ensures
+          ∙ put-done _ _ _ _ _ _ q _ (c .before .before .before .before .pair-header .ensures) (omega arith),
+    )
 
 pub put-pair-spec : {M : Type 1} → statement M
 put-pair-spec =

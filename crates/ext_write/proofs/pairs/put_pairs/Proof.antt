@@ -46,7 +46,8 @@ loop-again c =
     let l = k .before .before .before .loop in (
       ap length (p .put-pair .ensures .1) ∙ put-long _ _ _ _ _ _ ∙ l .inv .0,
       l .inv .1
-          ∙ put-goes _ _ (l .k) _ _ _ _ _ _ (omega arith) (k .before .length-at .ensures) (k .length-at2 .ensures) (p .put-pair .ensures .0) (p .put-pair .ensures .1),
+          ∙ put-goes _ _ (l .k) _ _ _ _ _ _ (omega arith) (k .before .length-at .ensures) (k .length-at2 .ensures)
+          (p .put-pair .ensures .0) (p .put-pair .ensures .1),
     )
 
 same-length : tie.Need-same-length Inv-loop μ-loop

@@ -2,7 +2,8 @@ use mathlib.Core.Path.{_∙_, sym, ap}
 use borrow.Author.Needs.{needs}
 use borrow.Author.Tests.{not-true, not-false}
 use Rattle.error.specs.Answer.{checked}
-use Rattle.ext_write.proofs.CheckPair.{in-range, below-range, above-range, refused-11, refused-14, refused-12, refused-15, accepted}
+use Rattle.ext_write.proofs.PairVerdict.{in-range, below-range, above-range, refused-11, refused-14, refused-12, refused-15}
+use Rattle.ext_write.proofs.PairVerdict.{accepted}
 use Rattle.ext_write.proofs.validate.check_parameter.Statement.{statement}
 use Rattle.ext_write.proofs.validate.check_parameter.Tie as tie
 
@@ -16,7 +17,8 @@ refused-requires-2 : tie.Need-refused-requires-2
 refused-requires-2 c κs = search needs
 
 returns-2 : tie.Need-returns-2
-returns-2 c = ap checked (c .refused2 .ensures) ∙ sym (refused-11 _ _ (above-range _ _ (c .before .before .if1 .left) (c .before .if2 .taken)))
+returns-2 c = ap checked (c .refused2 .ensures)
+    ∙ sym (refused-11 _ _ (above-range _ _ (c .before .before .if1 .left) (c .before .if2 .taken)))
 
 identifier-in-class-requires : tie.Need-identifier-in-class-requires
 identifier-in-class-requires c κs = search needs
@@ -29,7 +31,8 @@ returns-3 c =
     let t = c .before in
     let i = t .before in
     ap checked (c .refused3 .ensures)
-    ∙ sym (refused-14 _ _ (in-range _ _ (i .before .before .if1 .left) (i .before .if2 .left)) (sym (i .identifier-in-class .ensures) ∙ not-true _ (t .if3 .taken)))
+    ∙ sym (refused-14 _ _ (in-range _ _ (i .before .before .if1 .left) (i .before .if2 .left))
+    (sym (i .identifier-in-class .ensures) ∙ not-true _ (t .if3 .taken)))
 
 refused-requires-4 : tie.Need-refused-requires-4
 refused-requires-4 c κs = search needs

@@ -2,7 +2,7 @@ use mathlib.Core.Path.{_∙_, sym, ap}
 use lib.ListN.{length}
 use Rattle.error.specs.Answer.{map}
 use Rattle.ext.specs.Kinds.{kindNumber}
-use Rattle.ext_write.proofs.Lent.{single-01, single-10, lent-octets, lent-3, octet-length}
+use Rattle.ext_write.proofs.LentFields.{single-01, single-10, lent-octets, lent-3, octet-length}
 use borrow.Author.Needs.{needs}
 use Rattle.ext_write.proofs.write.check_fields.Statement.{statement}
 use Rattle.ext_write.proofs.write.check_fields.Tie as tie
@@ -29,7 +29,8 @@ enum-told-4 : tie.Need-enum-told-4
 enum-told-4 c = search needs
 
 returns : tie.Need-returns
-returns c strict lengths h = c .check-octets .ensures ∙ ap (map length) (sym (lent-octets strict lengths _ _ (ap kindNumber (c .before .enum-told .given .1))))
+returns c strict lengths h = c .check-octets .ensures
+    ∙ ap (map length) (sym (lent-octets strict lengths _ _ (ap kindNumber (c .before .enum-told .given .1))))
 
 returns-2 : tie.Need-returns-2
 returns-2 c strict lengths h = c .check-octet .ensures ∙ octet-length strict lengths _ (single-01 _ (c .before .enum-told2 .given .1)) _

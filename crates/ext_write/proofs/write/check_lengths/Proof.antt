@@ -1,6 +1,6 @@
 use mathlib.Core.Path.{_∙_, ap}
 use Rattle.ext_write.specs.Steps.{fieldsLength}
-use Rattle.ext_write.proofs.Flat.{pairs-found}
+use Rattle.ext_write.proofs.RecordsFlat.{pairs-found}
 use native.Mathlib.Omega.{arith}
 use borrow.Author.Needs.{needs}
 use Rattle.ext_write.proofs.write.check_lengths.Statement.{statement}

@@ -2,7 +2,7 @@ use Prim.Native.Nat.{_-_}
 use mathlib.Core.Path.{refl}
 use native.Mathlib.Omega.{arith}
 use lib.ListN.{length}
-use Rattle.ext_write.proofs.Octets.{Putting, put-goes, put-ends}
+use Rattle.ext_write.proofs.OctetsWritten.{Putting, octet-put, octets-put}
 use Rattle.ext_write.proofs.write.put_octets.Statement.{statement}
 use Rattle.ext_write.proofs.write.put_octets.Tie as tie
 
@@ -34,13 +34,13 @@ loop-less : tie.Need-loop-less Inv-loop μ-loop
 loop-less c = omega arith
 
 loop-again : tie.Need-loop-again Inv-loop μ-loop
-loop-again c = put-goes _ _ _ _ (c .before .before .before .loop .inv) _ (omega arith) (c .octet-byte .ensures)
+loop-again c = octet-put _ _ _ _ (c .before .before .before .loop .inv) _ (omega arith) (c .octet-byte .ensures)
 
 same-length : tie.Need-same-length Inv-loop μ-loop
 same-length c = c .before .loop .inv .same
 
 returns : tie.Need-returns Inv-loop μ-loop
-returns c = put-ends _ _ _ _ (c .before .loop .inv) (c .loop-test .left)
+returns c = octets-put _ _ _ _ (c .before .loop .inv) (c .loop-test .left)
 
 pub put-octets-spec : {M : Type 1} → statement M
 put-octets-spec =

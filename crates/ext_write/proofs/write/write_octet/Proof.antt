@@ -13,7 +13,9 @@ too-short-requires : tie.Need-too-short-requires
 too-short-requires c κs = search needs
 
 returns-2 : tie.Need-returns-2
-returns-2 c = octet-short (now (c .before .before .before .before .before .args .text)) (now (c .before .before .before .before .before .args .out)) _ (ap written (c .too-short .ensures)) (c .before .before .if1 .left) (c .before .if2 .taken)
+returns-2 c = octet-short (now (c .before .before .before .before .before .args .text))
+    (now (c .before .before .before .before .before .args .out)) _ (ap written (c .too-short .ensures)) (c .before .before .if1 .left)
+    (c .before .if2 .taken)
 
 shared-slice-read-out : tie.Need-shared-slice-read-out
 shared-slice-read-out c = search needs
@@ -25,7 +27,8 @@ same-length : tie.Need-same-length
 same-length c = search needs
 
 returns-3 : tie.Need-returns-3
-returns-3 c = octet-emitted (now (c .before .before .before .before .before .args .text)) (now (c .before .before .before .before .before .args .out)) (c .before .before .if1 .left) (c .before .if2 .left)
+returns-3 c = octet-emitted (now (c .before .before .before .before .before .args .text))
+    (now (c .before .before .before .before .before .args .out)) (c .before .before .if1 .left) (c .before .if2 .left)
 
 pub write-octet-spec : {M : Type 1} → statement M
 write-octet-spec =

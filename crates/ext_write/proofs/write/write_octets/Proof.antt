@@ -20,13 +20,15 @@ too-short-requires c κs = search needs
 returns : tie.Need-returns
 returns c =
     let l = c .before .before .before in
-    short-emitted _ _ _ _ (ap written (c .too-short .ensures)) (ap fieldsLength (sym (l .len .given .1)) ∙ l .before .before .check-octets .ensures) (c .before .if1 .taken)
+    short-emitted _ _ _ _ (ap written (c .too-short .ensures))
+    (ap fieldsLength (sym (l .len .given .1)) ∙ l .before .before .check-octets .ensures) (c .before .if1 .taken)
 
 put-octets-requires : tie.Need-put-octets-requires
 put-octets-requires c κs =
     let l = c .before .before .before in
     let s = l .before .before .before .before .before in
-    octets-fit (now (s .args .text)) (now (s .args .out)) _ (ap fieldsLength (sym (l .len .given .1)) ∙ l .before .before .check-octets .ensures) (c .before .if1 .left)
+    octets-fit (now (s .args .text)) (now (s .args .out)) _
+    (ap fieldsLength (sym (l .len .given .1)) ∙ l .before .before .check-octets .ensures) (c .before .if1 .left)
 
 enum-known-e : tie.Need-enum-known-e
 enum-known-e c = search needs
@@ -38,7 +40,8 @@ returns-2 : tie.Need-returns-2
 returns-2 c =
     let p = c .before .before in
     let l = p .before .before .before .before in
-    octets-emitted _ _ _ _ (ap fieldsLength (sym (l .len .given .1)) ∙ l .before .before .check-octets .ensures) (p .before .before .if1 .left) (p .put-octets .ensures)
+    octets-emitted _ _ _ _ (ap fieldsLength (sym (l .len .given .1)) ∙ l .before .before .check-octets .ensures)
+    (p .before .before .if1 .left) (p .put-octets .ensures)
 
 returns-3 : tie.Need-returns-3
 returns-3 c =

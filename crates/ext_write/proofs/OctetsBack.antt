@@ -21,7 +21,11 @@ module _ (τ : List ℕ) (start at : ℕ) (below : at < start + 4096) (b : ℕ) 
       ap
       (λ (t : Bool). elim t [
         | true ↦ refuses 10 at
-        | false ↦ elim (ltb b 128) [ true ↦ gives (b ∷ [], at + 1) | false ↦ map (λ r. (b % 128 ∷ r .0, r .1)) (readOctets τ start (at + 1)) ]
+        | false ↦ elim (ltb b 128) [
+          | true ↦ gives (b ∷ [], at + 1)
+          | false ↦ map (λ r. (b % 128 ∷ r .0, r .1))
+              (readOctets τ start (at + 1))
+        ]
       ])
       (lt-leb (start + 4096) at below)
 
@@ -51,5 +55,6 @@ octets-back (o ∷ o′ ∷ os) τ start at n s h =
     let k : at + 1 + length (o′ ∷ os) ≡ at + length (o ∷ o′ ∷ os) = omega arith in
     ap (λ (b : Bool). readOctets ((if b 128 0 + o) ∷ (continued (o′ ∷ os) ++ τ)) start at) (lt-ltb 0 (length (o′ ∷ os)) (omega arith))
     ∙ octet-more (continued (o′ ∷ os) ++ τ) start at (omega arith) (128 + o) (omega arith)
-    ∙ ap (map (λ (r : List ℕ × ℕ). ((128 + o) % 128 ∷ r .0, r .1))) (octets-back (o′ ∷ os) τ start (at + 1) (omega arith) (λ i j. s (suc i) (omega arith)) (omega arith))
+    ∙ ap (map (λ (r : List ℕ × ℕ). ((128 + o) % 128 ∷ r .0, r .1)))
+    (octets-back (o′ ∷ os) τ start (at + 1) (omega arith) (λ i j. s (suc i) (omega arith)) (omega arith))
     ∙ rw (e, k) refl

@@ -68,7 +68,7 @@ verdict strict p =
     (verdict-if (inClass strict isAlphaDigit (p .value)) (gives tt) 15 (λ e. omega arith) tt)))
 
 -- what a pair that is accepted has passed
-pub record Passed (strict : Bool) (p : Pair) : Type 0 where
+pub record PairPassed (strict : Bool) (p : Pair) : Type 0 where
   pub identifier-some : 1 ≤ length (p .identifier)
   pub identifier-most : length (p .identifier) ≤ 7
   pub identifier-class : inClass strict isChar (p .identifier) ≡ true
@@ -88,9 +88,9 @@ range-both most n e = by-tests (leb 1 n) (leb n most) refl refl e
     by-tests true false f g h = zero-one (cc)
     by-tests false b f g h = zero-one (cc)
 
-pub passed : (strict : Bool) (p : Pair) → checkPair strict p ≡ gives tt → Passed strict p
+pub pair-passed : (strict : Bool) (p : Pair) → checkPair strict p ≡ gives tt → PairPassed strict p
 unfolding checkPair
-passed strict p e =
+pair-passed strict p e =
     let i = if-gives (inRange 7 (length (p .identifier))) _ 11 e in
     let k = if-gives (inClass strict isChar (p .identifier)) _ 14 (i .1) in
     let v = if-gives (inRange 15 (length (p .value))) _ 12 (k .1) in

@@ -11,7 +11,7 @@ use Rattle.laws.proofs.Answers.{map-gives, bind-gives}
 use Rattle.laws.proofs.Tests.{zero-one}
 use Rattle.ext.specs.Kinds.{Pair, Fields, bitfield, reserved, pairs}
 use Rattle.ext.specs.Read.{PairAt, readOctets, readOctet, readPair, readPairs, readFields}
-use Rattle.ext.proofs.Extent.{PairIn, pair-in}
+use Rattle.ext.proofs.PairExtent.{PairIn, pair-in}
 
 -- fields that follow, by their kind
 pub by-kind : (strict : Bool) (kind : ℕ) (s : List ℕ) (at : ℕ) (P : Answer (Fields × ℕ) → Type 0)
@@ -38,10 +38,12 @@ by-kind strict kind s at P octets-case pairs-case octet-case = go (eqb kind 0) (
 -- pairs that were read: a last one, or one and those after it
 pub data PairsGiven (most : ℕ) (strict : Bool) (s : List ℕ) (start at : ℕ) : List Pair × ℕ → Type 0 where
   last : (x : PairAt) → PairIn s (getD s at 0) at x → at < start + 4096 → PairsGiven most strict s start at (x .pair ∷ [], x .end)
-  more : (x : PairAt) → PairIn s (getD s at 0) at x → at < start + 4096 → (r : List Pair × ℕ) → readPairs most strict s start (x .end) ≡ gives r
+  more : (x : PairAt) → PairIn s (getD s at 0) at x → at < start + 4096 → (r : List Pair × ℕ) → readPairs most strict s start (x .end)
+      ≡ gives r
       → PairsGiven most strict s start at (x .pair ∷ r .0, r .1)
 
-pub pairs-given : (most : ℕ) (strict : Bool) (s : List ℕ) (start at : ℕ) (r : List Pair × ℕ) → readPairs (suc most) strict s start at ≡ gives r
+pub pairs-given : (most : ℕ) (strict : Bool) (s : List ℕ) (start at : ℕ) (r : List Pair × ℕ) → readPairs (suc most) strict s start at
+    ≡ gives r
     → PairsGiven most strict s start at r
 unfolding readPairs
 pairs-given most strict s start at r e = go (leb (length s) at) (leb (start + 4096) at) refl e

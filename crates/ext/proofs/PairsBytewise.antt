@@ -15,7 +15,7 @@ use Rattle.ext.specs.Classes.{isChar, isAlphaDigit, inClass}
 use Rattle.ext.specs.Read.{PairAt, readPair, pairParts, classed}
 use Rattle.ext.specs.Bytewise.{pairsFrom, identifierFrom, valueFrom, identifierFault, valueFault}
 use Rattle.ext.specs.Pairwise.{pairStep}
-use Rattle.ext.proofs.Faults.{identifierFaults, valueFaults, pair-fault}
+use Rattle.ext.proofs.PairFaults.{identifierFaults, valueFaults, pair-fault}
 
 pub bind-map : {A B C : Type 0} (x : Answer A) (f : A → B) (g : B → Answer C) → bind (map f x) g ≡ bind x (λ a. g (f a))
 bind-map (gives a) f g = refl
@@ -30,7 +30,8 @@ module _ {A : Type 0} (strict : Bool) (start done : ℕ) (more : Bool) (k : ℕ 
       simp (identifierFrom, lt-ltb 1 left (omega arith))
       (identifier-short τ (at + 1) begun (left - 1) size (identifierFault strict fault b) (omega arith))
 
-  value-short : (τ : List ℕ) (at begun left fault : ℕ) → length τ < left → valueFrom τ strict start at done begun left more fault k ≡ refuses 13 begun
+  value-short : (τ : List ℕ) (at begun left fault : ℕ) → length τ < left → valueFrom τ strict start at done begun left more fault k
+      ≡ refuses 13 begun
   unfolding valueFrom
   value-short [] at begun left fault h = refl
   value-short (b ∷ τ) at begun left fault h =
@@ -138,7 +139,8 @@ module _ {A : Type 0} (strict : Bool) (s : List ℕ) (start done : ℕ) (k : ℕ
       → pairsFrom (drop at s) strict start at done k ≡ bind (readPair strict s at) (λ q. afterPair (q .more) (q .end))
   unfolding pairsFrom readPair
   pairs-pair at h o =
-      rw (drop-at s at h) (simp (pairsFrom, lt-leb (start + 4096) at o) (go (eqb (getD s at 0 / 16 % 8) 0) (eqb (getD s at 0 % 16) 0) refl refl))
+      rw (drop-at s at h) (simp (pairsFrom, lt-leb (start + 4096) at o)
+      (go (eqb (getD s at 0 / 16 % 8) 0) (eqb (getD s at 0 % 16) 0) refl refl))
     where
       go : (t u : Bool) → eqb (getD s at 0 / 16 % 8) 0 ≡ t → eqb (getD s at 0 % 16) 0 ≡ u
           → (elim t as (λ x. Answer A) [
@@ -147,11 +149,13 @@ module _ {A : Type 0} (strict : Bool) (s : List ℕ) (start done : ℕ) (k : ℕ
                 elim u as (λ x. Answer A) [
                   | true ↦ refuses 12 (at + 1)
                   | false ↦
-                      identifierFrom (drop (at + 1) s) strict start (at + 1) done (at + 1) (getD s at 0 / 16 % 8) (getD s at 0 % 16) (leb 128 (getD s at 0)) 0 k
+                      identifierFrom (drop (at + 1) s) strict start (at + 1) done (at + 1) (getD s at 0 / 16 % 8) (getD s at 0 % 16)
+                      (leb 128 (getD s at 0)) 0 k
                 ]
           ])
           ≡ bind (if t (refuses 11 (at + 1)) (if u (refuses 12 (at + 1))
-          (pairParts strict s (leb 128 (getD s at 0)) (at + 1) (at + 1 + getD s at 0 / 16 % 8) (at + 1 + getD s at 0 / 16 % 8 + getD s at 0 % 16))))
+          (pairParts strict s (leb 128 (getD s at 0)) (at + 1) (at + 1 + getD s at 0 / 16 % 8)
+          (at + 1 + getD s at 0 / 16 % 8 + getD s at 0 % 16))))
           (λ q. afterPair (q .more) (q .end))
       go true u p q = refl
       go false true p q = refl

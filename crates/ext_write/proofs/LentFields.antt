@@ -13,8 +13,8 @@ use Rattle.ext_write.specs.Write.{octetsBytes, octetBytes, cutPairs, sum
 use Rattle.ext_write.specs.Steps.{octetLength}
 use Rattle.ext.specs.declared.ExtFieldType.{ExtFieldType}
 use Rattle.ext.specs.declared.ExtFieldType.the-variants.{Reserved01, Reserved10}
-use Rattle.ext_write.proofs.Laid.{laid, pairs-laid, pairs-some}
-use Rattle.ext_write.proofs.Checks.{lent-31, lent-pairs}
+use Rattle.ext_write.proofs.PairsLaid.{laid, pairs-laid, pairs-some}
+use Rattle.ext_write.proofs.CheckRun.{lent-31, lent-pairs}
 
 -- kinds 01 and 10
 pub record Single (kind : ℕ) : Type 0 where
@@ -22,10 +22,16 @@ pub record Single (kind : ℕ) : Type 0 where
   pub not-3 : eqb kind 3 ≡ false
 
 pub single-01 : (t : ExtFieldType) → t ≡ Reserved01 → Single (kindNumber t)
-single-01 t e = record { not-0 = ap (λ (u : ExtFieldType). eqb (kindNumber u) 0) e; not-3 = ap (λ (u : ExtFieldType). eqb (kindNumber u) 3) e }
+single-01 t e = record {
+  not-0 = ap (λ (u : ExtFieldType). eqb (kindNumber u) 0) e;
+  not-3 = ap (λ (u : ExtFieldType). eqb (kindNumber u) 3) e;
+}
 
 pub single-10 : (t : ExtFieldType) → t ≡ Reserved10 → Single (kindNumber t)
-single-10 t e = record { not-0 = ap (λ (u : ExtFieldType). eqb (kindNumber u) 0) e; not-3 = ap (λ (u : ExtFieldType). eqb (kindNumber u) 3) e }
+single-10 t e = record {
+  not-0 = ap (λ (u : ExtFieldType). eqb (kindNumber u) 0) e;
+  not-3 = ap (λ (u : ExtFieldType). eqb (kindNumber u) 3) e;
+}
 
 module _ (strict : Bool) (lengths : List ℕ) where
   pub lent-octets : (text : List ℕ) (kind : ℕ) → kind ≡ 0 → lentBytes strict kind text lengths ≡ octetsBytes text
@@ -38,8 +44,10 @@ module _ (strict : Bool) (lengths : List ℕ) where
   module _ (kind : ℕ) (single : Single kind) where
     pub lent-octet : (text : List ℕ) → lentBytes strict kind text lengths ≡ octetBytes text
     unfolding lentFields fieldsBytes octetBytes
-    lent-octet [] = ap (λ (a : Answer Fields). bind a (fieldsBytes strict)) (if-false _ _ _ (single .not-0) ∙ if-false _ _ _ (single .not-3))
-    lent-octet (o ∷ os) = ap (λ (a : Answer Fields). bind a (fieldsBytes strict)) (if-false _ _ _ (single .not-0) ∙ if-false _ _ _ (single .not-3))
+    lent-octet [] = ap (λ (a : Answer Fields). bind a (fieldsBytes strict))
+        (if-false _ _ _ (single .not-0) ∙ if-false _ _ _ (single .not-3))
+    lent-octet (o ∷ os) = ap (λ (a : Answer Fields). bind a (fieldsBytes strict))
+        (if-false _ _ _ (single .not-0) ∙ if-false _ _ _ (single .not-3))
 
     pub octet-length : (text : List ℕ) → octetLength text ≡ map length (lentBytes strict kind text lengths)
     unfolding octetBytes
@@ -54,8 +62,13 @@ module _ (strict : Bool) (lengths : List ℕ) where
       → (sum lengths ≡ length text) × (laid strict (cutPairs lengths text) ≡ gives bytes)
   pairs-accepted text bytes h = by-sum (eqb (sum lengths) (length text)) refl
     where
-      by-sum : (b : Bool) → eqb (sum lengths) (length text) ≡ b → (sum lengths ≡ length text) × (laid strict (cutPairs lengths text) ≡ gives bytes)
+      by-sum : (b : Bool) → eqb (sum lengths) (length text) ≡ b → (sum lengths ≡ length text)
+          × (laid strict (cutPairs lengths text) ≡ gives bytes)
       by-sum true t =
-          let e = eqb-true _ _ t in
-          (e, sym (pairs-laid strict (cutPairs lengths text) (pairs-some strict (cutPairs lengths text) bytes (sym (lent-pairs strict text lengths e) ∙ h))) ∙ sym (lent-pairs strict text lengths e) ∙ h)
+          let e = eqb-true _ _ t in (
+            e,
+            sym (pairs-laid strict (cutPairs lengths text)
+                (pairs-some strict (cutPairs lengths text) bytes (sym (lent-pairs strict text lengths e) ∙ h)))
+                ∙ sym (lent-pairs strict text lengths e) ∙ h,
+          )
       by-sum false t = let z : refuses 31 0 ≡ gives bytes = sym (lent-31 strict text lengths (eqb-false _ _ t)) ∙ h in zero-one (cc)

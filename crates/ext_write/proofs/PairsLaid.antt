@@ -22,7 +22,8 @@ unfolding pairsBytes
 pairs-laid strict [] h = absurd (omega arith)
 pairs-laid strict (p ∷ []) h = ap (λ (bytes : List ℕ). bind (checkPair strict p) (λ u. gives bytes)) (sym (append-nil (pairBytes false p)))
 pairs-laid strict (p ∷ p′ ∷ ps) h =
-    ap (λ (a : Answer (List ℕ)). bind (checkPair strict p) (λ u. map (λ rest. pairBytes true p ++ rest) a)) (pairs-laid strict (p′ ∷ ps) (omega arith))
+    ap (λ (a : Answer (List ℕ)). bind (checkPair strict p) (λ u. map (λ rest. pairBytes true p ++ rest) a))
+    (pairs-laid strict (p′ ∷ ps) (omega arith))
     ∙ ap
     (λ (b : Bool). bind (checkPair strict p) (λ u. map (λ rest. pairBytes b p ++ rest) (laid strict (p′ ∷ ps))))
     (sym (lt-ltb 0 (length (p′ ∷ ps)) (omega arith)))

@@ -15,8 +15,8 @@ use Rattle.ext_write.specs.Steps.{fieldsLength, checkStart, checkStep, c
 use Rattle.ext_write.specs.declared.Parameter.{Parameter}
 use Rattle.ext_write.specs.declared.PairsCheck.{PairsCheck}
 use Rattle.ext_write.specs.declared.PairsPut.{PairsPut}
-use Rattle.ext_write.proofs.Checks.{pairs-31, pairs-23, pairs-refused, pairs-accepted}
-use Rattle.ext_write.proofs.Turns.{next-of}
+use Rattle.ext_write.proofs.CheckRun.{pairs-31, pairs-23, pairs-first, pairs-size}
+use Rattle.ext_write.proofs.LoopTurns.{next-of}
 
 abbrev pub noParameter : Parameter
 noParameter = record { «identifier_len» = 0; «value_len» = 0 }
@@ -47,19 +47,21 @@ module _ (ps : List Parameter) (k : ℕ) (h : k < length ps) where
       by-test true e = lt-ltb 0 (length (drop (k + 1) ps)) (omega (arith, ltb-true (k + 1) (length ps) e, length-drop (k + 1) ps))
       by-test false e = le-ltb 0 (length (drop (k + 1) ps)) (omega (arith, ltb-false (k + 1) (length ps) e, length-drop (k + 1) ps))
 
-  pub check-next : (strict : Bool) (text : List ℕ) (s : PairsCheck)
+  pub record-checked : (strict : Bool) (text : List ℕ) (s : PairsCheck)
       → checkPairs strict text (flattened (drop (k + 1) ps)) (checkStep strict text s (here .«identifier_len») (here .«value_len»))
       ≡ checkPairs strict text (flattened (drop k ps)) s
   unfolding checkPairs
-  check-next strict text s = ap (λ (l : List Parameter). checkPairs strict text (flattened l) s) (sym (next-of ps k noParameter h))
+  record-checked strict text s = ap (λ (l : List Parameter). checkPairs strict text (flattened l) s) (sym (next-of ps k noParameter h))
 
-  pub put-next : (text out : List ℕ) (s : PairsPut)
-      → putPairs text (flattened (drop (k + 1) ps)) (putOutput text out s (here .«identifier_len») (here .«value_len») (ltb (k + 1) (length ps)))
+  pub record-put : (text out : List ℕ) (s : PairsPut)
+      → putPairs text (flattened (drop (k + 1) ps))
+      (putOutput text out s (here .«identifier_len») (here .«value_len») (ltb (k + 1) (length ps)))
       (putStep text out s (here .«identifier_len») (here .«value_len»))
       ≡ putPairs text (flattened (drop k ps)) out s
   unfolding putPairs
-  put-next text out s =
-      ap (λ (more : Bool). putPairs text (flattened (drop (k + 1) ps)) (putOutput text out s (here .«identifier_len») (here .«value_len») more)
+  record-put text out s =
+      ap (λ (more : Bool). putPairs text (flattened (drop (k + 1) ps))
+      (putOutput text out s (here .«identifier_len») (here .«value_len») more)
       (putStep text out s (here .«identifier_len») (here .«value_len»))) (sym follows)
       ∙ ap (λ (l : List Parameter). putPairs text (flattened l) out s) (sym (next-of ps k noParameter h))
 
@@ -82,9 +84,10 @@ module _ (strict : Bool) (text lengths : List ℕ) (s : PairsCheck) (q : s ≡ c
       by-code : s .at ≡ length text → 0 < length lengths → (b : Bool) → eqb (s .code) 0 ≡ b
           → fieldsLength (pairsLength (length text) (length lengths) s) ≡ map length (lentBytes strict 3 text lengths)
       by-code e n true t =
-          rw (eq-eqb _ _ e, ne-eqb (length lengths) 0 (λ z. omega arith), t) (sym (pairs-accepted strict text lengths s q e n (eqb-true _ _ t)))
+          rw (eq-eqb _ _ e, ne-eqb (length lengths) 0 (λ z. omega arith), t) (sym (pairs-size strict text lengths s q e n (eqb-true _ _ t)))
       by-code e n false t =
-          rw (eq-eqb _ _ e, ne-eqb (length lengths) 0 (λ z. omega arith), t) (sym (ap (map length) (pairs-refused strict text lengths s q e n (eqb-false _ _ t))))
+          rw (eq-eqb _ _ e, ne-eqb (length lengths) 0 (λ z. omega arith), t)
+          (sym (ap (map length) (pairs-first strict text lengths s q e n (eqb-false _ _ t))))
 
       by-number : s .at ≡ length text → (b : Bool) → eqb (length lengths) 0 ≡ b
           → fieldsLength (pairsLength (length text) (length lengths) s) ≡ map length (lentBytes strict 3 text lengths)
@@ -98,7 +101,8 @@ module _ (strict : Bool) (text lengths : List ℕ) (s : PairsCheck) (q : s ≡ c
           ap fieldsLength (if-false _ _ _ t) ∙ sym (ap (map length) (pairs-31 strict text lengths s q (eqb-false _ _ t)))
 
 -- the same over the records, whose lengths are two each
-pub records-found : (strict : Bool) (text : List ℕ) (ps : List Parameter) (s : PairsCheck) → s ≡ checkPairs strict text (flattened ps) checkStart
+pub records-found : (strict : Bool) (text : List ℕ) (ps : List Parameter) (s : PairsCheck)
+    → s ≡ checkPairs strict text (flattened ps) checkStart
     → fieldsLength (pairsLength (length text) (length ps * 2) s) ≡ map length (lentBytes strict 3 text (flattened ps))
 records-found strict text ps s q =
     ap (λ (m : ℕ). fieldsLength (pairsLength (length text) m s)) (sym (flat-long ps)) ∙ pairs-found strict text (flattened ps) s q

@@ -51,7 +51,8 @@ octet-some [] h = absurd (h refl)
 octet-some (o ∷ os) h = refl
 
 -- the first octet with bit 7 is refused
-pub octets-bad : (s : List ℕ) (i : ℕ) → i < length s → ((k : ℕ) → k < i → getD s k 0 < 128) → 128 ≤ getD s i 0 → octetsBytes s ≡ refuses 24 0
+pub octets-bad : (s : List ℕ) (i : ℕ) → i < length s → ((k : ℕ) → k < i → getD s k 0 < 128) → 128 ≤ getD s i 0
+    → octetsBytes s ≡ refuses 24 0
 unfolding octetsBytes
 octets-bad [] i h k b = absurd (omega arith)
 octets-bad (o ∷ []) zero h k b = if-false _ _ _ (le-ltb o 128 b)
@@ -97,15 +98,16 @@ pub record Putting (text old out : List ℕ) (i : ℕ) : Type 0 where
   pub rest : sets old 0 (continued text) ≡ sets out i (continued (drop i text))
 
 module _ (text old out : List ℕ) (i : ℕ) (c : Putting text old out i) where
-  pub put-goes : (byte : ℕ) → i < length text → byte ≡ if (ltb (i + 1) (length text)) 128 0 + getD text i 0 → Putting text old (set out i byte) (i + 1)
+  pub octet-put : (byte : ℕ) → i < length text → byte ≡ if (ltb (i + 1) (length text)) 128 0 + getD text i 0
+      → Putting text old (set out i byte) (i + 1)
   unfolding continued
-  put-goes byte h e =
+  octet-put byte h e =
       record {
         within = omega arith;
         same = length-set out i byte ∙ c .same;
         rest = c .rest ∙ rw (drop-at text i h, left-more text (i + 1), sym e, add-one i) refl;
       }
 
-  pub put-ends : length text ≤ i → out ≡ sets old 0 (continued text)
+  pub octets-put : length text ≤ i → out ≡ sets old 0 (continued text)
   unfolding continued
-  put-ends h = sym (c .rest ∙ rw (drop-of-length-le text h) refl)
+  octets-put h = sym (c .rest ∙ rw (drop-of-length-le text h) refl)

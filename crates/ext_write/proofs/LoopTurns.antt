@@ -1,6 +1,7 @@
 -- What the walks by hand share. It says nothing of the crate, and can be copied as it stands.
 --     by-measure   the order of a loop whose states are measured by a number
---     tests        the test of a `while`: the turn goes on where it holds, and leaves the loop where it fails. Each side knows how the test came out
+--     tests        the test of a `while`: the turn goes on where it holds, and leaves the loop where it fails. Each side knows how the test
+--     came out
 --     next-of      the list from the k-th element on is that element, and the list from the one after it on
 -- Assumes `Given`.
 use mathlib.Core.Path.{_≡_, _∙_, ap}
@@ -31,7 +32,10 @@ one-more k = omega arith
 pub next-of : {X : Type 0} (l : List X) (k : ℕ) (d : X) → k < length l → drop k l ≡ getD l k d ∷ drop (k + 1) l
 next-of l k d h = drop-cons l k d h ∙ ap (λ j. getD l k d ∷ drop j l) (one-more k)
 
-module _ {M : Type 1} {𝓤 : URA M} {H : Heap 𝓤} {A : Atoms 𝓤} {K : Type 0} {W : Given 𝓤 H A} {Γ : List (Item 𝓤)} {E : Env 𝓤 H} {C : Calls 𝓤 H} {Λ : Loops 𝓤 H} {q : Post 𝓤 H} where
-  pub tests : K → {c : Operand} {n : ℕ} {b : Body} {y : Bool} → Opd K W Γ E c (vbool y) → (Holds y → Seq K W Γ (runs C Λ E b q)) → (Holds (not y) → Seq K W Γ (prop (post 𝓤 H q (exits n))))
+module _ {M : Type 1} {𝓤 : URA M} {H : Heap 𝓤} {A : Atoms 𝓤} {K : Type 0} {W : Given 𝓤 H A} {Γ : List (Item 𝓤)} {E : Env 𝓤 H}
+    {C : Calls 𝓤 H} {Λ : Loops 𝓤 H} {q : Post 𝓤 H} where
+  pub tests : K → {c : Operand} {n : ℕ} {b : Body} {y : Bool} → Opd K W Γ E c (vbool y) → (Holds y → Seq K W Γ (runs C Λ E b q))
+      → (Holds (not y) → Seq K W Γ (prop (post 𝓤 H q (exits n))))
       → Seq K W Γ (runs C Λ E (seq (cond c skip (exit n)) b) q)
-  tests t o held failed = first t $ branches t o (λ y. skips t $ record { prf = held y .prf }) (λ z. jumps t $ record { prf = failed z .prf })
+  tests t o held failed = first t $ branches t o (λ y. skips t $ record { prf = held y .prf })
+      (λ z. jumps t $ record { prf = failed z .prf })

@@ -14,7 +14,9 @@ use Rattle.laws.proofs.Answers.{map-gives}
 use Rattle.laws.proofs.Tests.{zero-one}
 use Rattle.ext.specs.Classes.{isChar, isAlphaDigit, inClass}
 use Rattle.ext.specs.Read.{PairAt, readPair, classed}
-use Rattle.ext.specs.Pairwise.{pairStep}
+use Rattle.ext.specs.Kinds.{pairHeader}
+use Rattle.ext.specs.Pairwise.{pairStep, pairBehind}
+use Rattle.ext.specs.declared.PairHeader.{PairHeader}
 
 -- the lengths in a pair's header byte
 abbrev pub identifierSize : ℕ → ℕ
@@ -31,17 +33,28 @@ wholePair s at =
     let e = b + valueSize h in
     record { pair = record { identifier = slice (at + 1) b s; value = slice b e s }; more = leb 128 h; end = e }
 
-pub pair-whole : (strict : Bool) (s : List ℕ) (at : ℕ)
-    → (identifierSize (getD s at 0) ≡ 0 → ⊥) → (valueSize (getD s at 0) ≡ 0 → ⊥) → wholePair s at .end ≤ length s
-    → readPair strict s at ≡ classed strict (wholePair s at)
-unfolding readPair
-pair-whole strict s at i v h =
-    simp (
-      ne-eqb (identifierSize (getD s at 0)) 0 i,
-      ne-eqb (valueSize (getD s at 0)) 0 v,
-      le-ltb (length s) (at + 1 + identifierSize (getD s at 0)) (omega arith),
-      le-ltb (length s) (wholePair s at .end) h,
-    )
+-- the same behind a header byte that was taken apart
+pub read-behind : (strict : Bool) (s : List ℕ) (at : ℕ) → pairBehind strict s (at + 1) (pairHeader (getD s at 0)) ≡ readPair strict s at
+unfolding pairBehind readPair
+read-behind strict s at = refl
+
+module _ (s : List ℕ) (a : ℕ) (h : PairHeader) where
+  abbrev pub wholeBehind : PairAt
+  wholeBehind =
+      let b = a + h .«identifier_len» in
+      let e = b + h .«value_len» in
+      record { pair = record { identifier = slice a b s; value = slice b e s }; more = h .more; end = e }
+
+  pub behind-whole : (strict : Bool) → (h .«identifier_len» ≡ 0 → ⊥) → (h .«value_len» ≡ 0 → ⊥) → wholeBehind .end ≤ length s
+      → pairBehind strict s a h ≡ classed strict wholeBehind
+  unfolding pairBehind
+  behind-whole strict i v l =
+      simp (
+        ne-eqb (h .«identifier_len») 0 i,
+        ne-eqb (h .«value_len») 0 v,
+        le-ltb (length s) (a + h .«identifier_len») (omega arith),
+        le-ltb (length s) (wholeBehind .end) l,
+      )
 
 -- a pair of a file s, whose header byte h stands at `at`
 pub record PairIn (s : List ℕ) (h at : ℕ) (p : PairAt) : Type 0 where

@@ -17,8 +17,8 @@ use Rattle.ext.specs.Read.{PairAt, classed, pairParts, readPair, readPairs}
 use Rattle.ext_write.specs.Write.{pairBytes}
 use Rattle.ext.specs.Find.{pairSize}
 use Rattle.ext_write.specs.Ceiling.{StartsBelow}
-use Rattle.ext_write.proofs.CheckPair.{Passed, passed}
-use Rattle.ext_write.proofs.Laid.{laid, laid-cons}
+use Rattle.ext_write.proofs.PairVerdict.{PairPassed, pair-passed}
+use Rattle.ext_write.proofs.PairsLaid.{laid, laid-cons}
 
 -- the middle of three lists
 slice-mid : (x y z : List ℕ) (a b : ℕ) → a ≡ length x → b ≡ length x + length y → slice a b (x ++ (y ++ z)) ≡ y
@@ -41,7 +41,8 @@ header-more true i v h k = le-leb 128 (128 + i * 16 + v) (omega arith)
 header-more false i v h k = lt-leb 128 (0 + i * 16 + v) (omega arith)
 
 -- reading may be less strict than writing was
-eased : (strict strict′ : Bool) (c : ℕ → Bool) (s : List ℕ) → (strict′ ≡ true → strict ≡ true) → inClass strict c s ≡ true → inClass strict′ c s ≡ true
+eased : (strict strict′ : Bool) (c : ℕ → Bool) (s : List ℕ) → (strict′ ≡ true → strict ≡ true) → inClass strict c s ≡ true
+    → inClass strict′ c s ≡ true
 eased strict true c s h e = ap (λ (b : Bool). inClass b c s) (sym (h refl)) ∙ e
 eased strict false c s h e = refl
 
@@ -55,7 +56,8 @@ abbrev backAt : Pair → Bool → List ℕ → PairAt
 backAt p more q = record { pair = p; more = more; end = length q + 1 + length (p .identifier) + length (p .value) }
 
 -- one pair, after a prefix and before the rest
-module _ (strict strict′ : Bool) (ease : strict′ ≡ true → strict ≡ true) (p : Pair) (ok : Passed strict p) (more : Bool) (q z : List ℕ) where
+module _ (strict strict′ : Bool) (ease : strict′ ≡ true → strict ≡ true) (p : Pair) (ok : PairPassed strict p) (more : Bool)
+    (q z : List ℕ) where
   abbrev file : List ℕ
   file = q ++ (pairBytes more p ++ z)
 
@@ -65,7 +67,8 @@ module _ (strict strict′ : Bool) (ease : strict′ ≡ true → strict ≡ tru
       (arith, length-append q (pairBytes more p ++ z), length-append (pairBytes more p) z, length-append (p .identifier) (p .value))
 
   file-flat : file ≡ q ++ (header more (length (p .identifier)) (length (p .value)) ∷ (p .identifier ++ (p .value ++ z)))
-  file-flat = ap (λ (w : List ℕ). q ++ (header more (length (p .identifier)) (length (p .value)) ∷ w)) (append-assoc (p .identifier) (p .value) z)
+  file-flat = ap (λ (w : List ℕ). q ++ (header more (length (p .identifier)) (length (p .value)) ∷ w))
+      (append-assoc (p .identifier) (p .value) z)
 
   identifier-back : slice (length q + 1) (length q + 1 + length (p .identifier)) file ≡ p .identifier
   identifier-back =
@@ -83,7 +86,8 @@ module _ (strict strict′ : Bool) (ease : strict′ ≡ true → strict ≡ tru
       ap
       (slice (length q + 1 + length (p .identifier)) (length q + 1 + length (p .identifier) + length (p .value)))
       (file-flat ∙ sym (append-assoc q (header more (length (p .identifier)) (length (p .value)) ∷ p .identifier) (p .value ++ z)))
-      ∙ slice-mid x (p .value) z (length q + 1 + length (p .identifier)) (length q + 1 + length (p .identifier) + length (p .value)) (omega arith) (omega arith)
+      ∙ slice-mid x (p .value) z (length q + 1 + length (p .identifier)) (length q + 1 + length (p .identifier) + length (p .value))
+      (omega arith) (omega arith)
 
   header-back : getD file (length q) 0 ≡ header more (length (p .identifier)) (length (p .value))
   header-back = getD-append-seam q (header more (length (p .identifier)) (length (p .value))) (p .identifier ++ p .value ++ z) 0
@@ -93,7 +97,8 @@ module _ (strict strict′ : Bool) (ease : strict′ ≡ true → strict ≡ tru
       if-true _ _ _ (eased strict strict′ isChar (p .identifier) ease (ok .identifier-class))
       ∙ if-true _ _ _ (eased strict strict′ isAlphaDigit (p .value) ease (ok .value-class))
 
-  parts-back : pairParts strict′ file more (length q + 1) (length q + 1 + length (p .identifier)) (length q + 1 + length (p .identifier) + length (p .value)) ≡ gives (backAt p more q)
+  parts-back : pairParts strict′ file more (length q + 1) (length q + 1 + length (p .identifier))
+      (length q + 1 + length (p .identifier) + length (p .value)) ≡ gives (backAt p more q)
   parts-back =
       if-false _ _ _ (le-ltb (length file) (length q + 1 + length (p .identifier)) (omega (arith, file-length)))
       ∙ if-false _ _ _ (le-ltb (length file) (length q + 1 + length (p .identifier) + length (p .value)) (omega (arith, file-length)))
@@ -117,7 +122,8 @@ abbrev followed : ℕ → Bool → List ℕ → ℕ → PairAt → Bool → Answ
 followed most strict s start r more =
     elim more [ true ↦ map (λ x. (r .pair ∷ x .0, x .1)) (readPairs most strict s start (r .end)) | false ↦ gives (r .pair ∷ [], r .end) ]
 
-pairs-in : (most : ℕ) (strict : Bool) (s : List ℕ) (start at : ℕ) (r : PairAt) → at < length s → at < start + 4096 → readPair strict s at ≡ gives r
+pairs-in : (most : ℕ) (strict : Bool) (s : List ℕ) (start at : ℕ) (r : PairAt) → at < length s → at < start + 4096
+    → readPair strict s at ≡ gives r
     → readPairs (suc most) strict s start at ≡ followed most strict s start r (r .more)
 unfolding readPairs
 pairs-in most strict s start at r h k e =
@@ -141,7 +147,8 @@ pairs-in most strict s start at r h k e =
 
 module _ (strict strict′ : Bool) (ease : strict′ ≡ true → strict ≡ true) (s : List ℕ) (start : ℕ) where
   -- a first pair after a prefix q, `past` past the start
-  first-back : (p : Pair) (more : Bool) (q z : List ℕ) (past most : ℕ) → Passed strict p → s ≡ q ++ (pairBytes more p ++ z) → length q ≡ start + past → past < 4096
+  first-back : (p : Pair) (more : Bool) (q z : List ℕ) (past most : ℕ) → PairPassed strict p → s ≡ q ++ (pairBytes more p ++ z)
+      → length q ≡ start + past → past < 4096
       → readPairs (suc most) strict′ s start (length q) ≡ followed most strict′ s start (backAt p more q) more
   first-back p more q z past most ok e n h =
       let f = file-length strict strict′ ease p ok more q z in
@@ -149,29 +156,34 @@ module _ (strict strict′ : Bool) (ease : strict′ ≡ true → strict ≡ tru
       pairs-in most strict′ s start (length q) (backAt p more q) (omega arith) (omega arith)
       (ap (λ (w : List ℕ). readPair strict′ w (length q)) e ∙ pair-back strict strict′ ease p ok more q z)
 
-  pub pairs-back : (ps : List Pair) (bytes q τ : List ℕ) (past most : ℕ) → 0 < length ps → laid strict ps ≡ gives bytes → s ≡ q ++ (bytes ++ τ) → length q ≡ start + past
+  pub pairs-back : (ps : List Pair) (bytes q τ : List ℕ) (past most : ℕ) → 0 < length ps → laid strict ps ≡ gives bytes
+      → s ≡ q ++ (bytes ++ τ) → length q ≡ start + past
       → StartsBelow past ps → length ps ≤ most → readPairs most strict′ s start (length q) ≡ gives (ps, length q + length bytes)
   pairs-back [] bytes q τ past most some e f n b h = absurd (omega arith)
   pairs-back (p ∷ ps) bytes q τ past zero some e f n b h = absurd (omega arith)
   pairs-back (p ∷ []) bytes q τ past (suc most) some e f n b h =
       let k = laid-cons strict p [] bytes e in
       let r : k .rest ≡ [] = cc (k .rest-is) in
-      let g : s ≡ q ++ (pairBytes false p ++ (k .rest ++ τ)) = f ∙ ap (λ (w : List ℕ). q ++ (w ++ τ)) (k .bytes-are) ∙ ap (λ (w : List ℕ). q ++ w) (append-assoc (pairBytes false p) (k .rest) τ) in
+      let g : s ≡ q ++ (pairBytes false p ++ (k .rest ++ τ)) = f ∙ ap (λ (w : List ℕ). q ++ (w ++ τ)) (k .bytes-are)
+      ∙ ap (λ (w : List ℕ). q ++ w) (append-assoc (pairBytes false p) (k .rest) τ) in
       let l : length bytes ≡ suc (length ((p .identifier ++ p .value) ++ k .rest)) = ap length (k .bytes-are) in
       let z : length (k .rest) ≡ 0 = ap length r in
       let m : length q + 1 + length (p .identifier) + length (p .value) ≡ length q + length bytes
       = omega (arith, length-append (p .identifier ++ p .value) (k .rest), length-append (p .identifier) (p .value)) in
-      first-back p false q (k .rest ++ τ) past most (passed strict p (k .accepts)) g n (b .0) ∙ ap (λ (end : ℕ). gives (p ∷ [], end)) m
+      first-back p false q (k .rest ++ τ) past most (pair-passed strict p (k .accepts)) g n (b .0) ∙ ap (λ (end : ℕ). gives (p ∷ [], end)) m
   pairs-back (p ∷ p′ ∷ ps) bytes q τ past (suc most) some e f n b h =
       let k = laid-cons strict p (p′ ∷ ps) bytes e in
       let y : bytes ≡ pairBytes true p ++ k .rest
       = k .bytes-are ∙ ap (λ (more : Bool). pairBytes more p ++ k .rest) (lt-ltb 0 (length (p′ ∷ ps)) (omega arith)) in
-      let g : s ≡ q ++ (pairBytes true p ++ (k .rest ++ τ)) = f ∙ ap (λ (w : List ℕ). q ++ (w ++ τ)) y ∙ ap (λ (w : List ℕ). q ++ w) (append-assoc (pairBytes true p) (k .rest) τ) in
+      let g : s ≡ q ++ (pairBytes true p ++ (k .rest ++ τ)) = f ∙ ap (λ (w : List ℕ). q ++ (w ++ τ)) y
+      ∙ ap (λ (w : List ℕ). q ++ w) (append-assoc (pairBytes true p) (k .rest) τ) in
       let l : length bytes ≡ suc (length ((p .identifier ++ p .value) ++ k .rest)) = ap length y in
       let c : length (q ++ pairBytes true p) ≡ length q + suc (length (p .identifier ++ p .value)) = length-append q (pairBytes true p) in
-      let m : length q + 1 + length (p .identifier) + length (p .value) ≡ length (q ++ pairBytes true p) = omega (arith, length-append (p .identifier) (p .value)) in
-      let o : length (q ++ pairBytes true p) + length (k .rest) ≡ length q + length bytes = omega (arith, length-append (p .identifier ++ p .value) (k .rest)) in
-      first-back p true q (k .rest ++ τ) past most (passed strict p (k .accepts)) g n (b .0)
+      let m : length q + 1 + length (p .identifier) + length (p .value) ≡ length (q ++ pairBytes true p) =
+      omega (arith, length-append (p .identifier) (p .value)) in
+      let o : length (q ++ pairBytes true p) + length (k .rest) ≡ length q + length bytes =
+      omega (arith, length-append (p .identifier ++ p .value) (k .rest)) in
+      first-back p true q (k .rest ++ τ) past most (pair-passed strict p (k .accepts)) g n (b .0)
       ∙ ap (λ (end : ℕ). map (λ (x : List Pair × ℕ). (p ∷ x .0, x .1)) (readPairs most strict′ s start end)) m
       ∙ ap
       (map (λ (x : List Pair × ℕ). (p ∷ x .0, x .1)))

@@ -18,8 +18,8 @@ use Rattle.ext.specs.Kinds.{Pair, Fields}
 use Rattle.ext_write.specs.Write.{checkPair, pairBytes, pairsBytes, cutPairs, sum, lentFields, lentBytes, fieldsBytes}
 use Rattle.ext_write.specs.Steps.{lentPair, codeOf, startAfter, checkStart, checkStep, checkPairs}
 use Rattle.ext_write.specs.declared.PairsCheck.{PairsCheck}
-use Rattle.ext_write.proofs.CheckPair.{Verdict, verdict, passed}
-use Rattle.ext_write.proofs.Laid.{laid, pairs-laid, laid-cons}
+use Rattle.ext_write.proofs.PairVerdict.{Verdict, verdict, pair-passed}
+use Rattle.ext_write.proofs.PairsLaid.{laid, pairs-laid, laid-cons}
 
 module _ (strict : Bool) where
   -- the first refusal's number, after a number so far
@@ -49,7 +49,8 @@ module _ (strict : Bool) where
           record { accepted = λ z. absurd (v .0 (sym e ∙ z)); refused = λ n. (cc) }
 
 -- pairs cut from a text, by their first two lengths
-pub cut-cons : (text ls : List ℕ) (at i v : ℕ) → cutPairs (i ∷ v ∷ ls) (drop at text) ≡ lentPair text at i v ∷ cutPairs ls (drop (at + i + v) text)
+pub cut-cons : (text ls : List ℕ) (at i v : ℕ) → cutPairs (i ∷ v ∷ ls) (drop at text) ≡ lentPair text at i v
+    ∷ cutPairs ls (drop (at + i + v) text)
 unfolding cutPairs
 cut-cons text ls at i v =
     let e : at + (i + v) ≡ at + i + v = omega arith in
@@ -78,10 +79,14 @@ module _ (strict : Bool) (text : List ℕ) where
   -- a check that has come to the end of the text
   abbrev ended : PairsCheck → List ℕ → PairsCheck
   ended s lengths =
-      record { at = length text; start = startsAfter (s .start) lengths; code = firstCode strict (s .code) (cutPairs lengths (drop (s .at) text)) }
+      record {
+        at = length text;
+        start = startsAfter (s .start) lengths;
+        code = firstCode strict (s .code) (cutPairs lengths (drop (s .at) text));
+      }
 
   -- what one step comes to
-  data Stepped (s : PairsCheck) (i v : ℕ) : Type 0 where
+  data CheckStepped (s : PairsCheck) (i v : ℕ) : Type 0 where
     inside : s .at + i + v ≤ length text
         → checkStep strict text s i v
         ≡ record {
@@ -89,14 +94,15 @@ module _ (strict : Bool) (text : List ℕ) where
           start = startAfter (s .start) i v;
           code = if (eqb (s .code) 0) (codeOf (checkPair strict (lentPair text (s .at) i v))) (s .code);
         }
-        → Stepped s i v
-    past : checkStep strict text s i v ≡ record { at = s .at; start = s .start; code = 31 } → length text < s .at + i + v → Stepped s i v
+        → CheckStepped s i v
+    past : checkStep strict text s i v ≡ record { at = s .at; start = s .start; code = 31 } → length text < s .at + i + v
+        → CheckStepped s i v
 
-  stepped : (s : PairsCheck) (i v : ℕ) → Stepped s i v
+  stepped : (s : PairsCheck) (i v : ℕ) → CheckStepped s i v
   unfolding checkStep
   stepped s i v = by-test (leb (s .at + i + v) (length text)) refl
     where
-      by-test : (b : Bool) → leb (s .at + i + v) (length text) ≡ b → Stepped s i v
+      by-test : (b : Bool) → leb (s .at + i + v) (length text) ≡ b → CheckStepped s i v
       by-test true e = inside (leb-true _ _ e) (if-true _ _ _ e)
       by-test false e = past (if-false _ _ _ e) (leb-false _ _ e)
 
@@ -107,25 +113,33 @@ module _ (strict : Bool) (text : List ℕ) where
   walk-in [] s h = let e : s .at ≡ length text = omega arith in ap (λ (n : ℕ). record { at = n; start = s .start; code = s .code }) e
   walk-in (i ∷ []) s h = by-step (stepped s i 0)
     where
-      by-step : Stepped s i 0 → checkStep strict text s i 0 ≡ ended s (i ∷ [])
+      by-step : CheckStepped s i 0 → checkStep strict text s i 0 ≡ ended s (i ∷ [])
       by-step (inside l e) =
           let f : s .at + i + 0 ≡ length text = omega arith in
-          e ∙ ap (λ (n : ℕ). record { at = n; start = startAfter (s .start) i 0; code = firstCode strict (s .code) (lentPair text (s .at) i 0 ∷ []) }) f
+          e ∙ ap (λ (n : ℕ). record {
+            at = n;
+            start = startAfter (s .start) i 0;
+            code = firstCode strict (s .code) (lentPair text (s .at) i 0 ∷ []);
+          }) f
       by-step (past e l) = absurd (omega arith)
   walk-in (i ∷ v ∷ ls) s h = by-step (stepped s i v) (λ s′ k. walk-in ls s′ k)
     where
-      by-step : Stepped s i v
+      by-step : CheckStepped s i v
           → ((s′ : PairsCheck) → s′ .at + sum ls ≡ length text → checkPairs strict text ls s′ ≡ ended s′ ls)
           → checkPairs strict text ls (checkStep strict text s i v) ≡ ended s (i ∷ v ∷ ls)
       by-step (inside l e) walk =
           ap (checkPairs strict text ls) e
           ∙ walk _ (omega arith)
-          ∙ ap (λ (ps : List Pair). record { at = length text; start = startsAfter (startAfter (s .start) i v) ls; code = firstCode strict (s .code) ps })
+          ∙ ap (λ (ps : List Pair). record {
+            at = length text;
+            start = startsAfter (startAfter (s .start) i v) ls;
+            code = firstCode strict (s .code) ps;
+          })
           (sym (cut-cons text ls (s .at) i v))
       by-step (past e l) walk = absurd (omega arith)
 
   -- a pair past the text stays refused
-  past-step : (s : PairsCheck) (i v : ℕ) → Stepped s i v → s .code ≡ 31 → checkStep strict text s i v .code ≡ 31
+  past-step : (s : PairsCheck) (i v : ℕ) → CheckStepped s i v → s .code ≡ 31 → checkStep strict text s i v .code ≡ 31
   past-step s i v (inside l e) h =
       ap (λ (r : PairsCheck). r .code) e
       ∙ if-false _ _ _ (ne-eqb (s .code) 0 (λ z. omega arith))
@@ -145,12 +159,12 @@ module _ (strict : Bool) (text : List ℕ) where
   walk-out [] s h = inl (omega arith)
   walk-out (i ∷ []) s h = by-step (stepped s i 0)
     where
-      by-step : Stepped s i 0 → (s .at + (i + 0) ≡ length text) ⊎ (checkStep strict text s i 0 .code ≡ 31)
+      by-step : CheckStepped s i 0 → (s .at + (i + 0) ≡ length text) ⊎ (checkStep strict text s i 0 .code ≡ 31)
       by-step (inside l e) = let f = ap (λ (r : PairsCheck). r .at) e in inl (omega arith)
       by-step (past e l) = inr (ap (λ (r : PairsCheck). r .code) e)
   walk-out (i ∷ v ∷ ls) s h = by-step (stepped s i v) (walk-out ls (checkStep strict text s i v) h)
     where
-      by-step : Stepped s i v
+      by-step : CheckStepped s i v
           → (checkStep strict text s i v .at + sum ls ≡ length text) ⊎ (checkPairs strict text ls (checkStep strict text s i v) .code ≡ 31)
           → (s .at + (i + (v + sum ls)) ≡ length text) ⊎ (checkPairs strict text ls (checkStep strict text s i v) .code ≡ 31)
       by-step (inside l e) (inl k) = let f = ap (λ (r : PairsCheck). r .at) e in inl (omega arith)
@@ -158,17 +172,20 @@ module _ (strict : Bool) (text : List ℕ) where
       by-step (past e l) k = inr (past-stays ls (checkStep strict text s i v) (ap (λ (r : PairsCheck). r .code) e))
 
 -- the length of accepted pairs: each has a header byte more
-pub laid-length : (strict : Bool) (lengths text bytes : List ℕ) → laid strict (cutPairs lengths text) ≡ gives bytes → sum lengths ≤ length text
+pub laid-length : (strict : Bool) (lengths text bytes : List ℕ) → laid strict (cutPairs lengths text) ≡ gives bytes
+    → sum lengths ≤ length text
     → length bytes ≡ sum lengths + length lengths / 2
 unfolding cutPairs sum
 laid-length strict [] text bytes e h = let f : bytes ≡ [] = cc in ap length f
 laid-length strict (i ∷ []) text bytes e h =
     let p : Pair = record { identifier = take i text; value = [] } in
     let k = laid-cons strict p [] bytes e in
-    absurd (omega (arith, passed strict p (k .accepts) .value-some))
+    absurd (omega (arith, pair-passed strict p (k .accepts) .value-some))
 laid-length strict (i ∷ v ∷ ls) text bytes e h =
-    let k = laid-cons strict (record { identifier = take i text; value = take v (drop i text) }) (cutPairs ls (drop (i + v) text)) bytes e in
-    let r : length (k .rest) ≡ sum ls + length ls / 2 = laid-length strict ls (drop (i + v) text) (k .rest) (k .rest-is) (omega (arith, length-drop (i + v) text)) in
+    let k = laid-cons strict (record { identifier = take i text; value = take v (drop i text) })
+    (cutPairs ls (drop (i + v) text)) bytes e in
+    let r : length (k .rest) ≡ sum ls + length ls / 2 = laid-length strict ls (drop (i + v) text) (k .rest) (k .rest-is)
+    (omega (arith, length-drop (i + v) text)) in
     let a : length (take i text) ≡ i = length-take-le i text (omega arith) in
     let b : length (take v (drop i text)) ≡ v = length-part v i text (omega arith) in
     let f : length bytes ≡ suc (length ((take i text ++ take v (drop i text)) ++ k .rest)) = ap length (k .bytes-are) in
@@ -216,20 +233,22 @@ module _ (strict : Bool) (text lengths : List ℕ) (s : PairsCheck) (q : s ≡ c
 
     settled : sum lengths ≡ length text → Answered strict (laid strict (cutPairs lengths text)) (s .code)
     settled h =
-        subst (Answered strict (laid strict (cutPairs lengths text))) (sym (ap (λ (r : PairsCheck). r .code) (ran-in h))) (answered strict (cutPairs lengths text))
+        subst (Answered strict (laid strict (cutPairs lengths text))) (sym (ap (λ (r : PairsCheck). r .code) (ran-in h)))
+        (answered strict (cutPairs lengths text))
 
-    pub pairs-refused : (s .code ≡ 0 → ⊥) → lentBytes strict 3 text lengths ≡ refuses (s .code) 0
-    pairs-refused n = by-sum (eqb (sum lengths) (length text)) refl
+    pub pairs-first : (s .code ≡ 0 → ⊥) → lentBytes strict 3 text lengths ≡ refuses (s .code) 0
+    pairs-first n = by-sum (eqb (sum lengths) (length text)) refl
       where
         by-sum : (b : Bool) → eqb (sum lengths) (length text) ≡ b → lentBytes strict 3 text lengths ≡ refuses (s .code) 0
         by-sum true t = lent-laid strict text lengths (eqb-true _ _ t) some ∙ settled (eqb-true _ _ t) .refused n
         by-sum false t =
             lent-31 strict text lengths (eqb-false _ _ t) ∙ ap (λ (code : ℕ). refuses code 0) (sym (ran-past (eqb-false _ _ t)))
 
-    pub pairs-accepted : s .code ≡ 0 → map length (lentBytes strict 3 text lengths) ≡ gives (length text + length lengths / 2)
-    pairs-accepted z = by-sum (eqb (sum lengths) (length text)) refl
+    pub pairs-size : s .code ≡ 0 → map length (lentBytes strict 3 text lengths) ≡ gives (length text + length lengths / 2)
+    pairs-size z = by-sum (eqb (sum lengths) (length text)) refl
       where
-        by-sum : (b : Bool) → eqb (sum lengths) (length text) ≡ b → map length (lentBytes strict 3 text lengths) ≡ gives (length text + length lengths / 2)
+        by-sum : (b : Bool) → eqb (sum lengths) (length text) ≡ b → map length (lentBytes strict 3 text lengths)
+            ≡ gives (length text + length lengths / 2)
         by-sum true t =
             let h = eqb-true _ _ t in
             let a = settled h .accepted z in
