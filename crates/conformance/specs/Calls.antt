@@ -21,7 +21,7 @@ use Rattle.conformance.specs.declared.CardMade.{CardMade}
 use Rattle.conformance.specs.declared.CardRead.{CardRead}
 
 -- The work buffer after so many samples, from the first on: it ends with the numbers that the running machine keeps, from those found; it
--- is as before under a rule that keeps no carries, and behind 2 × width. `corner` counts inside a row only.
+-- is as before under a rule that keeps no carries, and behind the first width. `corner` counts inside a row only.
 pub record KeepsWork (a : Making.Opening) (samples : List ℕ) (taken : ℕ) (work work′ : List ℤ) : Type 0 where
   pub corner : ℤ
   pub kept : work′
