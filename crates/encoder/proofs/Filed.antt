@@ -3,7 +3,7 @@ use Prim.Native.Nat.{ℕ, _+_, _-_, _*_, _≤_}
 use mathlib.Core.Path.{_≡_, refl, sym, ap, _∙_, subst}
 use mathlib.Core.List.{List, _++_}
 use native.Mathlib.Omega.{arith}
-use borrow.Rule.Slice.PartMut.{midOf, putMid, mid-len}
+use borrow.Rule.Slice.PartMut.{midOf, putMid}
 use lib.ListN.{length, drop}
 use Rattle.error.specs.Answer.{Answer, gives, refuses, bind, written}
 use Rattle.error.specs.Emits.{Emits}
@@ -36,11 +36,6 @@ module _ (o : EncodeOptions) (w h : ℕ) (text lengths old : List ℕ) where
     resized : {r : Answer ℕ} {mid : List ℕ} → Heads header size r old mid → Heads header (length body) r old mid
     resized {r} {mid} c = subst (λ (k : ℕ). Heads header k r old mid) long c
 
-    pub lent-room : (start : ℕ) (mid : List ℕ) → Heads header size (gives start) old mid → length body ≤ length (midOf start (length mid - start) mid)
-    lent-room start mid c =
-        let p = start-room size start mid c in
-        rw (mid-len start (length mid) mid (omega arith)) (omega arith)
-
     pub filed : (start : ℕ) (mid last : List ℕ) → Heads header size (gives start) old mid
         → last ≡ body ++ drop (length body) (midOf start (length mid - start) mid)
         → Emits (fileOf o w h text lengths body) (gives (start + size)) old (putMid start (length mid - start) mid last)
@@ -60,10 +55,6 @@ module _ (o : EncodeOptions) (w h : ℕ) (text lengths old : List ℕ) where
 
     long : n * plane ≡ length body
     long = ap (λ (k : ℕ). n * k) laid ∙ sym (planes-length f w h s planes n)
-
-    pub planes-room : (start : ℕ) (mid : List ℕ) → Heads header (n * plane) (gives start) old mid
-        → n * planeBytes w h ≤ length (midOf start (length mid - start) mid)
-    planes-room start mid c = rw (← planes-length f w h s planes n) (lent-room body (n * plane) long start mid c)
 
     pub planes-filed : (start : ℕ) (mid last : List ℕ) → Heads header (n * plane) (gives start) old mid
         → last ≡ body ++ drop (n * planeBytes w h) (midOf start (length mid - start) mid)

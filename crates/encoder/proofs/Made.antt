@@ -1,5 +1,5 @@
 -- From the tests, the header and the planes to what whole making promises.
-use Prim.Native.Nat.{ℕ, _+_, _-_, _*_, _≤_}
+use Prim.Native.Nat.{ℕ, _+_, _-_, _*_}
 use mathlib.Core.Path.{_≡_, refl, sym, ap, subst, _∙_}
 use mathlib.Core.List.{List, _++_}
 use borrow.Rule.Slice.PartMut.{midOf, putMid}
@@ -16,7 +16,7 @@ use Rattle.encoder.specs.File.{fileOf}
 use Rattle.encoder.specs.Make.{checkScans, scanBytes, fileOfScans, Makes}
 use Rattle.encoder.specs.Parts.{Heads}
 use Rattle.encoder.specs.Scans.{PutsScans}
-use Rattle.encoder.proofs.Filed.{lent-room, filed, unfiled}
+use Rattle.encoder.proofs.Filed.{filed, unfiled}
 use Rattle.encoder.proofs.Scanned.{Passed, passed}
 
 module _ (o : EncodeOptions) (w h n : ℕ) (gray text lengths : List ℕ) (work : List ℤ) where
@@ -72,10 +72,6 @@ module _ (o : EncodeOptions) (w h n : ℕ) (gray text lengths : List ℕ) (work 
             spared = λ _. refl;
             refused = λ _ _ _. refl;
           }
-
-      pub scans-room : (start : ℕ) (mid : List ℕ) → Heads header body (gives start) out mid
-          → n * planeBytes w h ≤ length (midOf start (length mid - start) mid)
-      scans-room start mid c = rw (← body-long) (lent-room o w h text lengths out bytes body long start mid c)
 
       pub made : (start : ℕ) (mid last : List ℕ) (work′ : List ℤ) → Heads header body (gives start) out mid
           → PutsScans (o .quantize) w h n gray (midOf start (length mid - start) mid) work last work′
