@@ -60,7 +60,13 @@ fn images_in(space: &mut [usize], input: &[u8], out: &mut [u8]) -> Written {
     let rest = behind(fields, 3);
     let n = put_lengths(front(rest, short(fields, 1)), space);
     let options = options_of(input, byte(fields, 0));
-    write_images(input, options, behind(rest, n), front_numbers(space, n), out)
+    write_images(
+        input,
+        options,
+        behind(rest, n),
+        front_numbers(space, n),
+        out,
+    )
 }
 
 fn write_images(

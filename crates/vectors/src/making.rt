@@ -5,6 +5,8 @@
 use crate::answer::Match;
 use crate::answer::accepted;
 use crate::answer::both;
+use crate::answer::equals;
+use crate::answer::few;
 use crate::answer::written;
 use crate::encoders::rule_of;
 use crate::input::byte;
@@ -28,8 +30,8 @@ use crate::stages::only_if;
 use crate::stages::out_at;
 use crate::stages::put_calls;
 use crate::stages::then;
-use crate::work::WORK;
 use crate::work;
+use crate::work::WORK;
 use crate::writers::presence_of;
 use encode_session::EncodeOpened;
 use encode_session::EncodeSession;
@@ -213,7 +215,7 @@ fn run_stage(
     let ran = run(before, input, calls, work, out, &mut answers);
     let next = ran.session;
     let all = ran.calls == calls_at(input, progress.at);
-    let right = only_if(all, stage_as(list, input, progress, &answers, out));
+    let right = only_if(all, stage_as(list, input, progress, next, &answers, out));
     Making {
         session: next,
         progress: progress.behind_stage(input, right),
@@ -247,23 +249,32 @@ fn run(
 }
 
 // Whether the answers are as the block has them, each byte of the stage's output unless its letter
-// leaves the dots open, and those behind it.
-fn stage_as(list: &[u8], input: &[u8], progress: Progress, answers: &[usize; ANSWERS], out: &[u8]) -> Match {
+// leaves the dots open, those behind it, and what can be asked of the session.
+fn stage_as(
+    list: &[u8],
+    input: &[u8],
+    progress: Progress,
+    session: EncodeSession,
+    answers: &[usize; ANSWERS],
+    out: &[u8],
+) -> Match {
     let size = out_at(input, progress.at);
     let lent = behind(out, progress.from);
     let told = answers_as(list, progress.next, answers);
     let bytes = bytes_as(list, told.next, front(lent, size));
     let buffer = bytes_as(list, bytes.next, b"");
+    let state = equals(list, buffer.next, &asked(session));
     let rest = marked(behind(lent, size), byte_at(input, 11));
     let compared = byte(input, progress.at) & 8 == 0;
-    let right = only_if(
-        rest,
-        Match {
-            same: bytes.same || !compared,
-            next: buffer.next,
-        },
-    );
-    then(told, right)
+    let dots = bytes.same || !compared;
+    then(told, only_if(both(rest, dots), state))
+}
+
+// What can be asked of a session: 1 where it is closed, and how many frames are done.
+fn asked(session: EncodeSession) -> [usize; 11] {
+    let closed = session.is_closed() as usize;
+    let frames = session.frames() as usize;
+    few(closed, frames, 0, 0)
 }
 
 // How many numbers of the work buffer the stage may alter: none by its letter, or where the rule

@@ -1,7 +1,7 @@
 // The stages of a list of calls on a session. In the input a stage is a letter for the work buffer,
 // the length of its output and its number of calls in two bytes each, and the calls, five numbers
-// of two bytes each. In the block it is the number of its answers' numbers and these, then the
-// texts of its output and of the extension buffer.
+// of two bytes each. In the block it is the number of its answers' numbers and these, the texts of
+// its output and of the extension buffer, and the number of those that can then be asked and these.
 use crate::answer::Match;
 use crate::answer::both;
 use crate::input::short;

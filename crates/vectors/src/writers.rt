@@ -20,7 +20,12 @@ use header::ExtPresence;
 const LENGTHS: usize = 4096;
 
 // The answer where `size` bytes of the output are lent.
-pub(crate) fn write_within(operation: usize, input: &[u8], out: &mut [u8], size: usize) -> [usize; 11] {
+pub(crate) fn write_within(
+    operation: usize,
+    input: &[u8],
+    out: &mut [u8],
+    size: usize,
+) -> [usize; 11] {
     let start = 0;
     let end = least(size, out.len());
     write(operation, input, &mut out[start..end])
@@ -91,5 +96,13 @@ fn with_fields_in(space: &mut [usize], input: &[u8], strict: bool, out: &mut [u8
     let rest = behind(input, 11);
     let n = put_lengths(front(rest, short(input, 9)), space);
     let text = behind(rest, n);
-    header::write_header_ext_lengths(width, height, ext, text, front_numbers(space, n), strict, out)
+    header::write_header_ext_lengths(
+        width,
+        height,
+        ext,
+        text,
+        front_numbers(space, n),
+        strict,
+        out,
+    )
 }

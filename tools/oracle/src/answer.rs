@@ -62,7 +62,8 @@ impl Answer {
     }
 }
 
-fn trimmed(numbers: &[u64]) -> Vec<u64> {
+/// Without the zeros at the end.
+pub(crate) fn trimmed(numbers: &[u64]) -> Vec<u64> {
     let used = numbers
         .iter()
         .rposition(|&n| n != 0)
