@@ -44,6 +44,13 @@ impl Progress {
         self
     }
 
+    // With the comparisons of the same list, replayed again.
+    pub(crate) fn with(mut self, again: Progress) -> Progress {
+        self.comparisons = std::num::wrapping_add_usize(self.comparisons, again.comparisons);
+        self.same = both(self.same, again.same);
+        self
+    }
+
     // Behind an answer that is no call's.
     pub(crate) fn behind_answer(mut self, right: Match) -> Progress {
         self.next = right.next;

@@ -46,7 +46,7 @@ fn group(name: &'static str, operation: Operation, cases: Vec<Altered>) -> Group
         let right = operation.answer(&input);
         let mut altered = right.clone();
         alteration(&mut altered);
-        assert_eq!(altered.calls(), right.calls(), "{name}");
+        assert_eq!(altered.list_calls(), right.list_calls(), "{name}");
         Sweep::altered(input, alteration)
     };
     Group {

@@ -234,6 +234,11 @@ impl Making {
     }
 }
 
+/// The fields in an input.
+pub fn fields_in(input: &[u8]) -> &[u8] {
+    &input[FIELDS..FIELDS + short(input, 16)]
+}
+
 /// The opening in an input, and what stands behind its fields.
 pub fn opening_at(input: &[u8]) -> (Opening, &[u8]) {
     let (fields, rest) = input[FIELDS..].split_at(short(input, 16));
