@@ -1,6 +1,6 @@
 #!/bin/bash
 # Shows that the replay of a list with one count too large says so and ends soon: the counts of the sweep of
-# `from_byte` are made larger by four bytes FF in front, each in its own copy.
+# `from_byte` and of a list's stages are made larger by four bytes FF in front, each in its own copy.
 # Run after `rt check vectors`; ends with 0 only if every damage is reported within ten seconds.
 set -eu
 cd "$(dirname "$0")/../.."
@@ -32,6 +32,7 @@ damage() {
 sweep='\x01\x01\x01\x01\x01\x00\x00\x01\x00\x82\x00\x01\x01\x04\x00\x00\x00\x01'
 damage "sweeps of a part" "$sweep" 1
 damage "parts of a text" "$sweep" 2
+damage "repetitions of a part" "$sweep" 3
 damage "bytes of a part" "$sweep" 4
 damage "digits" "$sweep" 7
 damage "letters" "$sweep" 8
@@ -39,3 +40,5 @@ damage "cases" "$sweep" 9
 damage "cases of an answer" "$sweep" 11
 damage "answers accepted" "$sweep" 12
 damage "numbers of an answer" "$sweep" 13
+# The header 00 00 09 01 of a making, and the number of its stages, whose first has no call.
+damage "stages of a list" '\x04\x00\x00\x09\x01\x02\x00\x00\x00\x00' 5

@@ -60,7 +60,7 @@ pub(crate) fn accepted(list: &[u8], start: usize, got: &[usize; 11]) -> Match {
 }
 
 // Whether `got` is the answer there, whose last zeros are left out.
-fn equals(list: &[u8], start: usize, got: &[usize; 11]) -> Match {
+pub(crate) fn equals(list: &[u8], start: usize, got: &[usize; 11]) -> Match {
     let mut want = [0usize; 11];
     let next = numbers(list, start, &mut want);
     Match {

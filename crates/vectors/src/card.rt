@@ -41,7 +41,7 @@ fn replayed(progress: Progress) -> Replayed {
 
 fn made(list: &[u8], start: usize, input: &[u8]) -> Replayed {
     let mut out = [byte_at(input, 11); TEXT];
-    replayed(making::run_list(list, start, input, &mut out))
+    replayed(making::run_lists(list, start, input, &mut out))
 }
 
 fn read(list: &[u8], start: usize, input: &[u8]) -> Replayed {
@@ -55,7 +55,7 @@ fn shown(list: &[u8], start: usize, input: &[u8]) -> Replayed {
     let reading = behind(behind(input, 2), short(input, 0));
     let mut file = [byte_at(making, 11); TEXT];
     let mut out = [reading::mark_of(reading); TEXT];
-    let first = making::run_list(list, start, making, &mut file);
+    let first = making::run_lists(list, start, making, &mut file);
     let second = reading::run_list(list, first.next, reading, &file, &mut out);
     let third = dots(
         list,

@@ -11,6 +11,8 @@ use crate::parts::front;
 use crate::parts::least;
 use crate::planes::convert;
 use crate::readers::answer;
+use crate::records::RECORDS;
+use crate::records::serves;
 use crate::same::same_bytes;
 use crate::same::same_numbers;
 use crate::stages::BEHIND;
@@ -47,30 +49,49 @@ pub(crate) fn replay(list: &[u8], start: usize, operation: usize, input: &[u8]) 
     }
 }
 
-// A case that is accepted gets an output exactly long enough, one longer and one too short; a
-// refused one gets none and some.
+// A writer of fields is called over lengths, and again over records where it can be.
 fn replay_writer(list: &[u8], start: usize, operation: usize, input: &[u8]) -> Replayed {
     let mut want = [MARK; TEXT];
     let answers = accepted(list, start, &[0; 11]);
     let output = text(list, answers.next, &mut want);
     let n = least(output.len, TEXT - 1);
-    if n == 0 {
-        let none = tried(list, start, operation, input, &want, 0, 0);
-        let some = tried(list, start, operation, input, &want, 0, 64);
+    let tries = if n == 0 { 2 } else { 3 };
+    let same = tried_all(list, start, operation, input, &want, n);
+    if !serves(operation, input) {
         return Replayed {
-            comparisons: 2,
-            same: both(none, some),
+            comparisons: tries,
+            same,
             next: output.next,
         };
     }
-    let exact = tried(list, start, operation, input, &want, n, n);
-    let longer = tried(list, start, operation, input, &want, n, n + 1);
-    let shorter = tried(list, start, operation, input, &want, n, n - 1);
+    let records = std::num::wrapping_add_usize(operation, RECORDS);
+    let again = tried_all(list, start, records, input, &want, n);
     Replayed {
-        comparisons: 3,
-        same: both(exact, both(longer, shorter)),
+        comparisons: std::num::wrapping_add_usize(tries, tries),
+        same: both(same, again),
         next: output.next,
     }
+}
+
+// A case that is accepted gets an output exactly long enough, one longer and one too short; a
+// refused one gets none and some.
+fn tried_all(
+    list: &[u8],
+    start: usize,
+    operation: usize,
+    input: &[u8],
+    want: &[u8; TEXT],
+    n: usize,
+) -> bool {
+    if n == 0 {
+        let none = tried(list, start, operation, input, want, 0, 0);
+        let some = tried(list, start, operation, input, want, 0, 64);
+        return both(none, some);
+    }
+    let exact = tried(list, start, operation, input, want, n, n);
+    let longer = tried(list, start, operation, input, want, n, std::num::wrapping_add_usize(n, 1));
+    let shorter = tried(list, start, operation, input, want, n, n - 1);
+    both(exact, both(longer, shorter))
 }
 
 // The plane is changed in place, and the bytes behind it stay.

@@ -12,6 +12,9 @@ use crate::parts::front;
 use crate::parts::front_numbers;
 use crate::parts::least;
 use crate::planes::format_of;
+use crate::records::list_of;
+use crate::records::pairs_of;
+use crate::records::text_of;
 use crate::scans::judged;
 use crate::work::DIRT;
 use crate::work::WORK;
@@ -30,7 +33,7 @@ fn body_of(input: &[u8]) -> &[u8] {
     front(behind(input, BODY), short(input, 22))
 }
 
-fn fields_of(input: &[u8]) -> &[u8] {
+pub(crate) fn fields_of(input: &[u8]) -> &[u8] {
     behind(behind(input, BODY), short(input, 22))
 }
 
@@ -60,7 +63,13 @@ fn images_in(space: &mut [usize], input: &[u8], out: &mut [u8]) -> Written {
     let rest = behind(fields, 3);
     let n = put_lengths(front(rest, short(fields, 1)), space);
     let options = options_of(input, byte(fields, 0));
-    write_images(input, options, behind(rest, n), front_numbers(space, n), out)
+    write_images(
+        input,
+        options,
+        behind(rest, n),
+        front_numbers(space, n),
+        out,
+    )
 }
 
 fn write_images(
@@ -90,6 +99,26 @@ fn write_images(
     )
 }
 
+pub(crate) fn images_of_records(input: &[u8], out: &mut [u8]) -> Written {
+    let fields = fields_of(input);
+    let options = options_of(input, byte(fields, 0));
+    let count = long(input, 10) as usize;
+    let stride = longest(input, 14) as usize;
+    by_value::encode_images(
+        long(input, 2),
+        long(input, 6),
+        count,
+        body_of(input),
+        stride,
+        format_of(byte(input, 1)),
+        options,
+        text_of(fields),
+        list_of(fields),
+        pairs_of(fields),
+        out,
+    )
+}
+
 pub(crate) fn gray(input: &[u8], out: &mut [u8]) -> [usize; 11] {
     let mut work = [DIRT; WORK];
     let answer = gray_with(&mut work, input, out);
@@ -99,7 +128,7 @@ pub(crate) fn gray(input: &[u8], out: &mut [u8]) -> [usize; 11] {
 // How many numbers of the work buffer the rule may alter.
 fn used(input: &[u8]) -> usize {
     if byte(input, 1) == 1 {
-        return long(input, 2) as usize * 2;
+        return long(input, 2) as usize;
     }
     0
 }
@@ -147,6 +176,32 @@ fn make(
         text,
         lengths,
         work,
+        out,
+    )
+}
+
+pub(crate) fn gray_of_records(input: &[u8], out: &mut [u8]) -> [usize; 11] {
+    let mut work = [DIRT; WORK];
+    let answer = make_of_records(&mut work, input, out);
+    judged(answer, &work, used(input))
+}
+
+fn make_of_records(work: &mut [i16], input: &[u8], out: &mut [u8]) -> Written {
+    let start = 0;
+    let end = least(byte(input, 15), work.len());
+    let fields = fields_of(input);
+    let options = options_of(input, byte(fields, 0));
+    let count = long(input, 10) as usize;
+    by_value::encode_gray8(
+        long(input, 2),
+        long(input, 6),
+        count,
+        body_of(input),
+        options,
+        text_of(fields),
+        list_of(fields),
+        pairs_of(fields),
+        &mut work[start..end],
         out,
     )
 }

@@ -65,7 +65,8 @@ pub(crate) fn count(list: &[u8], start: usize) -> Entry {
     }
 }
 
-// The numbers that follow their count, at the front of `out`, and where they end.
+// The numbers that follow their count, at the front of `out`, and where they end: at the list's end
+// where they do not fit.
 pub(crate) fn numbers(list: &[u8], start: usize, out: &mut [usize]) -> usize {
     let head = number(list, start);
     let size = least(head.value, out.len());
@@ -77,10 +78,15 @@ pub(crate) fn numbers(list: &[u8], start: usize, out: &mut [usize]) -> usize {
         next = n.next;
         i += 1;
     }
-    next
+    past_if(size < head.value, list, next)
 }
 
-// A text, its parts repeated, at the front of `out`.
+// The list's end where something does not fit, or `at`.
+fn past_if(cut: bool, list: &[u8], at: usize) -> usize {
+    if cut { list.len() } else { at }
+}
+
+// A text, its parts repeated, at the front of `out`; the list's end is its end where it does not fit.
 pub(crate) fn text(list: &[u8], start: usize, out: &mut [u8]) -> Stretch {
     let head = count(list, start);
     let parts = head.value;
@@ -106,9 +112,10 @@ fn part(list: &[u8], start: usize, out: &mut [u8], from: usize) -> Stretch {
         len = copy(list, size.next, size.value, out, len);
         i += 1;
     }
+    let end = skip(list, size.next, size.value);
     Stretch {
         len,
-        next: skip(list, size.next, size.value),
+        next: past_if(i < head.value, list, end),
     }
 }
 

@@ -13,6 +13,7 @@ mod parts;
 mod planes;
 mod readers;
 mod reading;
+mod records;
 mod report;
 mod same;
 mod scans;

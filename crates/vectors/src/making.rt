@@ -5,18 +5,25 @@
 use crate::answer::Match;
 use crate::answer::accepted;
 use crate::answer::both;
+use crate::answer::equals;
+use crate::answer::few;
 use crate::answer::written;
 use crate::encoders::rule_of;
 use crate::input::byte;
 use crate::input::long;
 use crate::input::put_lengths;
 use crate::input::short;
+use crate::list::TEXT;
 use crate::list::byte_at;
 use crate::list::count;
 use crate::parts::behind;
 use crate::parts::front;
 use crate::parts::front_numbers;
 use crate::parts::least;
+use crate::records::are_pairs;
+use crate::records::list_of;
+use crate::records::pairs_of;
+use crate::records::text_of;
 use crate::stages::ANSWERS;
 use crate::stages::NUMBERS;
 use crate::stages::Progress;
@@ -28,8 +35,8 @@ use crate::stages::only_if;
 use crate::stages::out_at;
 use crate::stages::put_calls;
 use crate::stages::then;
-use crate::work::WORK;
 use crate::work;
+use crate::work::WORK;
 use crate::writers::presence_of;
 use encode_session::EncodeOpened;
 use encode_session::EncodeSession;
@@ -65,17 +72,34 @@ fn stages_of(input: &[u8]) -> usize {
     std::num::wrapping_add_usize(fields, short(input, 18))
 }
 
-// Replays a list, its outputs one behind the other in `out`.
-pub(crate) fn run_list(list: &[u8], start: usize, input: &[u8], out: &mut [u8]) -> Progress {
+// Replays a list, opened over lengths, its outputs one behind the other in `out`; and again, opened
+// over records, where its fields can be told so.
+pub(crate) fn run_lists(list: &[u8], start: usize, input: &[u8], out: &mut [u8]) -> Progress {
+    let first = run_list(list, start, input, false, out);
+    if !are_pairs(fields_of(input)) {
+        return first;
+    }
+    let mut again = [byte_at(input, 11); TEXT];
+    let second = run_list(list, start, input, true, &mut again);
+    first.with(second)
+}
+
+fn run_list(list: &[u8], start: usize, input: &[u8], records: bool, out: &mut [u8]) -> Progress {
     let mut numbers = [work::DIRT; WORK];
-    let opened = opened(list, start, input, &mut numbers, out);
+    let opened = opened(list, start, input, records, &mut numbers, out);
     stages(list, input, &mut numbers, out, opened)
 }
 
 // The opening: its answer, and every byte of the output lent to it.
-fn opened(list: &[u8], start: usize, input: &[u8], work: &mut [i16], out: &mut [u8]) -> Making {
-    let mut space = [0usize; LENGTHS];
-    let opened = open(input, &mut space, work, out);
+fn opened(
+    list: &[u8],
+    start: usize,
+    input: &[u8],
+    records: bool,
+    work: &mut [i16],
+    out: &mut [u8],
+) -> Making {
+    let opened = open(input, records, work, out);
     let answer = opened.answer;
     let session = opened.session;
     let right = accepted(list, start, &written(answer));
@@ -101,7 +125,37 @@ fn options_of(input: &[u8], ext: usize) -> EncodeOptions {
         .with_strict(byte(input, 0) == 1)
 }
 
-fn open(input: &[u8], space: &mut [usize], work: &mut [i16], out: &mut [u8]) -> EncodeOpened {
+fn open(input: &[u8], records: bool, work: &mut [i16], out: &mut [u8]) -> EncodeOpened {
+    if records {
+        return open_records(input, work, out);
+    }
+    let mut space = [0usize; LENGTHS];
+    open_lengths(input, &mut space, work, out)
+}
+
+fn open_records(input: &[u8], work: &mut [i16], out: &mut [u8]) -> EncodeOpened {
+    let fields = fields_of(input);
+    let start = 0;
+    let lent = least(short(input, 12), work.len());
+    let end = least(short(input, 14), out.len());
+    by_value::open(
+        long(input, 2),
+        long(input, 6),
+        options_of(input, byte(fields, 0)),
+        text_of(fields),
+        list_of(fields),
+        pairs_of(fields),
+        &work[start..lent],
+        &mut out[start..end],
+    )
+}
+
+fn open_lengths(
+    input: &[u8],
+    space: &mut [usize],
+    work: &mut [i16],
+    out: &mut [u8],
+) -> EncodeOpened {
     let fields = fields_of(input);
     let rest = behind(fields, 3);
     let n = put_lengths(front(rest, short(fields, 1)), space);
@@ -213,7 +267,7 @@ fn run_stage(
     let ran = run(before, input, calls, work, out, &mut answers);
     let next = ran.session;
     let all = ran.calls == calls_at(input, progress.at);
-    let right = only_if(all, stage_as(list, input, progress, &answers, out));
+    let right = only_if(all, stage_as(list, input, progress, next, &answers, out));
     Making {
         session: next,
         progress: progress.behind_stage(input, right),
@@ -247,23 +301,32 @@ fn run(
 }
 
 // Whether the answers are as the block has them, each byte of the stage's output unless its letter
-// leaves the dots open, and those behind it.
-fn stage_as(list: &[u8], input: &[u8], progress: Progress, answers: &[usize; ANSWERS], out: &[u8]) -> Match {
+// leaves the dots open, those behind it, and what can be asked of the session.
+fn stage_as(
+    list: &[u8],
+    input: &[u8],
+    progress: Progress,
+    session: EncodeSession,
+    answers: &[usize; ANSWERS],
+    out: &[u8],
+) -> Match {
     let size = out_at(input, progress.at);
     let lent = behind(out, progress.from);
     let told = answers_as(list, progress.next, answers);
     let bytes = bytes_as(list, told.next, front(lent, size));
     let buffer = bytes_as(list, bytes.next, b"");
+    let state = equals(list, buffer.next, &asked(session));
     let rest = marked(behind(lent, size), byte_at(input, 11));
     let compared = byte(input, progress.at) & 8 == 0;
-    let right = only_if(
-        rest,
-        Match {
-            same: bytes.same || !compared,
-            next: buffer.next,
-        },
-    );
-    then(told, right)
+    let dots = bytes.same || !compared;
+    then(told, only_if(both(rest, dots), state))
+}
+
+// What can be asked of a session: 1 where it is closed, and how many frames are done.
+fn asked(session: EncodeSession) -> [usize; 11] {
+    let closed = session.is_closed() as usize;
+    let frames = session.frames() as usize;
+    few(closed, frames, 0, 0)
 }
 
 // How many numbers of the work buffer the stage may alter: none by its letter, or where the rule
@@ -273,7 +336,7 @@ fn used(input: &[u8], letter: usize) -> usize {
         return 0;
     }
     if byte(input, 1) == 1 {
-        return long(input, 2) as usize * 2;
+        return long(input, 2) as usize;
     }
     0
 }

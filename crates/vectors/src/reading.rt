@@ -5,6 +5,7 @@ use crate::answer::Match;
 use crate::answer::accepted;
 use crate::answer::both;
 use crate::answer::checked;
+use crate::answer::equals;
 use crate::input::short;
 use crate::list::byte_at;
 use crate::list::count;
@@ -29,6 +30,7 @@ use crate::stages::then;
 use decode_session::DecodeOpened;
 use decode_session::DecodeSession;
 use decode_session::HeaderSeen;
+use header::FieldsSeen;
 use header::ParsedHeader;
 use replay::DecodeReplayed;
 use replay::replay_decode;
@@ -54,13 +56,38 @@ pub(crate) fn mark_of(input: &[u8]) -> u8 {
 }
 
 // Replays a list over a file, its outputs one behind the other in `out`.
-pub(crate) fn run_list(list: &[u8], start: usize, input: &[u8], file: &[u8], out: &mut [u8]) -> Progress {
+pub(crate) fn run_list(
+    list: &[u8],
+    start: usize,
+    input: &[u8],
+    file: &[u8],
+    out: &mut [u8],
+) -> Progress {
     let mut buffer = [mark_of(input); BUFFER];
     let opened = opened(list, start, input, &buffer);
     let ended = stages(list, input, file, &mut buffer, out, opened);
     let session = ended.session;
     let progress = ended.progress;
     progress.behind_answer(header_as(list, progress.next, session.header()))
+}
+
+// What can be asked of a session: 1 where it is closed, how many frames are done, 1 where its fields
+// are known, and these.
+fn asked(session: DecodeSession) -> [usize; 11] {
+    let closed = session.is_closed() as usize;
+    let frames = session.frames() as usize;
+    let f = known_fields(session.fields());
+    [closed, frames, f[0], f[1], f[2], f[3], f[4], 0, 0, 0, 0]
+}
+
+fn known_fields(seen: FieldsSeen) -> [usize; 5] {
+    match seen {
+        FieldsSeen::Unread => [0; 5],
+        FieldsSeen::Seen(fields) => {
+            let f = fields_of(fields);
+            [1, f[0], f[1], f[2], f[3]]
+        }
+    }
 }
 
 // Whether the header that the session ends with is as the block has it; its text is empty, and it
@@ -179,7 +206,8 @@ fn stage(
     let ran = run(before, input, file, calls, buffer, out, &mut answers);
     let next = ran.session;
     let all = ran.calls == calls_at(input, progress.at);
-    let right = only_if(all, stage_as(list, input, progress, &answers, buffer, out));
+    let left = stage_as(list, input, progress, next, &answers, buffer, out);
+    let right = only_if(all, left);
     Reading {
         session: next,
         progress: progress.behind_stage(input, right),
@@ -205,12 +233,13 @@ fn run(
     replay_decode(session, calls, file, &mut rest[begin..end], buffer, answers)
 }
 
-// Whether the answers, each byte of the stage's output and of the extension buffer are as the block
-// has them, and those behind the output unaltered.
+// Whether the answers, each byte of the stage's output and of the extension buffer and what can be
+// asked of the session are as the block has them, and the bytes behind the output unaltered.
 fn stage_as(
     list: &[u8],
     input: &[u8],
     progress: Progress,
+    session: DecodeSession,
     answers: &[usize; ANSWERS],
     buffer: &[u8],
     out: &[u8],
@@ -220,6 +249,7 @@ fn stage_as(
     let told = answers_as(list, progress.next, answers);
     let bytes = bytes_as(list, told.next, front(lent, size));
     let left = bytes_as(list, bytes.next, buffer);
+    let state = equals(list, left.next, &asked(session));
     let rest = marked(behind(lent, size), mark_of(input));
-    only_if(rest, then(told, then(bytes, left)))
+    only_if(rest, then(told, then(bytes, then(left, state))))
 }

@@ -32,7 +32,7 @@ pub(crate) fn ordered(input: &[u8], out: &mut [u8]) -> Written {
 pub(crate) fn dither(input: &[u8], out: &mut [u8]) -> [usize; 11] {
     let mut work = [DIRT; WORK];
     let answer = dither_within(&mut work, input, out);
-    judged(answer, &work, long(input, 1) as usize * 2)
+    judged(answer, &work, long(input, 1) as usize)
 }
 
 // An answer of a call that may alter the first `used` numbers of the work buffer, and none where it

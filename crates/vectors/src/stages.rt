@@ -1,7 +1,7 @@
 // The stages of a list of calls on a session. In the input a stage is a letter for the work buffer,
 // the length of its output and its number of calls in two bytes each, and the calls, five numbers
-// of two bytes each. In the block it is the number of its answers' numbers and these, then the
-// texts of its output and of the extension buffer.
+// of two bytes each. In the block it is the number of its answers' numbers and these, the texts of
+// its output and of the extension buffer, and the number of those that can then be asked and these.
 use crate::answer::Match;
 use crate::answer::both;
 use crate::input::short;
@@ -41,6 +41,13 @@ impl Progress {
     // Right only if `also`.
     pub(crate) fn only_if(mut self, also: bool) -> Progress {
         self.same = both(self.same, also);
+        self
+    }
+
+    // With the comparisons of the same list, replayed again.
+    pub(crate) fn with(mut self, again: Progress) -> Progress {
+        self.comparisons = std::num::wrapping_add_usize(self.comparisons, again.comparisons);
+        self.same = both(self.same, again.same);
         self
     }
 

@@ -123,7 +123,11 @@ fn cases_of(plan: Plan) -> usize {
         rest = rest / radix;
         i += 1;
     }
-    if both(strings, rest == 1) { plan.cases } else { 0 }
+    if both(strings, rest == 1) {
+        plan.cases
+    } else {
+        0
+    }
 }
 
 // Puts the digits of the case over the input, the most significant first.

@@ -11,6 +11,7 @@ use crate::parts::front;
 use crate::parts::front_numbers;
 use crate::parts::least;
 use crate::planes;
+use crate::records;
 use crate::scans;
 use error::Written;
 use ext::ExtFieldType;
@@ -20,7 +21,12 @@ use header::ExtPresence;
 const LENGTHS: usize = 4096;
 
 // The answer where `size` bytes of the output are lent.
-pub(crate) fn write_within(operation: usize, input: &[u8], out: &mut [u8], size: usize) -> [usize; 11] {
+pub(crate) fn write_within(
+    operation: usize,
+    input: &[u8],
+    out: &mut [u8],
+    size: usize,
+) -> [usize; 11] {
     let start = 0;
     let end = least(size, out.len());
     write(operation, input, &mut out[start..end])
@@ -41,11 +47,23 @@ fn write(operation: usize, input: &[u8], out: &mut [u8]) -> [usize; 11] {
         42 => files::decode(input, false, out),
         43 => files::decode(input, true, out),
         44 => written(encoders::images(input, out)),
-        _ => encoders::gray(input, out),
+        45 => encoders::gray(input, out),
+        _ => write_records(operation, input, out),
     }
 }
 
-fn kind_of(number: usize) -> ExtFieldType {
+fn write_records(operation: usize, input: &[u8], out: &mut [u8]) -> [usize; 11] {
+    match operation {
+        49 => written(records::fields(input, false, out)),
+        50 => written(records::fields(input, true, out)),
+        52 => written(records::with_fields(input, false, out)),
+        53 => written(records::with_fields(input, true, out)),
+        60 => written(encoders::images_of_records(input, out)),
+        _ => encoders::gray_of_records(input, out),
+    }
+}
+
+pub(crate) fn kind_of(number: usize) -> ExtFieldType {
     match number {
         0 => ExtFieldType::Bitfield00,
         1 => ExtFieldType::Reserved01,
@@ -91,5 +109,13 @@ fn with_fields_in(space: &mut [usize], input: &[u8], strict: bool, out: &mut [u8
     let rest = behind(input, 11);
     let n = put_lengths(front(rest, short(input, 9)), space);
     let text = behind(rest, n);
-    header::write_header_ext_lengths(width, height, ext, text, front_numbers(space, n), strict, out)
+    header::write_header_ext_lengths(
+        width,
+        height,
+        ext,
+        text,
+        front_numbers(space, n),
+        strict,
+        out,
+    )
 }

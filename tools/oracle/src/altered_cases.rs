@@ -46,7 +46,7 @@ fn group(name: &'static str, operation: Operation, cases: Vec<Altered>) -> Group
         let right = operation.answer(&input);
         let mut altered = right.clone();
         alteration(&mut altered);
-        assert_eq!(altered.calls(), right.calls(), "{name}");
+        assert_eq!(altered.list_calls(), right.list_calls(), "{name}");
         Sweep::altered(input, alteration)
     };
     Group {
@@ -126,19 +126,22 @@ fn making() -> MakingCase {
 }
 
 /// The opening's answer and output; a call's refusal, count and output, written or not; the closing;
-/// and a stage that is said to leave the work buffer alone.
+/// if it is closed and how many frames are done; and a stage that is said to leave the work buffer
+/// alone.
 fn makings() -> Vec<Altered> {
     let input = making().input();
     let mut kept = making();
-    kept.stages.0[0].letter = 16;
+    kept.stages.0[1].letter = 16;
     vec![
         (input.clone(), |a| a.accepted[0][1] = 3),
         (input.clone(), |a| a.output[2] ^= 1),
-        (input.clone(), |a| a.stages[0].answers[0][0] = 28),
-        (input.clone(), |a| a.stages[1].answers[0][1] = 3),
-        (input.clone(), |a| a.stages[1].out[0] ^= 0x80),
-        (input.clone(), |a| a.stages[1].out[2] ^= 1),
-        (input, |a| a.stages[1].answers[1][0] = 22),
+        (input.clone(), |a| a.stages[1].answers[0][0] = 28),
+        (input.clone(), |a| a.stages[2].answers[0][1] = 3),
+        (input.clone(), |a| a.stages[2].out[0] ^= 0x80),
+        (input.clone(), |a| a.stages[2].out[2] ^= 1),
+        (input.clone(), |a| a.stages[2].answers[1][0] = 22),
+        (input.clone(), |a| a.stages[0].asked = vec![1]),
+        (input, |a| a.stages[2].asked[1] = 2),
         (kept.input(), |_| ()),
     ]
 }
@@ -155,17 +158,19 @@ fn reading() -> ReadingCase {
 }
 
 /// The opening's answer; a call's count and output, written or not; an extension byte, written or
-/// not; the frame count; the header.
+/// not; the frame count; the frames done and the fields known; the header.
 fn readings() -> Vec<Altered> {
     let input = reading().input();
     vec![
         (input.clone(), |a| a.accepted[0].push(28)),
-        (input.clone(), |a| a.stages[1].answers[0][1] = 3),
-        (input.clone(), |a| a.stages[1].out[0] ^= 0x20),
-        (input.clone(), |a| a.stages[1].out[1] ^= 1),
-        (input.clone(), |a| a.stages[0].buffer[1] ^= 1),
-        (input.clone(), |a| a.stages[1].buffer[4199] ^= 1),
-        (input.clone(), |a| a.stages[1].answers[1][1] = 2),
+        (input.clone(), |a| a.stages[2].answers[0][1] = 3),
+        (input.clone(), |a| a.stages[2].out[0] ^= 0x20),
+        (input.clone(), |a| a.stages[2].out[1] ^= 1),
+        (input.clone(), |a| a.stages[1].buffer[1] ^= 1),
+        (input.clone(), |a| a.stages[2].buffer[4199] ^= 1),
+        (input.clone(), |a| a.stages[2].answers[1][1] = 2),
+        (input.clone(), |a| a.stages[2].asked[1] = 0),
+        (input.clone(), |a| a.stages[1].asked = vec![0, 0, 1]),
         (input, |a| then(a).accepted[0][8] = 2),
     ]
 }
@@ -175,7 +180,7 @@ fn cards() -> Vec<Altered> {
     let input = random_cards::card(&mut Random::new(1));
     vec![
         (input.clone(), |a| a.output[0] ^= 1),
-        (input.clone(), |a| then(a).stages[0].answers[0][2] += 1),
+        (input.clone(), |a| then(a).stages[1].answers[0][2] += 1),
         (input, |a| then(then(then(a))).output[0] ^= 0x80),
     ]
 }

@@ -37,17 +37,20 @@ impl Answer {
         Answer::of(&[number_of(error).into(), place as u64])
     }
 
-    /// How many calls a list has, the opening included. A card has two lists; what is told behind
-    /// them has no stages.
-    pub fn calls(&self) -> usize {
-        let fed: usize = self.stages.iter().map(|left| left.answers.len()).sum();
+    /// How many calls a list has, the opening included.
+    pub fn list_calls(&self) -> usize {
+        1 + self
+            .stages
+            .iter()
+            .map(|left| left.answers.len())
+            .sum::<usize>()
+    }
+
+    /// How many calls the lists behind it have; what is told behind them has no stages.
+    pub fn later_calls(&self) -> usize {
         let list = |then: &&Box<Answer>| !then.stages.is_empty();
-        1 + fed
-            + self
-                .then
-                .as_ref()
-                .filter(list)
-                .map_or(0, |then| then.calls())
+        let later = self.then.as_ref().filter(list);
+        later.map_or(0, |then| then.list_calls() + then.later_calls())
     }
 
     /// What a writer does: the bytes written, or a refusal, whose place is 0.
@@ -62,7 +65,8 @@ impl Answer {
     }
 }
 
-fn trimmed(numbers: &[u64]) -> Vec<u64> {
+/// Without the zeros at the end.
+pub(crate) fn trimmed(numbers: &[u64]) -> Vec<u64> {
     let used = numbers
         .iter()
         .rposition(|&n| n != 0)

@@ -1,6 +1,7 @@
 //! Groups of cases: an operation and the inputs it is tried on.
 
 use oracle::answer::Answer;
+use oracle::lists::short;
 use oracle::{
     cards, decode_lists, encode_lists, encoders, files, planes, readers, replay, scans, settings,
     writers,
@@ -82,6 +83,24 @@ impl Operation {
     /// Whether its cases are lists of calls.
     pub fn calls(self) -> bool {
         self.number() >= 96
+    }
+
+    /// The fields that an input holds to be written.
+    fn fields(self, input: &[u8]) -> Option<&[u8]> {
+        match self {
+            Operation::WriteFields { .. } => Some(input),
+            Operation::WriteHeaderExt { .. } => Some(&input[8..]),
+            Operation::EncodeImages | Operation::EncodeGray => Some(encoders::fields_in(input)),
+            Operation::MakingList => Some(encode_lists::fields_in(input)),
+            Operation::Card => Some(encode_lists::fields_in(&input[2..])),
+            _ => None,
+        }
+    }
+
+    /// Whether its writer is called again over records: lengths of at most eight pairs.
+    pub fn records(self, input: &[u8]) -> bool {
+        let lengths = self.fields(input).map(|fields| short(fields, 1));
+        lengths.is_some_and(|lengths| lengths <= 16 && lengths % 2 == 0)
     }
 
     pub fn answer(self, input: &[u8]) -> Answer {

@@ -7,13 +7,13 @@
 
 use std::ops::Range;
 
-use crate::answer::Answer;
+use crate::answer::{Answer, fields_numbers, trimmed};
 use crate::decoder::{decode_frames, parse_header_for};
 use crate::ext::{FixHeaderField, parse_ext_fields};
 use crate::files::SETTINGS;
 use crate::header::{ParsedHeader, write_header};
 use crate::lists::{Call, Left, Stage, short, stages_at};
-use crate::mbi::read_mbi_u32;
+use crate::mbi::{read_mbi_u32, read_mbi_u32_strict};
 use crate::numbers::number_of;
 use crate::options::DecodeOptions;
 use crate::replay;
@@ -207,6 +207,7 @@ impl Reading {
             answers: Vec::new(),
             out: Vec::new(),
             buffer: Vec::new(),
+            asked: Vec::new(),
         };
         for call in &stage.calls {
             let mut fed = self.call(call, file);
@@ -217,7 +218,45 @@ impl Reading {
             left.out.extend(fed.out);
         }
         left.buffer = buffer.to_vec();
+        left.asked = self.asked();
         left
+    }
+
+    /// 1 where it is closed; how many planes are whole behind the header, 16 at most; 1 where the
+    /// fields are known, their kind, start, length and pairs.
+    fn asked(&self) -> Vec<u64> {
+        let closed = u64::from(!self.open);
+        let header = parse_header_for(&self.taken, self.options.strict);
+        let frames = header.map_or(0, |h| self.plane_bytes(&self.taken) as u128 / plane(&h));
+        let fields = self
+            .fields_known()
+            .map_or([0; 5], |[k, s, l, p]| [1, k, s, l, p]);
+        trimmed(&[&[closed, frames as u64], &fields[..]].concat())
+    }
+
+    /// The fields, zeros where there are none, once their last byte is taken.
+    fn fields_known(&self) -> Option<[u64; 4]> {
+        let strict = self.options.strict;
+        let bytes = &self.taken;
+        let mut at = 0;
+        let read = if strict {
+            read_mbi_u32_strict
+        } else {
+            read_mbi_u32
+        };
+        let (Ok(0), Some(&fix)) = (read(bytes, &mut at), bytes.get(at)) else {
+            return None;
+        };
+        let start = at + 1;
+        let mut end = start;
+        match strict {
+            true => (fix == 0).then_some([0; 4]),
+            false => {
+                let fields =
+                    parse_ext_fields(FixHeaderField::from_byte(fix), bytes, &mut end).ok()?;
+                Some(fields.map_or([0; 4], |f| fields_numbers(&f, bytes, start, end)))
+            }
+        }
     }
 
     pub fn call(&mut self, call: &Call, file: &[u8]) -> Fed {

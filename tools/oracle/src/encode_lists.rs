@@ -7,7 +7,7 @@
 //! buffer and of the output lent to the opening, of the fields and of the samples, two bytes each;
 //! fields, samples and stages.
 
-use crate::answer::Answer;
+use crate::answer::{Answer, trimmed};
 use crate::header::write_header_ext;
 use crate::image::WbmpImage;
 use crate::lists::{Call, Left, Stage, short, stages_at};
@@ -208,6 +208,7 @@ impl Making {
             answers: Vec::new(),
             out: Vec::new(),
             buffer: Vec::new(),
+            asked: Vec::new(),
         };
         for call in &stage.calls {
             let (answer, mut out) = self.call(call, samples);
@@ -215,7 +216,14 @@ impl Making {
             left.answers.push(answer);
             left.out.extend(out);
         }
+        left.asked = self.asked();
         left
+    }
+
+    /// 1 where it is closed, and how many frames are done.
+    fn asked(&self) -> Vec<u64> {
+        let frames = (self.taken.len() as u128).checked_div(self.opening.scan());
+        trimmed(&[u64::from(!self.open), frames.unwrap_or(0) as u64])
     }
 
     pub fn call(&mut self, call: &Call, samples: &[u8]) -> (Numbers, Vec<u8>) {
@@ -224,6 +232,11 @@ impl Making {
             false => (self.close(), Vec::new()),
         }
     }
+}
+
+/// The fields in an input.
+pub fn fields_in(input: &[u8]) -> &[u8] {
+    &input[FIELDS..FIELDS + short(input, 16)]
 }
 
 /// The opening in an input, and what stands behind its fields.

@@ -23,6 +23,11 @@ pub const BODY: usize = 24;
 /// The main image and at most 15 that follow it.
 const FRAMES: u32 = 16;
 
+/// The fields in an input.
+pub fn fields_in(input: &[u8]) -> &[u8] {
+    Arguments::at(input).fields
+}
+
 struct Arguments<'a> {
     strict: bool,
     width: u32,

@@ -10,8 +10,8 @@
 //! first, put over the base text. An answer stands behind the number of successive cases that
 //! it answers: how many acceptable answers, each its count of numbers and the numbers, then the
 //! text written. A list of calls on a session goes on with the number of its stages, and for each
-//! the number of its answers' numbers, these, and the texts of its output and of the extension
-//! buffer; behind a reading stands the header that it ends with, in the form of an answer, and
+//! the number of its answers' numbers, these, the texts of its output and of the extension buffer,
+//! and the number of those that can then be asked and these, zeros at the end left out; behind a reading stands the header that it ends with, in the form of an answer, and
 //! behind a card's making and reading its dots.
 
 use crate::cases::{Group, Sweep};
@@ -137,10 +137,7 @@ fn put_sweep(list: &mut Vec<u8>, sweep: &Sweep, answers: &[Answer], calls: bool)
 fn put_answer(list: &mut Vec<u8>, answer: &Answer, calls: bool) {
     put_number(list, answer.accepted.len() as u64);
     for numbers in &answer.accepted {
-        put_number(list, numbers.len() as u64);
-        for &number in numbers {
-            put_number(list, number);
-        }
+        put_numbers(list, numbers);
     }
     put_text(list, &answer.output);
     if calls {
@@ -154,12 +151,16 @@ fn put_answer(list: &mut Vec<u8>, answer: &Answer, calls: bool) {
 fn put_stages(list: &mut Vec<u8>, stages: &[Left]) {
     put_number(list, stages.len() as u64);
     for stage in stages {
-        let numbers = stage.answers.concat();
-        put_number(list, numbers.len() as u64);
-        numbers.iter().for_each(|&number| put_number(list, number));
+        put_numbers(list, &stage.answers.concat());
         put_text(list, &stage.out);
         put_text(list, &stage.buffer);
+        put_numbers(list, &stage.asked);
     }
+}
+
+fn put_numbers(list: &mut Vec<u8>, numbers: &[u64]) {
+    put_number(list, numbers.len() as u64);
+    numbers.iter().for_each(|&number| put_number(list, number));
 }
 
 fn put_number(list: &mut Vec<u8>, number: u64) {

@@ -49,9 +49,12 @@ pub fn reading_input(
 pub struct Stages(pub Vec<Stage>);
 
 impl Stages {
-    pub fn new(letter: u8) -> Stages {
-        let calls = Vec::new();
-        Stages(vec![Stage { letter, calls }])
+    /// The first has no call: of the opened session only is asked.
+    pub fn new() -> Stages {
+        let mut stages = Stages(Vec::new());
+        stages.begin(0);
+        stages.begin(0);
+        stages
     }
 
     pub fn begin(&mut self, letter: u8) {
@@ -92,7 +95,7 @@ impl MakingCase {
             mark,
             lent,
             samples,
-            stages: Stages::new(0),
+            stages: Stages::new(),
             session,
             at: 0,
         }
@@ -144,7 +147,7 @@ impl ReadingCase {
             mark,
             ext,
             file,
-            stages: Stages::new(0),
+            stages: Stages::new(),
             session,
             at: 0,
         }

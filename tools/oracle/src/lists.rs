@@ -21,13 +21,15 @@ pub struct Stage {
     pub calls: Vec<Call>,
 }
 
-/// What a stage leaves: three numbers for each call, its output, and the extension buffer, which
-/// a making has not.
+/// What a stage leaves: three numbers for each call, its output, the extension buffer, which a making
+/// has not, and what can then be asked of the session: 1 where it is closed, how many frames are done;
+/// of a reading 1 where its fields are known, their kind, start, length and pairs.
 #[derive(Clone, PartialEq, Eq, Debug)]
 pub struct Left {
     pub answers: Vec<[u64; 3]>,
     pub out: Vec<u8>,
     pub buffer: Vec<u8>,
+    pub asked: Vec<u64>,
 }
 
 /// How long a call is in the input.

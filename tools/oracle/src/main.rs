@@ -27,6 +27,7 @@ mod writer_cases;
 
 use cases::{Group, Sweep};
 use list::List;
+use oracle::answer::Answer;
 
 /// The first line of each block.
 const LINE: &str = "Answers of the Rust crate oxideav-wbmp 8c7cef09ab, built unchanged, \
@@ -124,17 +125,22 @@ fn reports(group: &Group) -> Vec<String> {
 
 /// One comparison for a reader's case and for one in place; for a writer's, three where it
 /// accepts (the output exactly long enough, longer and too short) and two where it refuses (no
-/// output and some); for a list one for each call, the opening included.
+/// output and some); for a list one for each call, the opening included. What writes fields that
+/// can be told as records is done twice.
 fn comparisons(group: &Group) -> usize {
-    let answers = group
-        .sweeps
-        .iter()
-        .flat_map(|sweep| list::answers(group, sweep));
-    let each = answers.map(|answer| match group.operation {
-        _ if group.operation.calls() => answer.calls(),
-        _ if !group.operation.writes() => 1,
-        _ if answer.output.is_empty() => 2,
-        _ => 3,
+    let operation = group.operation;
+    let each = group.sweeps.iter().flat_map(|sweep| {
+        let answers = list::answers(group, sweep).into_iter();
+        answers.zip(sweep.inputs()).collect::<Vec<_>>()
     });
-    each.sum()
+    let count = |(answer, input): (Answer, Vec<u8>)| {
+        let again = if operation.records(&input) { 2 } else { 1 };
+        match operation {
+            _ if operation.calls() => again * answer.list_calls() + answer.later_calls(),
+            _ if !operation.writes() => 1,
+            _ if answer.output.is_empty() => again * 2,
+            _ => again * 3,
+        }
+    };
+    each.map(count).sum()
 }

@@ -90,6 +90,12 @@ impl Made {
         self
     }
 
+    /// What can be asked after the last call: 1 where it is closed, and the frames done.
+    fn asked(mut self, numbers: &[u64]) -> Made {
+        self.list.asked(numbers);
+        self
+    }
+
     fn stated(self) -> Stated {
         let stages = &self.list.stages.0;
         let input = making_input(&self.opening, MARK, self.lent, &self.list.text, stages);
@@ -114,6 +120,7 @@ fn opened() -> Vec<Stated> {
     let shut = |made: Made| {
         made.feed(b"\xFF", [1, 4], [30, 0, 0], b"")
             .close(30)
+            .asked(&[1])
             .stated()
     };
     let refused = |size, rule, lent, number| make(size, rule, lent, &[number], b"");
@@ -196,7 +203,9 @@ fn fed() -> Vec<Stated> {
             .feed(&white[..10], [0, 0], [0, 0, 0], b"")
             .feed(&white[..10], [1, 0], [0, 8, 1], b"\x80")
             .feed(&white[..2], [9, 0], [0, 2, 2], b"\xFF\x80")
+            .asked(&[0, 1])
             .close(0)
+            .asked(&[1, 1])
             .feed(&white[..1], [9, 9], [30, 0, 0], b"")
             .close(30)
             .stated(),

@@ -68,6 +68,13 @@ impl Read {
         self
     }
 
+    /// What can be asked after the last call: 1 where it is closed, the frames done, 1 where the
+    /// fields are known, their kind, start, length and pairs.
+    fn asked(mut self, numbers: &[u64]) -> Read {
+        self.list.asked(numbers);
+        self
+    }
+
     /// 1, width, height, body, FixHeader, and kind, start, length and pairs of the fields; nothing
     /// if there is no header.
     fn shows(mut self, header: &[u64]) -> Stated {
@@ -147,11 +154,17 @@ fn heads() -> Vec<Stated> {
         met(strict(), b"\x00\x00", b"\x80", [4, 2, 0]),
         met(strict(), b"\x00\x00\x09", b"\x80\x02", [4, 3, 0]),
         met(strict(), b"\x00", b"\x01", [7, 1, 0]),
+        strict()
+            .feed(b"\x00\x00", 0, [0, 2, 0], b"")
+            .asked(&[0, 0, 1])
+            .stated(),
         met(strict(), b"\x00", b"\xE0\x11kv", [7, 1, 0]),
         // Lenient, every FixHeader without bit 7 is accepted.
         lenient()
             .feed(b"\x00\x7F\x01\x01\x80", 1, [0, 5, 1], b"\x80")
+            .asked(&[0, 1, 1])
             .close([0, 1, 0])
+            .asked(&[1, 1, 1])
             .stated(),
         // A refusal depends on the whole piece, whatever the output: 8 behind nothing else.
         lenient()
@@ -307,9 +320,13 @@ fn fields() -> Vec<Stated> {
             .brings(b"\x00\x80\x81", [0, 3, 0], b"\x81")
             .brings(b"\x82", [0, 1, 0], b"\x82")
             .brings(b"\x03\x01", [0, 2, 0], b"\x03")
+            .asked(&[0, 0, 1, 1, 2, 3])
             .brings(b"\x01", [0, 1, 0], b"")
+            .asked(&[0, 0, 1, 1, 2, 3])
             .feed(b"\x80", 1, [0, 1, 1], b"\x80")
+            .asked(&[0, 1, 1, 1, 2, 3])
             .close([0, 1, 0])
+            .asked(&[1, 1, 1, 1, 2, 3])
             .shows(&[1, 1, 1, 7, 0x80, 1, 2, 3]),
         lenient()
             .brings(b"\x00\xA0\xFF\x01\x01", [0, 5, 0], b"\xFF")
@@ -325,8 +342,10 @@ fn fields() -> Vec<Stated> {
             .brings(b"\x00\xE0\x12", [0, 3, 0], b"\x12")
             .brings(b"k1", [0, 2, 0], b"k1")
             .brings(b"2\x09", [0, 2, 0], b"2")
+            .asked(&[0, 0, 1, 4, 2, 4, 1])
             .brings(b"\x02", [0, 1, 0], b"")
             .close([20, 8, 0])
+            .asked(&[1, 0, 1, 4, 2, 4, 1])
             .shows(&[1, 9, 2, 8, 0xE0, 4, 2, 4, 1]),
         // The classes are not tested.
         lenient()
@@ -339,6 +358,7 @@ fn fields() -> Vec<Stated> {
             .brings(b"\x00\xE0\x91k", [0, 4, 0], b"\x91k")
             .brings(b"v\x01w", [11, 6, 0], b"v\x01")
             .close([11, 6, 0])
+            .asked(&[1])
             .shows(&[]),
         lenient()
             .brings(b"\x00\xE0\x10kv", [12, 3, 0], b"\x10")
@@ -356,6 +376,7 @@ fn fields() -> Vec<Stated> {
         lenient()
             .brings(b"\x00\xE0\x91kv", [0, 5, 0], b"\x91kv")
             .close([9, 5, 0])
+            .asked(&[1])
             .stated(),
         lenient()
             .brings(b"\x00\xE0\x31ke", [0, 5, 0], b"\x31ke")
@@ -370,6 +391,17 @@ fn fields() -> Vec<Stated> {
         lenient()
             .brings(b"\x00\xE0\x11", [0, 3, 0], b"\x11")
             .brings(b"kv\x90\x80\x80\x80\x00", [2, 10, 0], b"kv")
+            .close([2, 10, 0])
+            .asked(&[1])
+            .stated(),
+        // The fields that were known before a refusal stay known.
+        lenient()
+            .brings(b"\x00\xE0\x11kv", [0, 5, 0], b"\x11kv")
+            .asked(&[0, 0, 1, 4, 2, 3, 1])
+            .brings(b"\x90\x80\x80\x80\x00", [2, 10, 0], b"")
+            .asked(&[0, 0, 1, 4, 2, 3, 1])
+            .close([2, 10, 0])
+            .asked(&[1, 0, 1, 4, 2, 3, 1])
             .stated(),
         lenient()
             .brings(

@@ -7,10 +7,10 @@ use Rattle.vectors.proofs.list.numbers.Statement.{statement}
 use Rattle.vectors.proofs.list.numbers.Tie as tie
 
 abbrev Inv-loop : tie.InvT-loop
-Inv-loop list start out₀ size next₀ i₀ out next i = length out ≡ length out₀
+Inv-loop list start out₀ head size next₀ i₀ out next i = length out ≡ length out₀
 
 abbrev μ-loop : tie.MeasureT-loop
-μ-loop list start out₀ size next₀ i₀ out next i = size - i
+μ-loop list start out₀ head size next₀ i₀ out next i = size - i
 
 number-requires : tie.Need-number-requires Inv-loop μ-loop
 number-requires c κs = search needs
@@ -36,6 +36,9 @@ loop-less c = search needs
 loop-again : tie.Need-loop-again Inv-loop μ-loop
 loop-again c = search needs
 
+past-if-requires : tie.Need-past-if-requires Inv-loop μ-loop
+past-if-requires c κs = search needs
+
 same-length : tie.Need-same-length Inv-loop μ-loop
 same-length c = search needs
 
@@ -56,5 +59,6 @@ numbers-spec =
     add-i
     loop-less
     loop-again
+    past-if-requires
     same-length
     returns)

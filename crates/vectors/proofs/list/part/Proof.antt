@@ -7,10 +7,10 @@ use Rattle.vectors.proofs.list.part.Statement.{statement}
 use Rattle.vectors.proofs.list.part.Tie as tie
 
 abbrev Inv-loop : tie.InvT-loop
-Inv-loop list start out₀ from size times len₀ i₀ out len i = length out ≡ length out₀
+Inv-loop list start out₀ from head size times len₀ i₀ out len i = length out ≡ length out₀
 
 abbrev μ-loop : tie.MeasureT-loop
-μ-loop list start out₀ from size times len₀ i₀ out len i = times - i
+μ-loop list start out₀ from head size times len₀ i₀ out len i = times - i
 
 number-requires : tie.Need-number-requires Inv-loop μ-loop
 number-requires c κs = search needs
@@ -39,6 +39,9 @@ loop-again c = search needs
 skip-requires : tie.Need-skip-requires Inv-loop μ-loop
 skip-requires c κs = search needs
 
+past-if-requires : tie.Need-past-if-requires Inv-loop μ-loop
+past-if-requires c κs = search needs
+
 same-length : tie.Need-same-length Inv-loop μ-loop
 same-length c = search needs
 
@@ -60,5 +63,6 @@ part-spec =
     loop-less
     loop-again
     skip-requires
+    past-if-requires
     same-length
     returns)
