@@ -17,7 +17,7 @@ use Rattle.quantize.specs.Engine.{setting}
 use Rattle.quantize.specs.Finished.{finished}
 use Rattle.quantize.proofs.Joining.{finished-frames}
 use Rattle.encoder.specs.Make.{fileOfScans}
-use Rattle.encoder.proofs.Scanned.{passes}
+use Rattle.encoder.proofs.ScanTests.{passes}
 use Rattle.encode_session.specs.Model as Making
 use Rattle.encode_session.specs.Trace as MakingTrace
 use Rattle.encode_session.proofs.Opening.{enough-work, Passed, passed}

@@ -22,7 +22,12 @@ unfolding readRest
 rest-cons strict b τ at v n = go (readByte strict at v n b)
   where
     go : (x : ByteRead)
-        → (elim x as (λ x. Answer (ℕ × ℕ)) [ goes w ↦ readRest strict τ (at + 1) w (n + 1) | ends w ↦ gives (w, at + 1) | wrong code p ↦ refuses code p ])
+        → (elim x as (λ x. Answer (ℕ × ℕ)) [
+          | goes w ↦ readRest strict τ (at + 1) w (n + 1)
+          | ends w ↦ gives
+              (w, at + 1)
+          | wrong code p ↦ refuses code p
+        ])
         ≡ upon x (λ w. readRest strict τ (at + 1) w (n + 1)) (λ w. gives (w, at + 1))
     go (goes w) = refl
     go (ends w) = refl
@@ -52,7 +57,8 @@ integer-in strict s (b ∷ τ) at v n k e =
     ∙ ap (λ (a : Answer (ℕ × ℕ)). bind a (λ r. k (r .0) (r .1) (drop (r .1) s))) (sym (rest-cons strict b τ at v n))
   where
     go : (x : ByteRead)
-        → ((w : ℕ) → integer strict τ (at + 1) w (n + 1) k ≡ bind (readRest strict τ (at + 1) w (n + 1)) (λ r. k (r .0) (r .1) (drop (r .1) s)))
+        → ((w : ℕ) → integer strict τ (at + 1) w (n + 1) k ≡ bind (readRest strict τ (at + 1) w (n + 1))
+        (λ r. k (r .0) (r .1) (drop (r .1) s)))
         → upon x (λ w. integer strict τ (at + 1) w (n + 1) k) (λ w. k w (at + 1) τ)
         ≡ bind (upon x (λ w. readRest strict τ (at + 1) w (n + 1)) (λ w. gives (w, at + 1))) (λ r. k (r .0) (r .1) (drop (r .1) s))
     go (goes w) ih = ih w
@@ -84,7 +90,8 @@ integer-on strict s at k r x p e =
 module _ (strict : Bool) (s : List ℕ) (at v n : ℕ) where
   pub integer-at : {A : Type 0} (k : ℕ → ℕ → List ℕ → Answer A) → at < length s
       → integer strict (drop at s) at v n k
-      ≡ upon (readByte strict at v n (getD s at 0)) (λ w. integer strict (drop (at + 1) s) (at + 1) w (n + 1) k) (λ w. k w (at + 1) (drop (at + 1) s))
+      ≡ upon (readByte strict at v n (getD s at 0)) (λ w. integer strict (drop (at + 1) s) (at + 1) w (n + 1) k)
+      (λ w. k w (at + 1) (drop (at + 1) s))
   unfolding integer
   integer-at k h = ap (λ (l : List ℕ). integer strict l at v n k) (drop-at s at h)
 

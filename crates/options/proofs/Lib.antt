@@ -1,4 +1,4 @@
-pub mod Limited
-pub mod Settled
+pub mod LimitTests
+pub mod LimitsSet
 pub mod Ceilings
 pub mod Examples

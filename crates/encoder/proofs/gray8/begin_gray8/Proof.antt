@@ -4,7 +4,7 @@ use lib.ListN.{length}
 use Rattle.error.specs.Answer.{checked}
 use Rattle.error.specs.declared.Checked.{Checked}
 use Rattle.encoder.specs.Make.{checkScans}
-use Rattle.encoder.proofs.Begun.{untested-left}
+use Rattle.encoder.proofs.PairsLeft.{untested-left}
 use borrow.Author.Needs.{needs}
 use Rattle.encoder.proofs.gray8.begin_gray8.Statement.{statement}
 use Rattle.encoder.proofs.gray8.begin_gray8.Tie as tie

@@ -6,9 +6,9 @@ use lib.ListN.{length}
 use Rattle.error.specs.Answer.{written}
 use Rattle.image.specs.Geometry.{planeBytes}
 use Rattle.image.specs.declared.PlaneLayout.{PlaneLayout}
-use Rattle.encoder.proofs.Scanned.{passed}
-use Rattle.encoder.proofs.Scanning.{planes-le}
-use Rattle.encoder.proofs.Begun.{planes-fit, made-left, refused-left}
+use Rattle.encoder.proofs.ScanTests.{passed}
+use Rattle.encoder.proofs.ScansLoop.{planes-le}
+use Rattle.encoder.proofs.PairsLeft.{planes-fit, made-left, refused-left}
 use borrow.Author.Needs.{needs}
 use Rattle.encoder.proofs.gray8.begin_made.Statement.{statement}
 use Rattle.encoder.proofs.gray8.begin_made.Tie as tie

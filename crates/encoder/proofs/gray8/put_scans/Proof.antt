@@ -6,8 +6,8 @@ use denote.Ref.{now}
 use lib.ListN.{length}
 use Rattle.laws.proofs.Products.{product-below}
 use Rattle.image.specs.declared.PlaneLayout.{PlaneLayout}
-use Rattle.encoder.proofs.Scanned.{passed}
-use Rattle.encoder.proofs.Scanning.{Scanning, begun, out-long, next-in, scanned, ended}
+use Rattle.encoder.proofs.ScanTests.{passed}
+use Rattle.encoder.proofs.ScansLoop.{Scanning, begun, out-long, next-in, scanned, ended}
 use Rattle.encoder.proofs.gray8.put_scans.Statement.{statement}
 use Rattle.encoder.proofs.gray8.put_scans.Tie as tie
 

@@ -6,8 +6,8 @@ use lib.ListN.{length}
 use Rattle.error.specs.Answer.{written}
 use Rattle.image.specs.Geometry.{planeBytes}
 use Rattle.image.specs.declared.PlaneLayout.{PlaneLayout}
-use Rattle.encoder.proofs.Tested.{tested, body-within}
-use Rattle.encoder.proofs.Begun.{planes-fit, written-left, unwritten-left}
+use Rattle.encoder.proofs.PlaneTests.{tested, body-within}
+use Rattle.encoder.proofs.PairsLeft.{planes-fit, written-left, unwritten-left}
 use borrow.Author.Needs.{needs}
 use Rattle.encoder.proofs.planes.begin_file.Statement.{statement}
 use Rattle.encoder.proofs.planes.begin_file.Tie as tie

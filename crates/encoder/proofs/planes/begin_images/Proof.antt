@@ -4,7 +4,7 @@ use lib.ListN.{length}
 use Rattle.error.specs.Answer.{checked}
 use Rattle.error.specs.declared.Checked.{Checked}
 use Rattle.encoder.specs.Write.{checkPlanes}
-use Rattle.encoder.proofs.Begun.{tested-left, unplaned-left}
+use Rattle.encoder.proofs.PairsLeft.{tested-left, unplaned-left}
 use borrow.Author.Needs.{needs}
 use Rattle.encoder.proofs.planes.begin_images.Statement.{statement}
 use Rattle.encoder.proofs.planes.begin_images.Tie as tie

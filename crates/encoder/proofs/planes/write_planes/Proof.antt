@@ -5,8 +5,8 @@ use borrow.Author.Needs.{needs}
 use denote.Ref.{now}
 use lib.ListN.{length}
 use Rattle.image.specs.declared.PlaneLayout.{PlaneLayout}
-use Rattle.encoder.proofs.Tested.{Tested, tested}
-use Rattle.encoder.proofs.Planed.{Planing, begun, kept-length, next-in, planed, ended}
+use Rattle.encoder.proofs.PlaneTests.{Tested, tested}
+use Rattle.encoder.proofs.PlanesLoop.{Planing, begun, kept-length, next-in, planed, ended}
 use Rattle.encoder.proofs.planes.write_planes.Statement.{statement}
 use Rattle.encoder.proofs.planes.write_planes.Tie as tie
 
