@@ -1,6 +1,7 @@
 #!/bin/sh
-# Builds examples/show.c against libcapi.a, runs it on four small cards and compares what it
-# writes with examples/show.expected. CC and CXX name the compilers.
+# Builds examples/show.c against libcapi.a, runs it on four small cards, on one of them also for
+# the first frame alone, and compares what it writes with examples/show.expected. CC and CXX name
+# the compilers.
 set -eu
 cd "$(dirname "$0")/.."
 rt staticlib capi >/dev/null
@@ -21,8 +22,11 @@ printf '\000\340\022k12\014\007'"$one" >fields.wbmp
 # The first frame without its last byte, and a type that there is not.
 printf "$head$one" | head -c 17 >cut.wbmp
 printf '\005' >type.wbmp
-for card in whole fields cut type; do
-    ./show "$card.wbmp" || echo "ended with $?"
-done >show.out
+{
+    for card in whole fields cut type; do
+        ./show "$card.wbmp" || echo "ended with $?"
+    done
+    ./show -1 whole.wbmp
+} >show.out
 diff ../../examples/show.expected show.out
 echo "show: as expected"

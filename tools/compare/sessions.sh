@@ -24,7 +24,7 @@ part() {
         echo "sessions: seed $1, $2 lists, $3 cards: different, see $out/sessions.list"
         exit 1
     fi
-    cat "$out/sessions.part" >>"$out/sessions.out"
+    grep -v '^wrong ' "$out/sessions.part" >>"$out/sessions.out"
     rm "$out/sessions.list"
 }
 

@@ -4,7 +4,12 @@
 # WBMP_RUST names the folder of the Rust files; they are linked to, never copied.
 set -eu
 cd "$(dirname "$0")/../.."
-rust=$(cd "${WBMP_RUST:-../shared/docs/src/src}" && pwd)
+rust=${WBMP_RUST:-../shared/docs/src/src}
+if [ ! -f "$rust/mbi.rs" ]; then
+    echo "$rust does not hold the Rust: set WBMP_RUST to the folder of oxideav-wbmp's mbi.rs and the other files" >&2
+    exit 1
+fi
+rust=$(cd "$rust" && pwd)
 out=target/oracle
 mkdir -p "$out"
 ln -sfn "$rust" "$out/rust"

@@ -12,7 +12,7 @@ use Rattle.error.specs.Choice.{if}
 use Rattle.error.specs.Answer.{Answer, gives, refuses, written}
 use Rattle.error.specs.Emits.{emitted}
 use Rattle.laws.proofs.Tests.{if-true, if-false, zero-one}
-use Rattle.ext.specs.Write.{fieldsBytes}
+use Rattle.ext_write.specs.Write.{fieldsBytes}
 use Rattle.header.specs.Write.{headerBytes}
 use Rattle.header.proofs.Put.{header-length, sizes-ten}
 use Rattle.header.specs.declared.ExtPresence.the-variants.{Absent}
@@ -22,7 +22,7 @@ use Rattle.options.specs.Settings.{defaults, withFormat}
 use Rattle.options.specs.declared.DecodeOptions.{DecodeOptions}
 use Rattle.options.specs.declared.EncodeOptions.{EncodeOptions}
 use Rattle.options.specs.declared.Quantize.{Quantize}
-use Rattle.quantize.specs.Whole.{knownRule}
+use Rattle.rules.specs.Rule.{knownRule}
 use Rattle.encoder.specs.Make.{Makes}
 use Rattle.encode_session.specs.Model as Making
 use Rattle.encode_session.specs.Session as MakingSession
@@ -115,7 +115,15 @@ makes-list w h dithered numbers gray work out answers s o old new last work′ o
     let f = subst (λ (t : EncodeOptions). MakingSession.Opens (Making.opening t w h [] []) (length work) o old new) e p in
     let k = making-opened w h (length work) dithered work o old new wide high room f in
     record {
-      does = record { last = last; made = refl; counts = q .counts _ (k .stands); shows = q .does _ k; leaves = q .leaves _ (k .stands) };
+      does = record {
+        last = last;
+        made = refl;
+        counts = q .counts _ (k .stands);
+        shows = q .does _ k;
+        leaves = q .leaves _ (k .stands);
+        first = o .session;
+        keeps = q .keeps _ (k .stands);
+      };
     }
 
 -- ---- whole making

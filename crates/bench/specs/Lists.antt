@@ -16,8 +16,10 @@ use Rattle.options.specs.Settings.{defaults, withFormat}
 use Rattle.options.specs.declared.EncodeOptions.{EncodeOptions}
 use Rattle.options.specs.declared.Quantize.{Quantize}
 use Rattle.options.specs.declared.Quantize.the-variants.{Threshold, Dither}
+use Rattle.quantize.specs.Turn.{stateOf}
 use Rattle.encoder.specs.Make.{Makes}
 use Rattle.encode_session.specs.Model as Making
+use Rattle.encode_session.specs.declared.EncodeSession.{EncodeSession}
 use Rattle.decode_session.specs.Model as Reading
 use Rattle.replay.specs.Calls.{named}
 use Rattle.replay.specs.Encode as Encode
@@ -56,7 +58,7 @@ pub record ReadsList (inverted : Bool) (numbers file out ext answers : List ℕ)
   pub made : r ≡ last .calls
   pub shows : let m = readingFrom inverted (length ext) in
       let cs = named numbers (length file) (length out) (length ext) (length answers) in
-      Decode.Shows m (Decode.callsOf m cs file out ext) out ext answers last out′ ext′ answers′
+      Decode.RepliesAs m (Decode.callsOf m cs file out ext) out ext answers last out′ ext′ answers′
 
 -- ---- a list of calls on a making session
 
@@ -69,14 +71,17 @@ abbrev pub makingFrom : ℕ → ℕ → Bool → ℕ → Making.Model
 makingFrom width height dithered work =
     let a = Making.opening (rule dithered) width height [] [] in startedBy (Making.header a work) (Making.opened a)
 
--- so many calls are made, with their replies in every lent byte, and the work buffer is altered only by carries
+-- so many calls are made, with their replies in every lent byte, and the work buffer is altered only by carries: it ends with what the
+-- running machine keeps, from the numbers found and the opened session's
 pub record MakesBy (m : Making.Model) (cs : List Making.Call) (work : List ℤ) (out answers : List ℕ) (r : ℕ) (work′ : List ℤ)
     (out′ answers′ : List ℕ) : Type 0 where
   pub last : EncodeReplayed
   pub made : r ≡ last .calls
-  pub counts : Encode.Counts m cs answers last answers′
-  pub shows : Encode.Shows m cs out last out′ work′
+  pub counts : Encode.AnswersAs m cs answers last answers′
+  pub shows : Encode.WritesAs m cs out last out′ work′
   pub leaves : Encode.Leaves m (Making.finally m cs) work work′
+  pub first : EncodeSession
+  pub keeps : work′ ≡ Encode.keptFrom m cs (stateOf (first .quantizer .place) work) .carry .kept
 
 pub record MakesList (width height : ℕ) (dithered : Bool) (numbers gray : List ℕ) (work : List ℤ) (out answers : List ℕ) (r : ℕ)
     (work′ : List ℤ) (out′ answers′ : List ℕ) : Type 0 where

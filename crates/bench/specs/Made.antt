@@ -18,8 +18,8 @@ pub record Made (a : Answer (List ℕ)) (r : ℕ) (old new : List ℕ) : Type 0 
   pub answer : r ≡ codeOf (emitted a old)
   pub bytes : new ≡ output a old
 
--- the work buffer is altered in its first 2 × width numbers only, and by no refusal
+-- the work buffer is altered in its first `width` numbers only, and by no refusal
 pub record Dithered (w h : ℕ) (gray : List ℕ) (r : ℕ) (out out′ : List ℕ) (work work′ : List ℤ) : Type 0 where
   pub made : Made (quantized Dither w h gray (length work)) r out out′
-  pub beyond : drop (2 * w) work′ ≡ drop (2 * w) work
+  pub beyond : drop w work′ ≡ drop w work
   pub refused : (code place : ℕ) → emitted (quantized Dither w h gray (length work)) out ≡ refuses code place → work′ ≡ work

@@ -15,13 +15,13 @@ use Rattle.ext.specs.Classes.{isChar, isAlphaDigit}
 use Rattle.ext.specs.Bytewise.{identifierFault, valueFault}
 use Rattle.header.specs.Settings.{Settings}
 use Rattle.header.specs.Read.{Outline, outline, readHeader}
-use Rattle.header.specs.Machine.{State, inType, atFix, inOctets, atOctet, atPair, inIdentifier, inValue, inWidth, inHeight, start, Step, more, done, refused, onByte, resume, stepOf, steps, after}
-use Rattle.header.specs.Represents.{Sound}
-use Rattle.header.specs.Pieces.{onward}
-use Rattle.header.proofs.Machine.{steps-cons, steps-all}
-use Rattle.header.proofs.Keeps.{SoundStep, sound-step, sound-start}
-use Rattle.header.proofs.Ends.{endCode, endOffset, end-is}
-use Rattle.header.proofs.Direct.{direct}
+use Rattle.header_reader.specs.Machine.{State, inType, atFix, inOctets, atOctet, atPair, inIdentifier, inValue, inWidth, inHeight, start, Step, more, done, refused, onByte, resume, stepOf, steps, after}
+use Rattle.header_reader.specs.Represents.{Sound}
+use Rattle.header_reader.specs.Pieces.{onward}
+use Rattle.header_reader.proofs.Machine.{steps-cons, steps-all}
+use Rattle.header_reader.proofs.Keeps.{SoundStep, sound-step, sound-start}
+use Rattle.header_reader.proofs.Ends.{endCode, endOffset, end-is}
+use Rattle.header_reader.proofs.Direct.{direct}
 
 pub record Told (code offset : ℕ) : Type 0 where
   pub some : 0 < code

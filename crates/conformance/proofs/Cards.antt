@@ -6,11 +6,11 @@ use Rattle.ext.specs.Read.{readFields, readPairs, readPair}
 use Rattle.header.specs.Read.{readHeader}
 use Rattle.api.specs.Sniff.{sniffed, sniffBody, areClear}
 use Rattle.image.specs.Rows.{convertFormat, convertRows, convertRow, clearPadding}
-use Rattle.quantize.specs.Diffusion.{part, value, white, residual, valueFrom, handed, rowValue, above, valueAt}
-use Rattle.quantize.specs.Ordered.{number, numbers, bound}
-use Rattle.quantize.specs.Rule.{dot}
+use Rattle.rules.specs.Diffusion.{part, value, white, residual, valueFrom, handed, rowValue, above, valueAt}
+use Rattle.rules.specs.Ordered.{number, numbers, bound}
+use Rattle.rules.specs.Rule.{dot}
 use Rattle.quantize.specs.Finished.{begunBytes, count, frame, dotOf, bitAt, byteAt, finished}
-use Rattle.quantize.specs.Bits.{upto, appended}
+use Rattle.rules.specs.Bits.{upto, appended}
 use Rattle.conformance.specs.Table.{table}
 use Rattle.conformance.specs.Check.{AllAgree}
 

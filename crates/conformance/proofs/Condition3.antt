@@ -13,14 +13,13 @@ use Rattle.laws.proofs.Answers.{bind-gives, unless}
 use Rattle.laws.proofs.Emitted.{emitted-is}
 use Rattle.header.specs.Write.{presented}
 use Rattle.options.specs.Limits.{Decoding, ceilingOf}
-use Rattle.quantize.specs.Engine.{setting}
-use Rattle.quantize.specs.Finished.{finished}
+use Rattle.quantize.specs.Finished.{setting, finished}
 use Rattle.quantize.proofs.Joining.{finished-frames}
 use Rattle.encoder.specs.Make.{fileOfScans}
 use Rattle.encoder.proofs.ScanTests.{passes}
 use Rattle.encode_session.specs.Model as Making
 use Rattle.encode_session.specs.Trace as MakingTrace
-use Rattle.encode_session.proofs.Opening.{enough-work, Passed, passed}
+use Rattle.encode_session.proofs.OpenCorrect.{enough-work, Passed, passed}
 use Rattle.encode_session.proofs.Theorems.{lists, bytes-joined, closed-whole}
 use Rattle.decode_session.specs.Model.{nothing}
 use Rattle.decode_session.proofs.Cuts.{unmet, whole}
@@ -38,7 +37,8 @@ module _ {a : Making.Opening} {header : List ℕ} {cs : List Making.Call} {rs : 
       let e = emitted-is (Making.header a (length (l .work))) (length header) (l .old) (l .new)
       (subst (λ (r : Answer ℕ). Emits (Making.header a (length (l .work))) r (l .old) (l .new)) (l .accepted) (l .opens .emits)) in
       let same : e .0 ≡ header =
-      sym (take-append-seam (e .0) (drop (length (e .0)) (l .old))) ∙ ap (λ (n : ℕ). take n (e .0 ++ drop (length (e .0)) (l .old))) (sym (e .2))
+      sym (take-append-seam (e .0) (drop (length (e .0)) (l .old)))
+      ∙ ap (λ (n : ℕ). take n (e .0 ++ drop (length (e .0)) (l .old))) (sym (e .2))
       ∙ ap (take (length header)) (sym (e .3)) ∙ l .front in
       (e .1 ∙ ap gives same, e .3 ∙ ap (λ (b : List ℕ). b ++ drop (length b) (l .old)) same)
 
@@ -58,7 +58,8 @@ module _ {a : Making.Opening} {header : List ℕ} {cs : List Making.Call} {rs : 
   bytes-are =
       bytes-joined (l .opens) (length header) (l .accepted) (l .trace) ∙ ap (finished (Making.settingOf a)) (sym scans-are)
 
-  bytes-finish : map (λ front. front ++ finished (Making.settingOf a) scans) (Making.header a (length (l .work))) ≡ gives (header ++ MakingTrace.joined rs)
+  bytes-finish : map (λ front. front ++ finished (Making.settingOf a) scans) (Making.header a (length (l .work)))
+      ≡ gives (header ++ MakingTrace.joined rs)
   bytes-finish =
       ap (map (λ (front : List ℕ). front ++ finished (Making.settingOf a) scans)) (header-written .0)
       ∙ ap (λ (b : List ℕ). gives (header ++ b)) (sym bytes-are)
@@ -71,7 +72,13 @@ module _ {a : Making.Opening} {header : List ℕ} {cs : List Making.Call} {rs : 
       let rule = a .options .quantize in
       made-is 16 (a .options) (a .width) (a .height) k scans (a .text) (a .lengths) work header
       (passes 16 rule (a .width) (a .height) k (length scans) work
-      (record { sized = record { wide = p .wide; high = p .high; some = some; few = most }; known = p .known; room = served; enough = omega arith }))
+      (record {
+        sized = record { wide = p .wide; high = p .high; some = some; few = most };
+        known = p .known;
+        room = served;
+        enough =
+            omega arith;
+      }))
       (p .headed)
       ∙ ap (λ (b : List ℕ). gives (header ++ b))
       (ap (finished (setting rule (a .width) (a .height) k)) (take-all (k * (a .width * a .height)) scans (omega arith))
@@ -80,7 +87,9 @@ module _ {a : Making.Opening} {header : List ℕ} {cs : List Making.Call} {rs : 
 
   card-closed : wasClosed rs ≡ true → (k : ℕ) × Card a scans (header ++ MakingTrace.joined rs) k
   card-closed e =
-      let f = closed-whole (l .opens) (length header) (l .accepted) (l .trace) (closed-machine (Making.opened a) cs (ap wasClosed (sym replied-as) ∙ e)) in
+      let f =
+      closed-whole (l .opens) (length header) (l .accepted) (l .trace)
+      (closed-machine (Making.opened a) cs (ap wasClosed (sym replied-as) ∙ e)) in
       let all = ap length scans-are ∙ f .all in
       let t = unless (eqb (a .width) 0 || eqb (a .height) 0) 8 0 _ header (tests .headed) in
       let g = bind-gives (presented (a .options .ext) (a .text) (a .lengths)) _ header (t .1) in

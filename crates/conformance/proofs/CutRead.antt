@@ -22,12 +22,15 @@ use Rattle.decode_session.proofs.WholeReading.{sequence-planes}
 use Rattle.conformance.specs.Lists.{ReadingList}
 use Rattle.conformance.proofs.CutShown.{some-read, joined-is}
 
-pub begins : {d : Decoding} {file : List ℕ} {cs : List Call} {rs : List Reply} {last : DecodeSession} {extension : List ℕ} {closing : Answer Told}
-    → ReadingList d cs rs last extension → Cut file 0 false cs rs closing → (out : List ℕ) → shown (ceilingOf d) d file ≡ gives out → take (length out) (joined rs) ≡ out
+pub begins : {d : Decoding} {file : List ℕ} {cs : List Call} {rs : List Reply} {last : DecodeSession} {extension : List ℕ}
+    {closing : Answer Told}
+    → ReadingList d cs rs last extension → Cut file 0 false cs rs closing → (out : List ℕ) → shown (ceilingOf d) d file ≡ gives out
+    → take (length out) (joined rs) ≡ out
 unfolding shown
 begins {d} {file} {rs = rs} l cut out e = go (readImage d file) refl e
   where
-    go : (x : Answer Outline) → readImage d file ≡ x → map (λ h. planes (d .format) file h (framesIn (ceilingOf d) (length file) h)) x ≡ gives out → take (length out) (joined rs) ≡ out
+    go : (x : Answer Outline) → readImage d file ≡ x
+        → map (λ h. planes (d .format) file h (framesIn (ceilingOf d) (length file) h)) x ≡ gives out → take (length out) (joined rs) ≡ out
     go (refuses code place) p q = zero-one (cc)
     go (gives h) p q =
         let r = image-parts d file h p in

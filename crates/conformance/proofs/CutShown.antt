@@ -13,8 +13,8 @@ use Rattle.error.specs.Answer.{Answer, gives, refuses, map}
 use Rattle.laws.proofs.Answers.{bind-gives, when}
 use Rattle.mbi.specs.Bytes.{mbiBytes, groups}
 use Rattle.ext.specs.Kinds.{Fields, none, bitfield, reserved, pairs, spanOf}
-use Rattle.ext.specs.Ceiling.{Readable}
-use Rattle.ext.specs.Write.{fieldsBytes}
+use Rattle.ext_write.specs.Ceiling.{Readable}
+use Rattle.ext_write.specs.Write.{fieldsBytes}
 use Rattle.header.specs.Read.{Outline, outline}
 use Rattle.header.specs.Write.{fixByte, sizeBytes, headerBytes, presented}
 use Rattle.header.proofs.RoundTrip.{Fitting}
@@ -22,8 +22,7 @@ use Rattle.image.specs.Dots.{isWhite}
 use Rattle.image.specs.Geometry.{rowBytes, planeBytes}
 use Rattle.options.specs.Limits.{Decoding, settled, ceilingOf}
 use Rattle.options.proofs.Ceilings.{tested, sixteen}
-use Rattle.quantize.specs.Engine.{setting}
-use Rattle.quantize.specs.Finished.{finished}
+use Rattle.quantize.specs.Finished.{setting, finished}
 use Rattle.decoder.specs.Body.{framesIn, planes}
 use Rattle.decoder.specs.Image.{imageSettings, headerOf, readImage}
 use Rattle.decoder.specs.Frames.{shown}
@@ -56,7 +55,8 @@ opening-says d n e =
     (tested d (b .0) (b .1) .some, leb-true 4118 n (when (leb 4118 n) 28 0 (gives tt) tt (b .2) .0))
 
 -- the plain machine accepts what is accepted
-module _ {d : Decoding} {cs : List Call} {rs : List Reply} {last : DecodeSession} {extension : List ℕ} (l : ReadingList d cs rs last extension) where
+module _ {d : Decoding} {cs : List Call} {rs : List Reply} {last : DecodeSession} {extension : List ℕ}
+    (l : ReadingList d cs rs last extension) where
   pub admitted : opening d (length (l .lent)) ≡ gives tt
   admitted = sym (l .opens .answer) ∙ l .accepted
 
@@ -70,7 +70,8 @@ module _ {d : Decoding} {cs : List Call} {rs : List Reply} {last : DecodeSession
   replied = lists (opened d) begun (l .trace) .0
 
 -- a cut of a file that is read
-module _ (d : Decoding) (bytes : List ℕ) (h : Outline) (read : readImage d bytes ≡ gives h) {cs : List Call} {rs : List Reply} {last : DecodeSession}
+module _ (d : Decoding) (bytes : List ℕ) (h : Outline) (read : readImage d bytes ≡ gives h)
+    {cs : List Call} {rs : List Reply} {last : DecodeSession}
     {extension : List ℕ} {closing : Answer Told} (l : ReadingList d cs rs last extension) (cut : Cut bytes 0 false cs rs closing) where
   module _ (K : ℕ → List ℕ → Type 0)
       (more : (at n : ℕ) (ext : List ℕ) → at + n ≤ length bytes → K at ext → K (at + n) (storedTo d bytes h read at (at + n) ext)) where
@@ -102,12 +103,14 @@ module _ (d : Decoding) (bytes : List ℕ) (h : Outline) (read : readImage d byt
         let o = imageSettings (d .mode) in
         let K = Left o strict f fb τ r p q c g in
         let n = ended K (λ at n ext b k.
-        subst (λ (s : List ℕ). K (at + n) (sets ext (length (fieldBytes o (take at s))) (drop (length (fieldBytes o (take at s))) (fieldBytes o (take (at + n) s)))))
+        subst (λ (s : List ℕ). K (at + n)
+        (sets ext (length (fieldBytes o (take at s))) (drop (length (fieldBytes o (take at s))) (fieldBytes o (take (at + n) s)))))
         (sym e) (left-more o strict f fb τ r p q c g at n ext k))
         (left-none o strict f fb τ r p q c g (l .lent) (opening-says d (length (l .lent)) (admitted l) .1)) in
         left-shows o strict f fb τ r p q c g extension (subst (λ (s : List ℕ). K (length s) extension) e (n .holds))
 
-    fields-are : (f : Fields) → bytes ≡ 0 ∷ fixByte f ∷ (fb ++ τ) → fieldsBytes strict f ≡ gives fb → Fitting (imageSettings (d .mode)) strict f
+    fields-are : (f : Fields) → bytes ≡ 0 ∷ fixByte f ∷ (fb ++ τ) → fieldsBytes strict f ≡ gives fb
+        → Fitting (imageSettings (d .mode)) strict f
         → fieldsShown (spanOf 2 (f, 2 + length fb)) extension ≡ gives f
     fields-are none e g t = refl
     fields-are (bitfield octets) e g t = by-buffer (bitfield octets) e g (t .0) (t .1) (t .2) (t .3)
@@ -170,7 +173,9 @@ module _ (d : Decoding) (a : Making.Opening) (fields : Fields) (k : ℕ) (scans 
   output-is : planes (d .format) bytes shape (min k most) ≡ back .output
   unfolding shown
   output-is =
-      let e = sym (ap (map (λ h. planes (d .format) bytes h (framesIn most (length bytes) h))) read ∙ ap (λ (n : ℕ). gives (planes (d .format) bytes shape n)) count-is) ∙ back .shows in
+      let e =
+      sym (ap (map (λ h. planes (d .format) bytes h (framesIn most (length bytes) h))) read
+      ∙ ap (λ (n : ℕ). gives (planes (d .format) bytes shape n)) count-is) ∙ back .shows in
       cc
 
   sequence-is : sequence most d bytes ≡ back .output
@@ -179,7 +184,8 @@ module _ (d : Decoding) (a : Making.Opening) (fields : Fields) (k : ℕ) (scans 
       (all-there most d (a .options .strict) w h fields k body bytes parts (tests .tests .sized .some) reads wb hb fit adm long)
       ∙ output-is
 
-  pub shows : {cs : List Call} {rs : List Reply} {last : DecodeSession} {extension : List ℕ} {closing : Answer Told} → ReadingList d cs rs last extension
+  pub shows : {cs : List Call} {rs : List Reply} {last : DecodeSession} {extension : List ℕ} {closing : Answer Told}
+      → ReadingList d cs rs last extension
       → Cut bytes 0 false cs rs closing → Shows d a fields k scans last extension (joined rs) closing
   shows {rs = rs} l cut =
       let j = joined-is d bytes shape read l cut ∙ sequence-is in
@@ -193,5 +199,6 @@ module _ (d : Decoding) (a : Making.Opening) (fields : Fields) (k : ℕ) (scans 
         frames = closing-is d bytes shape read l cut ∙ ap (λ (n : ℕ). gives (frames n)) (count-is ∙ every-scan);
         size = ap length j ∙ back .size ∙ ap (λ (n : ℕ). n * planeBytes w h) every-scan;
         dots = λ f x y b.
-            ap (λ (s : List ℕ). isWhite (d .format) w h (rowBytes w) (planeIn w h s f) x y) j ∙ back .dots f x y (omega (arith, every-scan));
+            ap (λ (s : List ℕ). isWhite (d .format) w h (rowBytes w) (planeIn w h s f) x y) j
+            ∙ back .dots f x y (omega (arith, every-scan));
       }

@@ -13,10 +13,10 @@ use Rattle.error.specs.Answer.{gives, map}
 use Rattle.laws.proofs.Tests.{zero-one}
 use Rattle.ext.specs.Kinds.{Fields, none, bitfield, reserved, pairs, spanOf, fieldsFollow, kindBits}
 use Rattle.ext.specs.Read.{readFields}
-use Rattle.ext.specs.Write.{fieldsBytes}
-use Rattle.ext.specs.Ceiling.{kindOf, Readable}
+use Rattle.ext_write.specs.Write.{fieldsBytes}
+use Rattle.ext_write.specs.Ceiling.{kindOf, Readable}
 use Rattle.ext.proofs.Bounds.{fields-bound}
-use Rattle.ext.proofs.ReadBack.{read-back}
+use Rattle.ext_write.proofs.ReadBack.{read-back}
 use Rattle.header.specs.Settings.{Settings}
 use Rattle.header.specs.Write.{fixByte}
 use Rattle.decode_session.specs.Extension.{fieldBytes}
@@ -49,7 +49,8 @@ module _ (o : Settings) (strict : Bool) (f : Fields) (bytes τ : List ℕ) (read
   pub follow : (o .honoured && fieldsFollow (fixByte f)) ≡ true
   follow = rw honoured (fix-says f readable .0)
 
-  pub read : (ρ : List ℕ) → readFields (o .classes) true (kindBits (fixByte f)) (fieldsFile (fixByte f) bytes ρ) 2 ≡ gives (f, 2 + length bytes)
+  pub read : (ρ : List ℕ) → readFields (o .classes) true (kindBits (fixByte f)) (fieldsFile (fixByte f) bytes ρ) 2
+      ≡ gives (f, 2 + length bytes)
   read ρ = rw (fix-says f readable .1) (read-back strict (o .classes) ease (0 ∷ fixByte f ∷ []) bytes ρ f readable given)
 
   -- the buffer holds the fields of the first bytes
@@ -60,10 +61,15 @@ module _ (o : Settings) (strict : Bool) (f : Fields) (bytes τ : List ℕ) (read
   pub left-none : (ext : List ℕ) → 4118 ≤ length ext → Left 0 ext
   left-none ext l =
       holds-none o (fixByte f) bytes τ f passed follow read ext
-      (omega (arith, fields-bound (o .classes) true (kindBits (fixByte f)) (fieldsFile (fixByte f) bytes []) 2 (f, 2 + length bytes) (read []) .span-most))
+      (omega (
+        arith,
+        fields-bound (o .classes) true (kindBits (fixByte f)) (fieldsFile (fixByte f) bytes []) 2 (f, 2 + length bytes)
+            (read []) .span-most,
+      ))
 
   pub left-more : (at n : ℕ) (ext : List ℕ) → Left at ext
-      → Left (at + n) (sets ext (length (fieldBytes o (take at file))) (drop (length (fieldBytes o (take at file))) (fieldBytes o (take (at + n) file))))
+      → Left (at + n) (sets ext (length (fieldBytes o (take at file)))
+      (drop (length (fieldBytes o (take at file))) (fieldBytes o (take (at + n) file))))
   left-more = holds-more o (fixByte f) bytes τ f passed follow read
 
   pub left-shows : (ext : List ℕ) → Left (length file) ext → fieldsShown (spanOf 2 (f, 2 + length bytes)) ext ≡ gives f

@@ -16,7 +16,7 @@ use Rattle.laws.proofs.Answers.{bind-gives, map-gives, unless}
 use Rattle.laws.proofs.Tests.{neither, zero-one}
 use Rattle.mbi.specs.Bytes.{mbiBytes, groups}
 use Rattle.ext.specs.Kinds.{Fields, none, bitfield, reserved, pairs}
-use Rattle.ext.specs.Write.{fieldsBytes, lentFields, cutPairs, sum}
+use Rattle.ext_write.specs.Write.{fieldsBytes, lentFields, cutPairs, sum}
 use Rattle.ext.specs.declared.ExtFieldType.the-variants.{Bitfield00, Reserved01, Reserved10, ParameterPairs11}
 use Rattle.header.specs.Settings.{Settings}
 use Rattle.header.specs.Read.{Header, readHeader}
@@ -54,7 +54,9 @@ filed o width height text lengths body bytes fields lent e =
       wide = pos-of-ne-zero (eqb-false width 0 (z .0));
       high = pos-of-ne-zero (eqb-false height 0 (z .1));
       fieldsGive = subst (λ (g : Fields). fieldsBytes (o .strict) g ≡ gives (n .0)) same (n .1);
-      bytesAre = sym (m .2) ∙ ap (λ (l : List ℕ). l ++ body) (sym (n .2)) ∙ ap (λ (g : Fields). headerBytes (fixByte g) (n .0) width height ++ body) same;
+      bytesAre =
+          sym (m .2) ∙ ap (λ (l : List ℕ). l ++ body) (sym (n .2))
+          ∙ ap (λ (g : Fields). headerBytes (fixByte g) (n .0) width height ++ body) same;
     }
 
 -- the header is read, and the body stands behind it
@@ -77,7 +79,8 @@ module _ (strict : Bool) (width height : ℕ) (fields : Fields) (body bytes : Li
   front = headerBytes (fixByte fields) (f .fieldBytes) width height
 
   pub behind : drop (head .body) bytes ≡ body
-  behind = ap (drop (head .body)) (f .bytesAre) ∙ drop-at front body (head .body) (header-length (fixByte fields) (f .fieldBytes) width height)
+  behind =
+      ap (drop (head .body)) (f .bytesAre) ∙ drop-at front body (head .body) (header-length (fixByte fields) (f .fieldBytes) width height)
 
   pub size-is : length bytes ≡ head .body + length body
   size-is =
@@ -101,12 +104,14 @@ single (Present ParameterPairs11) text lengths kind octet e = go (eqb (sum lengt
     go false e = zero-one (cc)
 
 -- a reading that takes lent fields reads them back
-pub fitting : (mode : Mode) (written : Bool) (presence : ExtPresence) (text lengths : List ℕ) (fields : Fields) → presented presence text lengths ≡ gives fields
+pub fitting : (mode : Mode) (written : Bool) (presence : ExtPresence) (text lengths : List ℕ) (fields : Fields)
+    → presented presence text lengths ≡ gives fields
     → Taken mode written fields → Fitting (imageSettings mode) written fields
 fitting strict written presence text lengths fields e t = subst (Fitting (imageSettings strict) written) (sym t) tt
 fitting lenient written presence text lengths none e t = tt
 fitting lenient written presence text lengths (bitfield octets) e t = (t, refl, refl, λ z. zero-one (cc))
-fitting lenient written presence text lengths (reserved kind octet) e t = (single presence text lengths kind octet e, refl, refl, λ z. zero-one (cc))
+fitting lenient written presence text lengths (reserved kind octet) e t =
+    (single presence text lengths kind octet e, refl, refl, λ z. zero-one (cc))
 fitting lenient written presence text lengths (pairs ps) e t = (t, refl, refl, λ z. zero-one (cc))
 
 -- every reading takes no fields

@@ -13,7 +13,8 @@ pub mod MadeCards
 pub mod FieldsLeft
 pub mod CutShown
 pub mod CutRead
-pub mod Calling
+pub mod CardCalls
 pub mod Taken
 pub mod Condition3
 pub mod ListCards
+pub mod Theorems

@@ -1,4 +1,5 @@
--- Examples of the plain machines, which make a card in two calls and read it in three, and of cuts: no session stands here. Lists on the sessions themselves are those of the functions in src/lib.rt.
+-- Examples of the plain machines, which make a card in two calls and read it in three, and of cuts: no session stands here. Lists on the
+-- sessions themselves are those of the functions in src/lib.rt.
 use Prim.Native.Nat.{ℕ}
 use mathlib.Core.Path.{_≡_, refl}
 use mathlib.Core.Bool.{true, false}
@@ -10,7 +11,7 @@ use Rattle.mbi.specs.Bytes.{mbiBytes, groups}
 use Rattle.mbi.specs.Read.{readRest, readByte}
 use Rattle.ext.specs.Classes.{all, isAlphaDigit}
 use Rattle.ext.specs.Read.{readFields, readPairs, readPair}
-use Rattle.ext.specs.Write.{fieldsBytes, pairsBytes, checkPair, lentFields, cutPairs, sum}
+use Rattle.ext_write.specs.Write.{fieldsBytes, pairsBytes, checkPair, lentFields, cutPairs, sum}
 use Rattle.ext.specs.declared.ExtFieldType.the-variants.{ParameterPairs11}
 use Rattle.header.specs.Read.{readHeader}
 use Rattle.header.specs.declared.ExtPresence.the-variants.{Present}
@@ -18,9 +19,9 @@ use Rattle.image.specs.declared.PixelFormat.the-variants.{MonoWhite}
 use Rattle.options.specs.Limits.{Decoding, absent, ceilingOf, checkLimits}
 use Rattle.options.specs.Limits as limits
 use Rattle.options.specs.declared.Quantize.the-variants.{Dither}
-use Rattle.quantize.specs.Bits.{upto, appended}
-use Rattle.quantize.specs.Diffusion.{part, value, white, residual, valueFrom, handed, rowValue, above, valueAt}
-use Rattle.quantize.specs.Rule.{dot}
+use Rattle.rules.specs.Bits.{upto, appended}
+use Rattle.rules.specs.Diffusion.{part, value, white, residual, valueFrom, handed, rowValue, above, valueAt}
+use Rattle.rules.specs.Rule.{dot}
 use Rattle.quantize.specs.Finished.{begunBytes, count, frame, dotOf, bitAt, byteAt, finished}
 use Rattle.quantize.specs.Finished as Finished
 use Rattle.decoder.specs.Image.{testBody, readImage}
@@ -62,7 +63,8 @@ made =
     ∷ []
 
 made-so : Making.replies (Making.opened card) making ≡ made
-unfolding Making.replies Making.outcome Making.taken Making.written upto appended part value white residual valueFrom handed rowValue above valueAt dot begunBytes count frame dotOf bitAt byteAt finished Finished.most Finished.takes
+unfolding Making.replies Making.outcome Making.taken Making.written upto appended part value white residual valueFrom handed rowValue above
+    valueAt dot begunBytes count frame dotOf bitAt byteAt finished Finished.most Finished.takes
 made-so = refl
 
 made-whole : (wasClosed made ≡ true) × (samplesOf making made ≡ 127 ∷ 128 ∷ []) × (MakingTrace.joined made ≡ 0x40 ∷ [])
@@ -93,7 +95,8 @@ read =
     ∷ []
 
 read-so : Reading.replies (Reading.opened lenient) reading ≡ read
-unfolding ceilingOf Reading.replies Reading.outcome Reading.grown Reading.written fieldBytes bodyFrom sequence most readRest readByte readFields readPairs readPair readHeader testBody readImage checkLimits all isAlphaDigit
+unfolding ceilingOf Reading.replies Reading.outcome Reading.grown Reading.written fieldBytes bodyFrom sequence most readRest readByte
+    readFields readPairs readPair readHeader testBody readImage checkLimits all isAlphaDigit
 read-so = refl
 
 read-cut : ReadingTrace.Cut file 0 false reading read (gives (Reading.frames 1))
@@ -126,8 +129,9 @@ refused =
     ∷ []
 
 refused-so : Reading.replies (Reading.opened lenient) trying ≡ refused
-unfolding ceilingOf Reading.replies Reading.outcome Reading.grown Reading.written fieldBytes bodyFrom sequence most readRest readByte readFields readHeader testBody readImage checkLimits
+unfolding ceilingOf Reading.replies Reading.outcome Reading.grown Reading.written fieldBytes bodyFrom sequence most readRest readByte
+    readFields readHeader testBody readImage checkLimits
 refused-so = refl
 
 refused-cut : ReadingTrace.Cut bad 0 false trying refused (refuses 8 4)
-refused-cut = ReadingTrace.part 3 (ReadingTrace.part 1 (ReadingTrace.part 1 (ReadingTrace.part 1 ReadingTrace.refusal)))
+refused-cut = ReadingTrace.part 3 (ReadingTrace.part 1 (ReadingTrace.part 1 (ReadingTrace.part 1 ReadingTrace.afterRefusal)))

@@ -19,8 +19,7 @@ use Rattle.image.specs.declared.PixelFormat.the-variants.{MonoBlack}
 use Rattle.options.specs.Limits.{Decoding}
 use Rattle.options.specs.declared.EncodeOptions.{EncodeOptions}
 use Rattle.options.specs.declared.Quantize.{Quantize}
-use Rattle.quantize.specs.Engine.{setting}
-use Rattle.quantize.specs.Finished.{finished}
+use Rattle.quantize.specs.Finished.{setting, finished}
 use Rattle.quantize.proofs.Joining.{scans-long, scans-more}
 use Rattle.quantize.proofs.Wholes.{plane-long}
 use Rattle.encoder.specs.File.{fileOf}
@@ -64,7 +63,8 @@ module _ (rule : Quantize) (width height : ℕ) (gray : List ℕ) (wide : 0 < wi
 
   pub body-plane : (k : ℕ) → k < count → planeIn width height (body count) k ≡ made k
   body-plane k =
-      piece-back (planeBytes width height) count made body body-size (λ k l. scans-more rule width height gray wide high k (there k (omega arith)))
+      piece-back (planeBytes width height) count made body body-size
+      (λ k l. scans-more rule width height gray wide high k (there k (omega arith)))
       count k (omega arith)
 
   pub made-size : (k : ℕ) → k < count → length (made k) ≡ height * rowBytes width
@@ -76,7 +76,8 @@ module _ (rule : Quantize) (width height : ℕ) (gray : List ℕ) (wide : 0 < wi
   body-clear r l =
       let e : count * height * rowBytes width ≡ count * planeBytes width height = omega arith in
       cleared width (body count) r _
-      (finished-last (setting rule width height count) _ r wide (omega (arith, up-to (rowBytes width) r (count * height) l, body-size count (omega arith))))
+      (finished-last (setting rule width height count) _ r wide
+      (omega (arith, up-to (rowBytes width) r (count * height) l, body-size count (omega arith))))
 
 -- Making gives the header and the bytes that the samples of all scans finish.
 pub made-is : (ceiling : ℕ) (o : EncodeOptions) (width height count : ℕ) (gray text lengths : List ℕ) (work : ℕ) (header : List ℕ)
@@ -88,7 +89,8 @@ unfolding fileOfScans
 made-is ceiling o width height count gray text lengths work header p e = rw (p, e)
 
 -- Whole reading that takes the fields and admits the size shows the dots that the rule gives each scan.
-pub made-back : (ceiling most : ℕ) (d : Decoding) (o : EncodeOptions) (width height count : ℕ) (gray text lengths : List ℕ) (work : ℕ) (bytes : List ℕ)
+pub made-back : (ceiling most : ℕ) (d : Decoding) (o : EncodeOptions) (width height count : ℕ) (gray text lengths : List ℕ) (work : ℕ)
+    (bytes : List ℕ)
     (fields : Fields) → width < 4294967296 → height < 4294967296 → 1 ≤ most
     → presented (o .ext) text lengths ≡ gives fields → Taken (d .mode) (o .strict) fields → Admitted d width height
     → fileOfScans ceiling o width height count gray text lengths work ≡ gives bytes
@@ -103,14 +105,16 @@ made-back ceiling most d o width height count gray text lengths work bytes field
     renamed planes
     (λ k x y l.
     ap (λ (s : List ℕ). isWhite MonoBlack width height (rowBytes width) s x y) (planes k l)
-    ∙ scan-dots rule width height (lentScan width height gray k) (made-size rule width height gray (f .wide) (f .high) count (p .tests .enough) k l) x y)
+    ∙ scan-dots rule width height (lentScan width height gray k)
+    (made-size rule width height gray (f .wide) (f .high) count (p .tests .enough) k l) x y)
     (file-back most d (o .strict) width height fields count body bytes f (p .tests .sized .some) r wb hb
     (fitting (d .mode) (o .strict) (o .ext) text lengths fields e t) a
     (body-size rule width height gray (f .wide) (f .high) count (p .tests .enough) count (omega arith))
     (finished-octets (setting rule width height count) _))
 
 -- What has no fields is read back strictly too.
-pub made-plain : (ceiling most : ℕ) (d : Decoding) (o : EncodeOptions) (width height count : ℕ) (gray text lengths : List ℕ) (work : ℕ) (bytes : List ℕ)
+pub made-plain : (ceiling most : ℕ) (d : Decoding) (o : EncodeOptions) (width height count : ℕ) (gray text lengths : List ℕ) (work : ℕ)
+    (bytes : List ℕ)
     → width < 4294967296 → height < 4294967296 → 1 ≤ most → o .ext ≡ Absent → Admitted d width height
     → fileOfScans ceiling o width height count gray text lengths work ≡ gives bytes
     → ReadsBack most d bytes width height none count (λ k. finished (setting (o .quantize) width height 1) (lentScan width height gray k))

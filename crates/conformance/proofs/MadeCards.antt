@@ -7,18 +7,17 @@ use native.Mathlib.Omega.{arith}
 use Rattle.error.specs.Answer.{gives}
 use Rattle.mbi.specs.Bytes.{mbiBytes, groups}
 use Rattle.ext.specs.Kinds.{none, bitfield}
-use Rattle.ext.specs.Write.{fieldsBytes, octetsBytes, lentFields}
+use Rattle.ext_write.specs.Write.{fieldsBytes, octetsBytes, lentFields}
 use Rattle.ext.specs.declared.ExtFieldType.the-variants.{Bitfield00}
 use Rattle.header.specs.declared.ExtPresence.{ExtPresence}
 use Rattle.header.specs.declared.ExtPresence.the-variants.{Absent, Present}
 use Rattle.options.specs.Settings.{defaults, withStrict}
 use Rattle.options.specs.declared.EncodeOptions.{EncodeOptions}
 use Rattle.options.specs.declared.Quantize.the-variants.{Dither}
-use Rattle.quantize.specs.Diffusion.{part, value, white, residual, valueFrom, handed, rowValue, above, valueAt}
-use Rattle.quantize.specs.Rule.{dot}
-use Rattle.quantize.specs.Finished.{begunBytes, count, frame, dotOf, bitAt, byteAt, finished}
-use Rattle.quantize.specs.Bits.{upto, appended}
-use Rattle.quantize.specs.Engine.{setting}
+use Rattle.rules.specs.Diffusion.{part, value, white, residual, valueFrom, handed, rowValue, above, valueAt}
+use Rattle.rules.specs.Rule.{dot}
+use Rattle.quantize.specs.Finished.{begunBytes, count, frame, dotOf, bitAt, byteAt, finished, setting}
+use Rattle.rules.specs.Bits.{upto, appended}
 use Rattle.encoder.specs.Make.{checkScans, fileOfScans}
 use Rattle.api.specs.Sniff.{sniffed}
 use Rattle.api.specs.declared.Sniffed.the-variants.{Exact}
@@ -38,16 +37,19 @@ abbrev bare : List ℕ
 bare = 0x00 ∷ 0x00 ∷ 0x02 ∷ 0x01 ∷ 0x40 ∷ 0x80 ∷ []
 
 fielded-made : fileOfScans 16 (maker (Present Bitfield00)) 2 1 2 scans (5 ∷ []) [] 4 ≡ gives fielded
-unfolding fileOfScans checkScans lentFields fieldsBytes octetsBytes mbiBytes groups part value white residual valueFrom handed rowValue above valueAt dot begunBytes count frame dotOf bitAt byteAt
+unfolding fileOfScans checkScans lentFields fieldsBytes octetsBytes mbiBytes groups part value white residual valueFrom handed rowValue
+    above valueAt dot begunBytes count frame dotOf bitAt byteAt
     finished upto appended
 fielded-made = refl
 
-by-parts : fileOfScans 16 (maker Absent) 2 1 2 scans [] [] 4 ≡ gives ((0x00 ∷ 0x00 ∷ 0x02 ∷ 0x01 ∷ []) ++ finished (setting Dither 2 1 2) (127 ∷ 128 ∷ 128 ∷ 128 ∷ []))
+by-parts : fileOfScans 16 (maker Absent) 2 1 2 scans [] [] 4
+    ≡ gives ((0x00 ∷ 0x00 ∷ 0x02 ∷ 0x01 ∷ []) ++ finished (setting Dither 2 1 2) (127 ∷ 128 ∷ 128 ∷ 128 ∷ []))
 unfolding checkScans fieldsBytes mbiBytes groups
 by-parts = made-is 16 (maker Absent) 2 1 2 scans [] [] 4 (0x00 ∷ 0x00 ∷ 0x02 ∷ 0x01 ∷ []) refl refl
 
 bare-made : fileOfScans 16 (maker Absent) 2 1 2 scans [] [] 4 ≡ gives bare
-unfolding fileOfScans checkScans fieldsBytes mbiBytes groups part value white residual valueFrom handed rowValue above valueAt dot begunBytes count frame dotOf bitAt byteAt finished upto appended
+unfolding fileOfScans checkScans fieldsBytes mbiBytes groups part value white residual valueFrom handed rowValue above valueAt dot
+    begunBytes count frame dotOf bitAt byteAt finished upto appended
 bare-made = refl
 
 admitted : (strict : Bool) → Admitted (withStrict strict defaults) 2 1
@@ -57,17 +59,22 @@ lenient : ReadsBack 16 defaults fielded 2 1 (bitfield (5 ∷ [])) 2 (λ k. finis
     (λ k. scanWhite Dither 2 1 (lentScan 2 1 scans k))
 unfolding lentFields
 lenient =
-    made-back 16 16 defaults (maker (Present Bitfield00)) 2 1 2 scans (5 ∷ []) [] 4 fielded (bitfield (5 ∷ [])) (omega arith) (omega arith) (omega arith) refl (omega arith)
+    made-back 16 16 defaults (maker (Present Bitfield00)) 2 1 2 scans (5 ∷ []) [] 4 fielded (bitfield (5 ∷ [])) (omega arith) (omega arith)
+    (omega arith) refl (omega arith)
     (admitted false) fielded-made
 
 strict : ReadsBack 16 (withStrict true defaults) bare 2 1 none 2 (λ k. finished (setting Dither 2 1 1) (lentScan 2 1 scans k))
     (λ k. scanWhite Dither 2 1 (lentScan 2 1 scans k))
-strict = made-plain 16 16 (withStrict true defaults) (maker Absent) 2 1 2 scans [] [] 4 bare (omega arith) (omega arith) (omega arith) refl (admitted true) bare-made
+strict =
+    made-plain 16 16 (withStrict true defaults) (maker Absent) 2 1 2 scans [] [] 4 bare (omega arith) (omega arith) (omega arith) refl
+    (admitted true) bare-made
 
 -- the first frame alone
 first : ReadsBack 1 defaults bare 2 1 none 2 (λ k. finished (setting Dither 2 1 1) (lentScan 2 1 scans k))
     (λ k. scanWhite Dither 2 1 (lentScan 2 1 scans k))
-first = made-plain 16 1 defaults (maker Absent) 2 1 2 scans [] [] 4 bare (omega arith) (omega arith) (omega arith) refl (admitted false) bare-made
+first =
+    made-plain 16 1 defaults (maker Absent) 2 1 2 scans [] [] 4 bare (omega arith) (omega arith) (omega arith) refl (admitted false)
+    bare-made
 
 exact : sniffed bare ≡ Exact
 exact = made-exact (maker Absent) 2 1 2 scans [] [] 4 bare refl (omega arith) (omega arith) bare-made

@@ -111,7 +111,8 @@ module _ (most : ℕ) (d : Decoding) (strict : Bool) (width height : ℕ) (field
   next k l = refl
 
   plane-shown : (k : ℕ) → k < frames
-      → planeIn width height (shownPlanes frames) k ≡ convertFormat MonoBlack (d .format) width height (rowBytes width) (planeIn width height body k)
+      → planeIn width height (shownPlanes frames) k
+      ≡ convertFormat MonoBlack (d .format) width height (rowBytes width) (planeIn width height body k)
   unfolding planeAt
   plane-shown k l =
       piece-back plane count (planeAt (d .format) bytes (outline header)) shownPlanes long next frames k (omega arith) l
@@ -151,7 +152,8 @@ module _ (most : ℕ) (d : Decoding) (strict : Bool) (width height : ℕ) (field
         planeIs = plane-shown;
         dots = λ k x y l.
             ap (λ (s : List ℕ). isWhite (d .format) width height (rowBytes width) s x y) (plane-shown k l)
-            ∙ read-dots width height (f .wide) (f .high) wb hb (d .format) (planeIn width height body k) (source-size k (omega arith)) (source-bytes o k (omega arith)) x y;
+            ∙ read-dots width height (f .wide) (f .high) wb hb (d .format) (planeIn width height body k) (source-size k (omega arith))
+            (source-bytes o k (omega arith)) x y;
       }
 
 -- the same by other names of the planes and dots

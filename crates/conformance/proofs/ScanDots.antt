@@ -17,12 +17,11 @@ use Rattle.image.specs.Geometry.{rowBytes, paddingBits}
 use Rattle.image.specs.Rows.{clearLow}
 use Rattle.image.specs.declared.PixelFormat.the-variants.{MonoBlack}
 use Rattle.options.specs.declared.Quantize.{Quantize}
-use Rattle.quantize.specs.Bits.{bit, appended, digits}
-use Rattle.quantize.specs.Rule.{dot}
-use Rattle.quantize.specs.Finished.{Setting, count, frame, dotOf, bitAt, byteAt, finished}
-use Rattle.quantize.specs.Engine.{meaning, setting}
-use Rattle.quantize.proofs.Appending.{bit-le, appended-lt, appended-add, digits-tail}
-use Rattle.quantize.proofs.Grown.{length-upto, upto-at}
+use Rattle.rules.specs.Bits.{bit, appended, digits}
+use Rattle.rules.specs.Rule.{dot, meaning}
+use Rattle.quantize.specs.Finished.{Setting, count, frame, dotOf, bitAt, byteAt, finished, setting}
+use Rattle.rules.proofs.Appending.{bit-le, appended-lt, appended-add, digits-tail}
+use Rattle.rules.proofs.Grown.{length-upto, upto-at}
 use Rattle.quantize.proofs.Packing.{bit-in, bit-past, byte-at}
 use Rattle.quantize.proofs.Places.{div-at, mod-at}
 use Rattle.conformance.specs.ReadBack.{scanWhite}
@@ -82,14 +81,18 @@ module _ (s : Setting) (xs : List ℕ) where
 
       go : (t : Bool) → ltb i n ≡ t → getD (finished s xs) i 0 < 256
       go true e =
-          let b = appended-lt 0 (λ k. bitAt w d (i / rowBytes w) (8 * (i % rowBytes w) + k)) (λ k. bit-small (i / rowBytes w) (8 * (i % rowBytes w) + k)) 0 8 (omega arith) in
+          let b =
+          appended-lt 0 (λ k. bitAt w d (i / rowBytes w) (8 * (i % rowBytes w) + k))
+          (λ k. bit-small (i / rowBytes w) (8 * (i % rowBytes w) + k)) 0 8 (omega arith) in
           subst (λ (b : ℕ). b < 256) (sym (upto-at (byteAt w d) 0 n i (ltb-true i n e))) b
       go false e =
-          subst (λ (b : ℕ). b < 256) (sym (List·getD-eq-default (finished s xs) 0 (omega (arith, length-upto (byteAt w d) n, ltb-false i n e)))) (omega arith)
+          subst (λ (b : ℕ). b < 256) (sym
+          (List·getD-eq-default (finished s xs) 0 (omega (arith, length-upto (byteAt w d) n, ltb-false i n e)))) (omega arith)
 
   -- the padding of a row is 0
   pub finished-last : (r : ℕ) → 0 < w → r * rowBytes w + (rowBytes w - 1) < length (finished s xs)
-      → getD (finished s xs) (r * rowBytes w + (rowBytes w - 1)) 0 ≡ clearLow (paddingBits w) (getD (finished s xs) (r * rowBytes w + (rowBytes w - 1)) 0)
+      → getD (finished s xs) (r * rowBytes w + (rowBytes w - 1)) 0
+      ≡ clearLow (paddingBits w) (getD (finished s xs) (r * rowBytes w + (rowBytes w - 1)) 0)
   finished-last r wide l =
       let j = rowBytes w - 1 in
       let p = paddingBits w in
@@ -111,16 +114,20 @@ module _ (s : Setting) (xs : List ℕ) where
       ∙ bit-in w d r x h
 
 -- The plane that a scan finishes: its dots are the rule's.
-module _ (rule : Quantize) (width height : ℕ) (scan : List ℕ) (there : length (finished (setting rule width height 1) scan) ≡ height * rowBytes width)
+module _ (rule : Quantize) (width height : ℕ) (scan : List ℕ)
+    (there : length (finished (setting rule width height 1) scan) ≡ height * rowBytes width)
     (x y : ℕ) where
-  scan-bit : x < width → y < height → bitOf (rowBytes width) (finished (setting rule width height 1) scan) x y ≡ bit (dot (meaning rule) width (frame width height scan 0) x y)
+  scan-bit : x < width → y < height
+      → bitOf (rowBytes width) (finished (setting rule width height 1) scan) x y
+      ≡ bit (dot (meaning rule) width (frame width height scan 0) x y)
   unfolding bitOf dotOf
   scan-bit p q =
       let m = up-to (rowBytes width) y height q in
       finished-bit (setting rule width height 1) scan x y p (omega (arith, there))
       ∙ rw (div-at width y x p, mod-at width y x p, div-eq-of-lt q, mod-eq-of-lt q)
 
-  pub scan-dots : isWhite MonoBlack width height (rowBytes width) (finished (setting rule width height 1) scan) x y ≡ scanWhite rule width height scan x y
+  pub scan-dots : isWhite MonoBlack width height (rowBytes width) (finished (setting rule width height 1) scan) x y
+      ≡ scanWhite rule width height scan x y
   unfolding isWhite
   scan-dots = go (ltb x width) (ltb y height) refl refl
     where

@@ -40,7 +40,8 @@ all-clear w body zero h = refl
 all-clear w body (suc n) h = rw (all-clear w body n (λ r l. h r (omega arith)), h n (omega arith))
 
 -- a header without fields, and up to 16 planes whose padding is clear
-module _ (strict : Bool) (width height count : ℕ) (body bytes : List ℕ) (f : Filed strict width height none body bytes) (c : Counted 16 width height count)
+module _ (strict : Bool) (width height count : ℕ) (body bytes : List ℕ) (f : Filed strict width height none body bytes)
+    (c : Counted 16 width height count)
     (wb : width ≤ 16384) (hb : height ≤ 16384) (whole : length body ≡ count * planeBytes width height)
     (clear : (r : ℕ) → r < count * height → isClear width body r ≡ true) where
   abbrev row : ℕ
@@ -60,26 +61,36 @@ module _ (strict : Bool) (width height count : ℕ) (body bytes : List ℕ) (f :
 
   length-exact : sniffLength plane (length body) ≡ Exact
   length-exact =
-      rw (whole, le-ltb (count * plane) plane one-there, mul-mod-left count plane, mul-div-cancel count (plane-some width height (f .wide) (f .high)), le-leb count 16 (c .few))
+      rw (
+        whole,
+        le-ltb (count * plane) plane one-there,
+        mul-mod-left count plane,
+        mul-div-cancel count
+            (plane-some width height (f .wide) (f .high)),
+        le-leb count 16 (c .few),
+      )
 
   body-exact : sniffBody width height body ≡ Exact
   unfolding sniffBody
   body-exact =
       let n : length body / row ≡ count * height =
       ap (λ (n : ℕ). n / row) rows-are ∙ mul-div-cancel (count * height) (omega (arith, f .wide)) in
-      rw (le-leb row (length body) (omega (arith, whole, one-there, row-there)), n, all-clear width body (count * height) clear) length-exact
+      rw (le-leb row (length body) (omega (arith, whole, one-there, row-there)), n, all-clear width body (count * height) clear)
+      length-exact
 
   pub file-exact : sniffed bytes ≡ Exact
   unfolding sniffed
   file-exact =
-      ap (λ (a : Answer Header). sniffHeader bytes (map outline a)) (header-read strict width height none body bytes f (inner true) (omega arith) (omega arith) tt)
+      ap (λ (a : Answer Header). sniffHeader bytes (map outline a))
+      (header-read strict width height none body bytes f (inner true) (omega arith) (omega arith) tt)
       ∙ rw (le-leb width 16384 wb, le-leb height 16384 hb, behind strict width height none body bytes f) body-exact
 
 -- a last byte whose padding was cleared
 clear-again : (bits b : ℕ) → clearLow bits (clearLow bits b) ≡ clearLow bits b
 clear-again bits b = ap (λ (n : ℕ). n * 2 ^ bits) (shl-shr (b / 2 ^ bits) bits)
 
-pub cleared : (w : ℕ) (body : List ℕ) (r b : ℕ) → getD body (r * rowBytes w + (rowBytes w - 1)) 0 ≡ clearLow (paddingBits w) b → isClear w body r ≡ true
+pub cleared : (w : ℕ) (body : List ℕ) (r b : ℕ) → getD body (r * rowBytes w + (rowBytes w - 1)) 0 ≡ clearLow (paddingBits w) b
+    → isClear w body r ≡ true
 cleared w body r b e = eq-eqb _ _ (ap (clearLow (paddingBits w)) e ∙ clear-again (paddingBits w) b ∙ sym e)
 
 -- the rows of written planes
@@ -96,14 +107,16 @@ wired-clear format w h s planes count k y wide i l =
     ∙ ap (λ (n : ℕ). clearLow n (getD (toNative format (sourceRow (rowBytes w) s plane y)) last 0)) b)
 
 pub written-exact : (o : EncodeOptions) (format : PixelFormat) (width height count stride : ℕ) (planes text lengths bytes : List ℕ)
-    → o .ext ≡ Absent → width ≤ 16384 → height ≤ 16384 → fileOfPlanes 16 o format width height count stride planes text lengths ≡ gives bytes
+    → o .ext ≡ Absent → width ≤ 16384 → height ≤ 16384
+    → fileOfPlanes 16 o format width height count stride planes text lengths ≡ gives bytes
     → sniffed bytes ≡ Exact
 written-exact o format width height count stride planes text lengths bytes e wb hb w =
     let p = passed 16 o format width height count stride planes text lengths bytes w in
     let body = wirePlanes format width height stride planes count in
     let f = filed o width height text lengths body bytes none (ap (λ (p : ExtPresence). presented p text lengths) e) (p .file) in
     file-exact (o .strict) width height count body bytes f (p .tests .frames) wb hb (planes-length format width height stride planes count)
-    (by-planes (λ r. isClear width body r ≡ true) count height (f .high) (λ k y. wired-clear format width height stride planes count k y (f .wide)))
+    (by-planes (λ r. isClear width body r ≡ true) count height (f .high)
+    (λ k y. wired-clear format width height stride planes count k y (f .wide)))
 
 -- two frames of nine by two, whose padding was dirty
 example : sniffed bare ≡ Exact

@@ -8,7 +8,7 @@ use Rattle.laws.proofs.Lists.{take-length-take}
 use Rattle.laws.proofs.Tests.{zero-one}
 use Rattle.quantize.specs.Finished.{takes}
 use Rattle.encode_session.specs.Model.{settingOf, Model, Call, feed, close, taken, Outcome, fedBy, outcome, replies, finally}
-use Rattle.encode_session.proofs.Answering.{feed-shut, close-shut, by-feed, by-close}
+use Rattle.encode_session.proofs.OutcomeCases.{feed-shut, close-shut, by-feed, by-close}
 use Rattle.conformance.specs.Lists.{takenBy, samplesOf, isClosing, wasClosed}
 
 -- ---- one call
@@ -23,7 +23,8 @@ adds-feed m xs out work =
     (take-length-take (takes (settingOf (m .opening)) (length (m .samples)) (length xs) (length out)) xs)
 
 adds : (m : Model) (c : Call) → Adds m c (outcome m c)
-adds m (feed xs out work) = by-feed m xs out work (Adds m (feed xs out work)) (append-nil (m .samples)) (append-nil (m .samples)) (adds-feed m xs out work)
+adds m (feed xs out work) =
+    by-feed m xs out work (Adds m (feed xs out work)) (append-nil (m .samples)) (append-nil (m .samples)) (adds-feed m xs out work)
 adds m close = let none = append-nil (m .samples) in by-close m (Adds m close) none none (λ _. none)
 
 -- an accepted closing closes, and what is closed stays closed
@@ -60,6 +61,7 @@ closed-machine m [] e = zero-one (cc)
 closed-machine m (c ∷ cs) e = go (isClosing (outcome m c .reply .answer)) refl e (closed-machine (outcome m c .next) cs)
   where
     go : (t : Bool) → isClosing (outcome m c .reply .answer) ≡ t → (t || wasClosed (replies (outcome m c .next) cs)) ≡ true
-        → (wasClosed (replies (outcome m c .next) cs) ≡ true → finally (outcome m c .next) cs .live ≡ false) → finally (outcome m c .next) cs .live ≡ false
+        → (wasClosed (replies (outcome m c .next) cs) ≡ true → finally (outcome m c .next) cs .live ≡ false)
+        → finally (outcome m c .next) cs .live ≡ false
     go true p q ih = finally-stays (outcome m c .next) cs (closes m c p)
     go false p q ih = ih q

@@ -62,7 +62,9 @@ module _ (format : PixelFormat) (width height stride : ℕ) (planes : List ℕ) 
   body-next k = refl
 
   pub body-plane : (n k : ℕ) → k < n → planeIn width height (body n) k ≡ wired k
-  body-plane n k = piece-back (planeBytes width height) n wired body (λ k l. planes-length format width height stride planes k) (λ k l. body-next k) n k (omega arith)
+  body-plane n k =
+      piece-back (planeBytes width height) n wired body (λ k l. planes-length format width height stride planes k) (λ k l. body-next k) n k
+      (omega arith)
 
   pub octets-body : (n : ℕ) → ((k : ℕ) → k < n → Octets (lentPlane width height stride planes k)) → Octets (body n)
   unfolding wirePlanes
@@ -115,14 +117,17 @@ written-back ceiling most d o format width height count stride planes text lengt
     renamed (body-plane format width height stride planes count)
     (λ k x y l.
     ap (λ (s : List ℕ). isWhite MonoBlack width height (rowBytes width) s x y) (body-plane format width height stride planes count k l)
-    ∙ wire-dots format width height stride _ (lent-passes ceiling o format width height count stride planes text lengths bytes p k l) (octets k l) x y)
+    ∙ wire-dots format width height stride _ (lent-passes ceiling o format width height count stride planes text lengths bytes p k l)
+    (octets k l) x y)
     (file-back most d (o .strict) width height fields count body bytes (filed o width height text lengths body bytes fields e (p .file))
-    (p .tests .frames .some) r wb hb (fitting (d .mode) (o .strict) (o .ext) text lengths fields e t) a (planes-length format width height stride planes count)
+    (p .tests .frames .some) r wb hb (fitting (d .mode) (o .strict) (o .ext) text lengths fields e t) a
+    (planes-length format width height stride planes count)
     (octets-body format width height stride planes count octets))
 
 -- What has no fields is read back strictly too.
 pub written-plain : (ceiling most : ℕ) (d : Decoding) (o : EncodeOptions) (format : PixelFormat) (width height count stride : ℕ)
-    (planes text lengths bytes : List ℕ) → width < 4294967296 → height < 4294967296 → 1 ≤ most → Octets planes → o .ext ≡ Absent → Admitted d width height
+    (planes text lengths bytes : List ℕ) → width < 4294967296 → height < 4294967296 → 1 ≤ most → Octets planes → o .ext ≡ Absent
+    → Admitted d width height
     → fileOfPlanes ceiling o format width height count stride planes text lengths ≡ gives bytes
     → ReadsBack most d bytes width height none count (λ k. wireBits format width height stride (lentPlane width height stride planes k))
     (λ k. isWhite format width height stride (lentPlane width height stride planes k))

@@ -9,7 +9,7 @@ use Rattle.laws.proofs.Octets.{octets-by}
 use Rattle.mbi.specs.Bytes.{mbiBytes, groups}
 use Rattle.ext.specs.Kinds.{none, pairs}
 use Rattle.ext.specs.Classes.{all, isAlphaDigit}
-use Rattle.ext.specs.Write.{fieldsBytes, pairsBytes, checkPair, lentFields, cutPairs, sum}
+use Rattle.ext_write.specs.Write.{fieldsBytes, pairsBytes, checkPair, lentFields, cutPairs, sum}
 use Rattle.ext.specs.declared.ExtFieldType.the-variants.{ParameterPairs11}
 use Rattle.header.specs.declared.ExtPresence.{ExtPresence}
 use Rattle.header.specs.declared.ExtPresence.the-variants.{Absent, Present}
@@ -38,8 +38,10 @@ paired =
 abbrev pub bare : List ℕ
 bare = 0x00 ∷ 0x00 ∷ 0x09 ∷ 0x02 ∷ 0x00 ∷ 0x00 ∷ 0xFF ∷ 0x80 ∷ 0xFF ∷ 0x80 ∷ 0x00 ∷ 0x00 ∷ []
 
-paired-written : fileOfPlanes 16 (writer (Present ParameterPairs11)) MonoWhite 9 2 2 3 nineByTwo (0x6B ∷ 0x31 ∷ 0x32 ∷ []) (1 ∷ 2 ∷ []) ≡ gives paired
-unfolding fileOfPlanes checkPlanes checkGeometry wirePlanes wireBits wireRow clearPadding lentFields cutPairs sum fieldsBytes pairsBytes checkPair all isAlphaDigit mbiBytes groups
+paired-written : fileOfPlanes 16 (writer (Present ParameterPairs11)) MonoWhite 9 2 2 3 nineByTwo (0x6B ∷ 0x31 ∷ 0x32 ∷ []) (1 ∷ 2 ∷ [])
+    ≡ gives paired
+unfolding fileOfPlanes checkPlanes checkGeometry wirePlanes wireBits wireRow clearPadding lentFields cutPairs sum fieldsBytes pairsBytes
+    checkPair all isAlphaDigit mbiBytes groups
 paired-written = refl
 
 pub bare-written : fileOfPlanes 16 (writer Absent) MonoWhite 9 2 2 3 nineByTwo [] [] ≡ gives bare
@@ -49,11 +51,13 @@ bare-written = refl
 admitted : (strict : Bool) → Admitted (withStrict strict (withFormat MonoWhite defaults)) 9 2
 admitted strict = record { wide = refl; high = refl; pixels = refl; bytes = refl }
 
-lenient : ReadsBack 16 (withFormat MonoWhite defaults) paired 9 2 (pairs (record { identifier = 0x6B ∷ []; value = 0x31 ∷ 0x32 ∷ [] } ∷ [])) 2
+lenient : ReadsBack 16 (withFormat MonoWhite defaults) paired 9 2 (pairs (record { identifier = 0x6B ∷ []; value = 0x31 ∷ 0x32 ∷ [] } ∷ []))
+    2
     (λ k. wireBits MonoWhite 9 2 3 (lentPlane 9 2 3 nineByTwo k)) (λ k. isWhite MonoWhite 9 2 3 (lentPlane 9 2 3 nineByTwo k))
 unfolding lentFields cutPairs sum
 lenient =
-    written-back 16 16 (withFormat MonoWhite defaults) (writer (Present ParameterPairs11)) MonoWhite 9 2 2 3 nineByTwo (0x6B ∷ 0x31 ∷ 0x32 ∷ []) (1 ∷ 2 ∷ []) paired _
+    written-back 16 16 (withFormat MonoWhite defaults) (writer (Present ParameterPairs11)) MonoWhite 9 2 2 3 nineByTwo
+    (0x6B ∷ 0x31 ∷ 0x32 ∷ []) (1 ∷ 2 ∷ []) paired _
     (omega arith) (omega arith) (omega arith) (octets-by nineByTwo refl) refl (omega arith, tt) (admitted false) paired-written
 
 strict : ReadsBack 16 (withStrict true (withFormat MonoWhite defaults)) bare 9 2 none 2

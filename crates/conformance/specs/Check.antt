@@ -14,8 +14,8 @@ use Rattle.api.specs.Sniff.{sniffed}
 use Rattle.image.specs.Geometry.{rowBytes}
 use Rattle.image.specs.Rows.{convertFormat}
 use Rattle.image.specs.declared.PixelFormat.the-variants.{MonoBlack, MonoWhite}
-use Rattle.quantize.specs.Diffusion.{round16}
-use Rattle.quantize.specs.Rule.{dot}
+use Rattle.rules.specs.Diffusion.{round16}
+use Rattle.rules.specs.Rule.{dot}
 use Rattle.quantize.specs.Finished.{finished}
 use Rattle.conformance.specs.Table.{Row, number, value, refused, header, sniffing, monoWhite, plane, rounding, corner}
 

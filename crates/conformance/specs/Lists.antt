@@ -1,4 +1,5 @@
--- Condition 3 of the tender, as document 01 tells it ("Lists (condition 3)"): one claim about lists of calls on a session that makes a card and on one that reads it.
+-- Condition 3 of the tender, as document 01 tells it ("Lists (condition 3)"): one claim about lists of calls on a session that makes a card
+-- and on one that reads it.
 use Prim.Native.Nat.{ℕ, _*_, _^_, _≤_, _<_}
 use mathlib.Core.Path.{_≡_}
 use mathlib.Core.Bool.{Bool, true, false, _||_}
@@ -13,6 +14,7 @@ use Rattle.header.specs.Write.{presented}
 use Rattle.image.specs.Dots.{isWhite}
 use Rattle.image.specs.Geometry.{rowBytes, planeBytes}
 use Rattle.options.specs.Limits.{Decoding, ceilingOf}
+use Rattle.options.specs.Settings.{madeFrames}
 use Rattle.decoder.specs.Frames.{shown, framesOf}
 use Rattle.quantize.specs.Finished.{finished}
 use Rattle.encoder.specs.Make.{fileOfScans}
@@ -44,7 +46,8 @@ pub record MakingList (a : Making.Opening) (header : List ℕ) (cs : List Making
   pub trace : MakingTrace.Trace (result .session) work cs rs last
 
 -- A list on an opened reading session.
-pub record ReadingList (d : Decoding) (cs : List Reading.Call) (rs : List Reading.Reply) (last : DecodeSession) (extension : List ℕ) : Type 0 where
+pub record ReadingList (d : Decoding) (cs : List Reading.Call) (rs : List Reading.Reply) (last : DecodeSession)
+    (extension : List ℕ) : Type 0 where
   pub lent : List ℕ
   pub result : DecodeOpened
   pub opens : ReadingSession.Opens (Reading.opening d (length lent)) result (Reading.opened d)
@@ -78,8 +81,10 @@ abbrev pub fieldsShown : Span → List ℕ → Answer Fields
 fieldsShown absent extension = gives none
 fieldsShown (span kind start len pairs) extension = map (λ f. f .0) (readFields false true kind (take len extension) 0)
 
--- "Shown are size and fields as the session ends with them (kind; pairs or octets in order, kind 00 without bit 7), frame count, and `is_white` at each dot of the joined outputs": those that the definitions give for k uncut scans
-pub record Shows (d : Decoding) (a : Making.Opening) (fields : Fields) (k : ℕ) (scans : List ℕ) (last : DecodeSession) (extension joined : List ℕ)
+-- "Shown are size and fields as the session ends with them (kind; pairs or octets in order, kind 00 without bit 7), frame count, and
+-- `is_white` at each dot of the joined outputs": those that the definitions give for k uncut scans
+pub record Shows (d : Decoding) (a : Making.Opening) (fields : Fields) (k : ℕ) (scans : List ℕ) (last : DecodeSession)
+    (extension joined : List ℕ)
     (closing : Answer Reading.Told) : Type 0 where
   pub header : Outline
   pub seen : (r : HeaderSeen) → ReadingSession.Sees last r → ReadingSession.seenMeaning r ≡ ReadingSession.seen header
@@ -95,20 +100,24 @@ pub record Shows (d : Decoding) (a : Making.Opening) (fields : Fields) (k : ℕ)
 -- a card whose making was closed: its bytes are those of whole making of k scans
 pub record Card (a : Making.Opening) (scans bytes : List ℕ) (k : ℕ) : Type 0 where
   pub some : 1 ≤ k
-  pub most : k ≤ 16
+  pub most : k ≤ madeFrames
   pub samples : length scans ≡ k * (a .width * a .height)
   pub file : (work : ℕ) → Making.serves a work ≡ true
-      → fileOfScans 16 (a .options) (a .width) (a .height) k scans (a .text) (a .lengths) work ≡ gives bytes
+      → fileOfScans madeFrames (a .options) (a .width) (a .height) k scans (a .text) (a .lengths) work ≡ gives bytes
   pub fields : Fields
   pub presents : presented (a .options .ext) (a .text) (a .lengths) ≡ gives fields
-  -- "and under whichever cut the card reaches the picker, lenient reading shows the size, fields, frames and dots that those definitions give for the uncut scans, if the fields pass the reader's 4,096 ceiling and its limits admit the card"; a strict reading shows a card without fields
-  pub shown : {d : Decoding} {cs : List Reading.Call} {rs : List Reading.Reply} {last : DecodeSession} {extension : List ℕ} {closing : Answer Reading.Told}
+  -- "and under whichever cut the card reaches the picker, lenient reading shows the size, fields, frames and dots that those definitions
+  -- give for the uncut scans, if the fields pass the reader's 4,096 ceiling and its limits admit the card"; a strict reading shows a card
+  -- without fields
+  pub shown : {d : Decoding} {cs : List Reading.Call} {rs : List Reading.Reply} {last : DecodeSession} {extension : List ℕ}
+      {closing : Answer Reading.Told}
       → Taken (d .mode) (a .options .strict) fields → Admitted d (a .width) (a .height) → ReadingList d cs rs last extension
       → ReadingTrace.Cut bytes 0 false cs rs closing
       → Shows d a fields k scans last extension (ReadingTrace.joined rs) closing
 
 pub record Condition3 : Type 0 where
-  -- "Compared after every call, the opening included": an accepted opening of a maker wrote the plain machine's header and altered nothing behind it, and the plain machine accepts an accepted opening of a reading
+  -- "Compared after every call, the opening included": an accepted opening of a maker wrote the plain machine's header and altered nothing
+  -- behind it, and the plain machine accepts an accepted opening of a reading
   pub makerOpens : {a : Making.Opening} {header : List ℕ} {cs : List Making.Call} {rs : List Making.Reply} (l : MakingList a header cs rs)
       → (Making.header a (length (l .work)) ≡ gives header) × (l .new ≡ header ++ drop (length header) (l .old))
   pub readerOpens : {d : Decoding} {cs : List Reading.Call} {rs : List Reading.Reply} {last : DecodeSession} {extension : List ℕ}
@@ -121,11 +130,13 @@ pub record Condition3 : Type 0 where
       → ReadingList d cs rs last extension → rs ≡ Reading.replies (Reading.opened d) cs
   -- "The bytes written, header first, are the definitions' finished bytes for the samples taken", whether the maker is closed or not
   pub finishes : {a : Making.Opening} {header : List ℕ} {cs : List Making.Call} {rs : List Making.Reply} (l : MakingList a header cs rs)
-      → map (λ front. front ++ finished (Making.settingOf a) (samplesOf cs rs)) (Making.header a (length (l .work))) ≡ gives (header ++ MakingTrace.joined rs)
+      → map (λ front. front ++ finished (Making.settingOf a) (samplesOf cs rs)) (Making.header a (length (l .work)))
+      ≡ gives (header ++ MakingTrace.joined rs)
   -- "Once the maker's closing is accepted, the samples taken are 1 to 16 scans of its size"
   pub card : {a : Making.Opening} {header : List ℕ} {cs : List Making.Call} {rs : List Making.Reply} → MakingList a header cs rs
       → wasClosed rs ≡ true → (k : ℕ) × Card a (samplesOf cs rs) (header ++ MakingTrace.joined rs) k
-  -- "A file that whole reading refuses for its own bytes or limits is refused with the same number and place under every cut": closing a cut of any file ends as whole reading of it does
+  -- "A file that whole reading refuses for its own bytes or limits is refused with the same number and place under every cut": closing a
+  -- cut of any file ends as whole reading of it does
   pub whole : {file : List ℕ} {d : Decoding} {cs : List Reading.Call} {rs : List Reading.Reply} {last : DecodeSession} {extension : List ℕ}
       {closing : Answer Reading.Told} → ReadingList d cs rs last extension → ReadingTrace.Cut file 0 false cs rs closing
       → (closing ≡ map Reading.frames (framesOf (ceilingOf d) d file))

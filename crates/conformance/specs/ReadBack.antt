@@ -7,7 +7,7 @@ use lib.Dec.{ltb}
 use lib.ListN.{length, take, drop}
 use Rattle.error.specs.Answer.{gives}
 use Rattle.ext.specs.Kinds.{Fields, none, bitfield, reserved, pairs}
-use Rattle.ext.specs.Ceiling.{Readable}
+use Rattle.ext_write.specs.Ceiling.{Readable}
 use Rattle.header.specs.Write.{fixByte}
 use Rattle.image.specs.Dots.{isWhite}
 use Rattle.image.specs.Geometry.{rowBytes, planeBytes}
@@ -15,9 +15,8 @@ use Rattle.image.specs.Rows.{convertFormat}
 use Rattle.image.specs.declared.PixelFormat.the-variants.{MonoBlack}
 use Rattle.options.specs.Limits.{Mode, lenient, strict, Decoding, admits}
 use Rattle.options.specs.declared.Quantize.{Quantize}
-use Rattle.quantize.specs.Rule.{dot}
+use Rattle.rules.specs.Rule.{dot, meaning}
 use Rattle.quantize.specs.Finished.{frame}
-use Rattle.quantize.specs.Engine.{meaning}
 use Rattle.decoder.specs.Image.{fieldsOf}
 use Rattle.decoder.specs.Frames.{Image, shown, decoded}
 
@@ -28,8 +27,8 @@ Within (bitfield octets) = Readable (bitfield octets)
 Within (reserved kind octet) = Unit {0}
 Within (pairs ps) = Readable (pairs ps)
 
--- the fields that a reading in this mode takes from a file that was written strictly or not: a lenient one those within the ceiling, and a strict one
--- none
+-- the fields that a reading in this mode takes from a file that was written strictly or not: a lenient one those within the ceiling, and a
+-- strict one none
 abbrev pub Taken : Mode → Bool → Fields → Type 0
 Taken lenient written fields = Within fields
 Taken strict written fields = fields ≡ none
@@ -52,8 +51,8 @@ lentScan width height gray k = take (width * height) (drop (k * (width * height)
 abbrev pub scanWhite : Quantize → ℕ → ℕ → List ℕ → ℕ → ℕ → Bool
 scanWhite rule width height scan x y = ltb x width && ltb y height && dot (meaning rule) width (frame width height scan 0) x y
 
--- Whole reading of up to `most` frames shows this size, these fields and the first frames of so many, with the last of which the file ends. Plane k is
--- `plane k` in the asked format, and its dot at column x of row y is white where `white k x y` says so.
+-- Whole reading of up to `most` frames shows this size, these fields and the first frames of so many, with the last of which the file ends.
+-- Plane k is `plane k` in the asked format, and its dot at column x of row y is white where `white k x y` says so.
 pub record ReadsBack (most : ℕ) (d : Decoding) (bytes : List ℕ) (width height : ℕ) (fields : Fields) (count : ℕ) (plane : ℕ → List ℕ)
     (white : ℕ → ℕ → ℕ → Bool) : Type 0 where
   pub image : Image
@@ -68,5 +67,7 @@ pub record ReadsBack (most : ℕ) (d : Decoding) (bytes : List ℕ) (width heigh
   pub fieldsAre : fieldsOf (d .mode) bytes ≡ gives fields
   pub bodyIs : image .body + count * planeBytes width height ≡ length bytes
   pub size : length output ≡ min count most * planeBytes width height
-  pub planeIs : (k : ℕ) → k < min count most → planeIn width height output k ≡ convertFormat MonoBlack (d .format) width height (rowBytes width) (plane k)
-  pub dots : (k x y : ℕ) → k < min count most → isWhite (d .format) width height (rowBytes width) (planeIn width height output k) x y ≡ white k x y
+  pub planeIs : (k : ℕ) → k < min count most
+      → planeIn width height output k ≡ convertFormat MonoBlack (d .format) width height (rowBytes width) (plane k)
+  pub dots : (k x y : ℕ) → k < min count most
+      → isWhite (d .format) width height (rowBytes width) (planeIn width height output k) x y ≡ white k x y

@@ -6,8 +6,8 @@ use lib.IntN.{ℤ, pos, negsuc}
 use lib.ListN.{replicate}
 use Rattle.api.specs.declared.Sniffed.{Sniffed}
 use Rattle.api.specs.declared.Sniffed.the-variants.{Exact, Truncated, Neither}
-use Rattle.quantize.specs.Ordered.{numbers}
-use Rattle.quantize.specs.Rule.{Rule, threshold, dither, ordered}
+use Rattle.rules.specs.Ordered.{numbers}
+use Rattle.rules.specs.Rule.{Rule, threshold, dither, ordered}
 
 pub data Row : Type 0 where
   -- a number and its bytes, written, and read strictly and not

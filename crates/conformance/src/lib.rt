@@ -1,5 +1,6 @@
 // What all crates say together: document 01's cards P1 to P12 as one table, files that are written or made, read back and sniffed, and the
-// tender's condition 3 about lists of calls. The two functions here make such lists on both sessions, so that the claim speaks of calls of code.
+// tender's condition 3 about lists of calls. The two functions here make such lists on both sessions, so that the claim speaks of calls of
+// code.
 use decode_session::DecodeClose;
 use decode_session::DecodeFeed;
 use decode_session::DecodeSession;
@@ -32,7 +33,8 @@ fn make_card(
     head: &mut [u8],
     out: &mut [u8],
 ) -> CardMade
-    ensures { λ r. ⌜ MakesCard (opening options width height [] []) (now (samples .entry)) (now (work .entry)) (now (head .entry)) (now (out .entry)) r (now (work .exit)) (now (head .exit)) (now (out .exit)) ⌝ }
+    ensures { λ r. ⌜ MakesCard (opening options width height [] []) (now (samples .entry)) (now (work .entry)) (now (head .entry))
+        (now (out .entry)) r (now (work .exit)) (now (head .exit)) (now (out .exit)) ⌝ }
 {
     let lengths = [0usize; 0];
     let opened = EncodeSession::open_lengths(
@@ -68,7 +70,8 @@ struct CardRead {
 
 // Opens a session, feeds it, closes it and asks for the header.
 fn read_card(options: DecodeOptions, piece: &[u8], out: &mut [u8], ext: &mut [u8]) -> CardRead
-    ensures { λ r. ⌜ ReadsCard (decoding options) (now (piece .entry)) (now (out .entry)) (now (ext .entry)) r (now (out .exit)) (now (ext .exit)) ⌝ }
+    ensures { λ r. ⌜ ReadsCard (decoding options) (now (piece .entry)) (now (out .entry)) (now (ext .entry)) r (now (out .exit))
+        (now (ext .exit)) ⌝ }
 {
     let opened = DecodeSession::open(options, &ext[..]);
     let opening = opened.answer;

@@ -13,19 +13,20 @@ use Rattle.error.specs.Answer.{gives, refuses}
 use Rattle.error.specs.declared.WbmpError.{WbmpError}
 use Rattle.laws.proofs.Tests.{zero-one}
 use Rattle.header.specs.Read.{Outline, parsed}
-use Rattle.header.specs.Known.{Knows}
-use Rattle.header.specs.declared.FieldsSeen.{FieldsSeen}
+use Rattle.header_reader.specs.Known.{Knows}
+use Rattle.header_reader.specs.declared.FieldsSeen.{FieldsSeen}
 use Rattle.header.specs.declared.ParsedHeader.{ParsedHeader}
-use Rattle.header.specs.declared.reader.HeaderReader.{HeaderReader}
-use Rattle.header.proofs.Ends.{endCode, endOffset}
-use Rattle.header.proofs.KnownFields.{known-so, known-header}
+use Rattle.header_reader.specs.declared.reader.HeaderReader.{HeaderReader}
+use Rattle.header_reader.proofs.Ends.{endCode, endOffset}
+use Rattle.header_reader.proofs.KnownFields.{known-so, known-header}
 use Rattle.options.specs.Limits.{ceilingOf}
 use Rattle.decoder.specs.Body.{planeOf}
 use Rattle.decoder.specs.Image.{imageSettings}
 use Rattle.decoder.proofs.Headed.{image-by}
 use Rattle.decode_session.specs.Head.{Reached}
 use Rattle.decode_session.specs.Model.{Model, frames, closing}
-use Rattle.decode_session.specs.Session.{wholeIn, framesDone, InBody, Unread, StageOf, Stands, TellsClosed, TellsFrames, SeesFields}
+use Rattle.decode_session.specs.Session.{wholeIn, framesDone, InBody, BeforeHeader, StageOf, Stands, TellsClosed, TellsFrames}
+use Rattle.decode_session.specs.Session.{SeesFields}
 use Rattle.decode_session.specs.declared.Stage.{Stage}
 use Rattle.decode_session.specs.declared.DecodeSession.{DecodeSession}
 use Rattle.decode_session.proofs.Headers.{unread-end}
@@ -36,11 +37,12 @@ use Rattle.decode_session.proofs.CloseAnswers.{closes-by, none-whole, a
 none-done : (m : Model) (r : HeaderReader) (at kept : ℕ) → Reached (imageSettings (m .options .mode)) (m .bytes) r at kept
     → framesDone m ≡ 0
 none-done m r at kept h =
-    ap (wholeIn (ceilingOf (m .options)) (length (m .bytes))) (unread-end (imageSettings (m .options .mode)) (m .bytes) (h .state) (h .reached))
+    ap (wholeIn (ceilingOf (m .options)) (length (m .bytes)))
+    (unread-end (imageSettings (m .options .mode)) (m .bytes) (h .state) (h .reached))
 
 -- and the reader knows what the bytes tell of the fields
 pub unread-so : (m : Model) (r : HeaderReader) (at kept : ℕ) (f : FieldsSeen)
-    → Reached (imageSettings (m .options .mode)) (m .bytes) r at kept → Knows r f → Unread m f
+    → Reached (imageSettings (m .options .mode)) (m .bytes) r at kept → Knows r f → BeforeHeader m f
 unread-so m r at kept f h k =
     let o = imageSettings (m .options .mode) in
     record {
@@ -104,10 +106,13 @@ module _ (s : DecodeSession) where
 
     pub body-fields : SeesFields s (FieldsSeen.Seen (p .«ext_fields»))
     body-fields =
-        record { does = λ m st. sym (known-header (imageSettings (m .options .mode)) (m .bytes) (parsed p) (in-body m g (st .stage) .headerIs)) }
+        record {
+          does = λ m st. sym (known-header (imageSettings (m .options .mode)) (m .bytes) (parsed p)
+              (in-body m g (st .stage) .headerIs));
+        }
 
   module _ (e : WbmpError) (f : FieldsSeen) (g : s .stage ≡ Stage.Refused e f) where
-    unread : (m : Model) → Stands s m → Unread m f
+    unread : (m : Model) → Stands s m → BeforeHeader m f
     unread m st = staged m g (st .stage) .1
 
     pub refused-frames : TellsFrames s 0

@@ -11,7 +11,7 @@ use Rattle.error.specs.declared.Checked.the-variants.{Accepted}
 use Rattle.error.specs.declared.WbmpError.{WbmpError}
 use Rattle.laws.proofs.Lists.{length-append-take, append-take-drop}
 use Rattle.header.specs.Read.{Outline, parsed}
-use Rattle.header.specs.declared.FieldsSeen.{FieldsSeen}
+use Rattle.header_reader.specs.declared.FieldsSeen.{FieldsSeen}
 use Rattle.header.specs.declared.ParsedHeader.{ParsedHeader}
 use Rattle.image.proofs.PlaneSizes as planes
 use Rattle.options.specs.Limits.{Decoding, decoding, checkLimits}
@@ -19,8 +19,8 @@ use Rattle.options.specs.declared.DecodeOptions.{DecodeOptions}
 use Rattle.decoder.specs.Body.{planeOf}
 use Rattle.decoder.specs.Image.{imageSettings, headerOf}
 use Rattle.decoder.proofs.Shaped.{outline-shape}
-use Rattle.decode_session.specs.Model.{Met, refusal, Model, meets, stored, fedBy}
-use Rattle.decode_session.specs.Session.{Unread, Settled}
+use Rattle.decode_session.specs.Model.{Met, metAt, Model, meets, stored, fedBy}
+use Rattle.decode_session.specs.Session.{BeforeHeader, Settled}
 use Rattle.decode_session.specs.Stages.{metIn, Agrees, Enters, Planes, Ended, Begins}
 use Rattle.decode_session.specs.declared.DecodeFed.{DecodeFed}
 use Rattle.decode_session.proofs.Headers.{header-later}
@@ -29,7 +29,7 @@ use Rattle.decode_session.proofs.RefusalsMet.{limit-over, admitted}
 
 -- the session that met a refusal agrees
 pub refused-agrees : (o : DecodeOptions) (m : Model) (piece out ext : List ℕ) (e : WbmpError) (f : FieldsSeen)
-    → Settled (m .options) → decoding o ≡ m .options → Unread m f → meets m piece ≡ refusal (e .code) (e .offset)
+    → Settled (m .options) → decoding o ≡ m .options → BeforeHeader m f → meets m piece ≡ metAt (e .code) (e .offset)
     → Agrees (metIn o e f) out (stored m (m .bytes ++ piece) ext) (fedBy m piece out ext (meets m piece))
 refused-agrees o m piece out ext e f c q u met =
     subst
@@ -54,7 +54,8 @@ module _ (m : Model) (piece : List ℕ) (from : ℕ) (h : Outline) (e : Ended m 
       let shape = outline-shape (imageSettings (m .options .mode)) (m .bytes ++ take from piece) h (e .header) in
       planes.plane-some (h .width) (h .height) (shape .0) (shape .1)
 
-  enters : Settled (m .options) → checkLimits (m .options) (h .width) (h .height) (planeOf h) (h .body) ≡ gives tt → Enters m piece from h 0 0
+  enters : Settled (m .options) → checkLimits (m .options) (h .width) (h .height) (planeOf h) (h .body) ≡ gives tt
+      → Enters m piece from h 0 0
   enters c l =
       record {
         inBody =
@@ -70,8 +71,10 @@ module _ (m : Model) (piece : List ℕ) (from : ℕ) (h : Outline) (e : Ended m 
       }
 
 module _ (o : DecodeOptions) (f : FieldsSeen) (p : ParsedHeader) (from : ℕ) (piece out : List ℕ) (d : DecodeFed) (r x : Checked) (n : ℕ)
-    (tested : checked r ≡ checkLimits (decoding o) (p .width) (p .height) n (p .«data_offset»)) (is : r ≡ x) (plane : n ≡ planeOf (parsed p)) where
-  limits : (m : Model) → decoding o ≡ m .options → checkLimits (m .options) (p .width) (p .height) (planeOf (parsed p)) (p .«data_offset») ≡ checked x
+    (tested : checked r ≡ checkLimits (decoding o) (p .width) (p .height) n (p .«data_offset»)) (is : r ≡ x)
+    (plane : n ≡ planeOf (parsed p)) where
+  limits : (m : Model) → decoding o ≡ m .options
+      → checkLimits (m .options) (p .width) (p .height) (planeOf (parsed p)) (p .«data_offset») ≡ checked x
   limits m q =
       sym
       (sym (ap checked is) ∙ tested

@@ -37,7 +37,8 @@ module _ (ceiling plane whole begun given room : ℕ) where
             };
       }
 
-  module _ (most : ℕ) (in-given : most ≤ given) (in-room : most ≤ room) (whose : (most ≡ given) ⊎ (most ≡ room)) (k : begun < plane) (w : whole < ceiling) where
+  module _ (most : ℕ) (in-given : most ≤ given) (in-room : most ≤ room) (whose : (most ≡ given) ⊎ (most ≡ room)) (k : begun < plane)
+      (w : whole < ceiling) where
     pub inside : most < plane - begun → Ends most most whole (begun + most)
     inside h =
         record {
@@ -92,5 +93,6 @@ module _ (ceiling plane whole begun given room : ℕ) where
           spread n r e = omega arith
 
 -- what the code builds is one of these
-pub built : {ceiling plane whole begun given room : ℕ} {r x : BodyFed} → r ≡ x → Advances ceiling plane whole begun given room x → Advances ceiling plane whole begun given room r
+pub built : {ceiling plane whole begun given room : ℕ} {r x : BodyFed} → r ≡ x → Advances ceiling plane whole begun given room x
+    → Advances ceiling plane whole begun given room r
 built {ceiling} {plane} {whole} {begun} {given} {room} e a = subst (Advances ceiling plane whole begun given room) (sym e) a

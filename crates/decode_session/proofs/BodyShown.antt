@@ -33,7 +33,8 @@ module _ {m : Model} {h : Outline} {whole begun : ℕ} (b : InBody m h whole beg
   pub shown-within : shownBytes ≤ allBytes
   shown-within =
       ⊎-elim
-      (λ w. let p : (whole + 1) * planeOf h ≤ ceilingOf (m .options) * planeOf h = mul-le-mul-right (planeOf h) (omega (arith, w .0)) in omega (arith, b .below))
+      (λ w. let p : (whole + 1) * planeOf h ≤ ceilingOf (m .options) * planeOf h =
+      mul-le-mul-right (planeOf h) (omega (arith, w .0)) in omega (arith, b .below))
       (λ w. let p : whole * planeOf h ≡ ceilingOf (m .options) * planeOf h = ap (λ (k : ℕ). k * planeOf h) (w .0) in omega (arith, w .1 .0))
       (b .place)
 
@@ -71,7 +72,8 @@ module _ {m : Model} {h : Outline} {whole begun : ℕ} (b : InBody m h whole beg
   shown-length = ap length shown-is ∙ body-length (m .options .format) (h .width) (take allBytes body) 0 ∙ planes-length
 
   pub shown-grows : (xs : List ℕ) → sequence (ceilingOf (m .options)) (m .options) (m .bytes ++ xs)
-      ≡ sequence (ceilingOf (m .options)) (m .options) (m .bytes) ++ bodyFrom (m .options .format) (h .width) begun (take (allBytes - shownBytes) xs)
+      ≡ sequence (ceilingOf (m .options)) (m .options) (m .bytes) ++ bodyFrom (m .options .format) (h .width) begun
+      (take (allBytes - shownBytes) xs)
   unfolding sequence
   shown-grows xs =
       let f = m .options .format in
@@ -79,7 +81,8 @@ module _ {m : Model} {h : Outline} {whole begun : ℕ} (b : InBody m h whole beg
       let new = take (allBytes - shownBytes) xs in
       let start : (0 + length (take allBytes body)) % rowBytes w ≡ begun % rowBytes w =
       ap (λ (k : ℕ). k % rowBytes w) (zero-add (length (take allBytes body)) ∙ planes-length) ∙ shown-mod in
-      ap (sequenceOf (ceilingOf (m .options)) f (m .bytes ++ xs)) (header-later (imageSettings (m .options .mode)) (m .bytes) h (b .headerIs) xs)
+      ap (sequenceOf (ceilingOf (m .options)) f (m .bytes ++ xs))
+      (header-later (imageSettings (m .options .mode)) (m .bytes) h (b .headerIs) xs)
       ∙ ap (λ (l : List ℕ). bodyFrom f w 0 (take allBytes l)) (drop-append-le (h .body) (m .bytes) xs (b .start))
       ∙ ap (bodyFrom f w 0) (planes-grow xs)
       ∙ body-append f w (take allBytes body) new 0

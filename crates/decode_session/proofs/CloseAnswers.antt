@@ -12,10 +12,10 @@ use Rattle.error.specs.Answer.{Answer, gives, refuses, map}
 use Rattle.error.specs.declared.WbmpError.{WbmpError}
 use Rattle.laws.proofs.Tests.{if-true, if-false}
 use Rattle.header.specs.Read.{Outline}
-use Rattle.header.specs.Represents.{Ended}
-use Rattle.header.specs.declared.FieldsSeen.{FieldsSeen}
+use Rattle.header_reader.specs.Represents.{Ended}
+use Rattle.header_reader.specs.declared.FieldsSeen.{FieldsSeen}
 use Rattle.header.specs.declared.ParsedHeader.{ParsedHeader}
-use Rattle.header.specs.declared.reader.HeaderReader.{HeaderReader}
+use Rattle.header_reader.specs.declared.reader.HeaderReader.{HeaderReader}
 use Rattle.options.specs.Limits.{ceilingOf}
 use Rattle.decoder.specs.Body.{extraFrames, planeOf, framesIn}
 use Rattle.decoder.specs.Image.{imageSettings, readImage}
@@ -49,7 +49,9 @@ module _ {m : Model} {h : Outline} {whole begun : ℕ} (b : InBody m h whole beg
       ⊎-elim (λ v. omega (arith, v .1, b .below)) (λ v. let f : ⊥ = omega (arith, v .0, ceiling-some settles) in absurd f) (b .place)
 
   pub none-whole : whole ≡ 0 → closing m (m .met) ≡ refuses 20 (h .body)
-  none-whole z = closes-by m (refuses 20 (h .body)) (b .nothingMet) (image-is ∙ if-true (ltb size (planeOf h)) _ _ (lt-ltb size (planeOf h) (short-size z)))
+  none-whole z =
+      closes-by m (refuses 20 (h .body)) (b .nothingMet)
+      (image-is ∙ if-true (ltb size (planeOf h)) _ _ (lt-ltb size (planeOf h) (short-size z)))
 
   module _ (some : 0 < whole) where
     enough : planeOf h + (whole - 1) * planeOf h ≤ size
@@ -64,14 +66,17 @@ module _ {m : Model} {h : Outline} {whole begun : ℕ} (b : InBody m h whole beg
     extra : extraFrames (ceilingOf (m .options) - 1) (planeOf h) size ≡ whole - 1
     extra = ⊎-elim inside behind (b .place)
       where
-        inside : (whole < ceilingOf (m .options)) × (h .body + (whole * planeOf h + begun) ≡ length (m .bytes)) → extraFrames (ceilingOf (m .options) - 1) (planeOf h) size ≡ whole - 1
+        inside : (whole < ceilingOf (m .options)) × (h .body + (whole * planeOf h + begun) ≡ length (m .bytes))
+            → extraFrames (ceilingOf (m .options) - 1) (planeOf h) size ≡ whole - 1
         inside v =
             let n : whole - 1 + 1 ≡ whole = omega arith in
             let t : (whole - 1 + 1) * planeOf h ≡ whole * planeOf h = ap (λ (k : ℕ). k * planeOf h) n in
-            let q : (size - planeOf h) / planeOf h ≡ whole - 1 = div-eq-of-lt-le (planeOf h) (omega (arith, enough)) (omega (arith, v .1, b .below)) in
+            let q : (size - planeOf h) / planeOf h ≡ whole - 1 =
+            div-eq-of-lt-le (planeOf h) (omega (arith, enough)) (omega (arith, v .1, b .below)) in
             sym (few (ceilingOf (m .options) - 1) (planeOf h) size (omega (arith, v .0))) ∙ q
 
-        behind : (whole ≡ ceilingOf (m .options)) × ((begun ≡ 0) × (h .body + whole * planeOf h ≤ length (m .bytes))) → extraFrames (ceilingOf (m .options) - 1) (planeOf h) size ≡ whole - 1
+        behind : (whole ≡ ceilingOf (m .options)) × ((begun ≡ 0) × (h .body + whole * planeOf h ≤ length (m .bytes)))
+            → extraFrames (ceilingOf (m .options) - 1) (planeOf h) size ≡ whole - 1
         behind v = sym (many (ceilingOf (m .options) - 1) (planeOf h) size (omega (arith, most, v .0))) ∙ omega (arith, v .0)
           where
             most : whole - 1 ≤ (size - planeOf h) / planeOf h
@@ -80,14 +85,16 @@ module _ {m : Model} {h : Outline} {whole begun : ℕ} (b : InBody m h whole beg
     pub all-whole : closing m (m .met) ≡ gives (frames whole)
     all-whole =
         let n : 1 + (whole - 1) ≡ whole = omega arith in
-        closes-by m (gives h) (b .nothingMet) (image-is ∙ if-false (ltb size (planeOf h)) _ _ (le-ltb size (planeOf h) (omega (arith, enough))))
+        closes-by m (gives h) (b .nothingMet)
+        (image-is ∙ if-false (ltb size (planeOf h)) _ _ (le-ltb size (planeOf h) (omega (arith, enough))))
         ∙ ap (λ (k : ℕ). gives (frames (1 + k))) extra ∙ ap (λ (k : ℕ). gives (frames k)) n
 
   pub at-most : whole ≤ 16
   at-most = ⊎-elim (λ v. omega (arith, v .0, ceiling-few settles)) (λ v. omega (arith, v .0, ceiling-few settles)) (b .place)
 
 module _ (s : Stage) where
-  pub finish-header : (r : HeaderReader) (at kept : ℕ) (e : WbmpError) → s ≡ Stage.Header r at kept → Ended r e → Finishes s (DecodeClose.Refused e)
+  pub finish-header : (r : HeaderReader) (at kept : ℕ) (e : WbmpError) → s ≡ Stage.Header r at kept → Ended r e
+      → Finishes s (DecodeClose.Refused e)
   finish-header r at kept e g d =
       record {
         does =
@@ -95,7 +102,8 @@ module _ (s : Stage) where
             let u = staged m g st in
             let o = imageSettings (m .options .mode) in
             sym (closes-by m (refuses (e .code) (e .offset)) (u .0)
-            (image-by (m .options) (m .bytes) (refuses (e .code) (e .offset)) (unread o (m .bytes) (u .1 .state) (u .1 .reached) ∙ sym (d .does o (u .1 .state) (u .1 .represents)))));
+            (image-by (m .options) (m .bytes) (refuses (e .code) (e .offset))
+            (unread o (m .bytes) (u .1 .state) (u .1 .reached) ∙ sym (d .does o (u .1 .state) (u .1 .represents)))));
       }
 
   module _ (p : ParsedHeader) (whole begun : ℕ) (g : s ≡ Stage.Body p whole begun) where

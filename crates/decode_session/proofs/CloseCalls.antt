@@ -18,11 +18,14 @@ module _ (s : DecodeSession) where
   -- what a closing call promises of a plain machine whose outcome is known
   closes : (m : Model) (d : DecodeClosed) (x : Outcome) → outcome m close ≡ x
       → x .reply ≡ record { answer = closedMeaning (d .answer); output = []; extension = [] } → Stands (d .session) (x .next)
-      → (outcome m close .reply ≡ record { answer = closedMeaning (d .answer); output = []; extension = [] }) × Stands (d .session) (outcome m close .next)
+      → (outcome m close .reply ≡ record { answer = closedMeaning (d .answer); output = []; extension = [] })
+      × Stands (d .session) (outcome m close .next)
   closes m d x e r st =
-      subst (λ (y : Outcome). (y .reply ≡ record { answer = closedMeaning (d .answer); output = []; extension = [] }) × Stands (d .session) (y .next)) (sym e) (r, st)
+      subst (λ (y : Outcome). (y .reply ≡ record { answer = closedMeaning (d .answer); output = []; extension = [] })
+      × Stands (d .session) (y .next)) (sym e) (r, st)
 
-  pub close-shut : (e : WbmpError) → s .live ≡ false → e ≡ record { code = 30; offset = 0 } → Closes s (record { session = s; answer = DecodeClose.Refused e })
+  pub close-shut : (e : WbmpError) → s .live ≡ false → e ≡ record { code = 30; offset = 0 }
+      → Closes s (record { session = s; answer = DecodeClose.Refused e })
   unfolding outcome
   close-shut e l n =
       record {
@@ -36,7 +39,14 @@ module _ (s : DecodeSession) where
   still : (x : Stage) (m : Model) → StageOf x m → StageOf x (shut m)
   still (Stage.Header r at kept) m h = h
   still (Stage.Body p whole begun) m b =
-      record { nothingMet = b .nothingMet; headerIs = b .headerIs; admitted = b .admitted; start = b .start; below = b .below; place = b .place }
+      record {
+        nothingMet = b .nothingMet;
+        headerIs = b .headerIs;
+        admitted = b .admitted;
+        start = b .start;
+        below = b .below;
+        place = b .place;
+      }
   still (Stage.Refused e f) m h = (h .0, record { none = h .1 .none; fields = h .1 .fields })
 
   pub close-open : (a : DecodeClose) → s .live ≡ true → Finishes (s .stage) a

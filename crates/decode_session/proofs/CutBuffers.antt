@@ -46,12 +46,15 @@ module _ (d : Decoding) (file : List ℕ) (h : Outline) (accepted : readImage d 
       let n = subst (Sends d file h accepted at ext (o .next)) (g .0) (sending d file h accepted at size out ext l) in
       record {
         stands = subst (Stands (r .session)) (n .next-is) (g .1);
-        holds = λ k. subst (K (at + tookOf (fedMeaning (r .answer)))) (sym (n .stores)) (more at (tookOf (fedMeaning (r .answer))) ext (n .there) k);
+        holds =
+            λ k. subst (K (at + tookOf (fedMeaning (r .answer)))) (sym (n .stores))
+            (more at (tookOf (fedMeaning (r .answer))) ext (n .there) k);
         unmet = n .unmet;
         there = n .there;
       }
 
-  ended : (at : ℕ) (s : DecodeSession) (ext : List ℕ) (r : DecodeClosed) → at ≤ length file → length file ≤ at → Stands s (still at) → K at ext
+  ended : (at : ℕ) (s : DecodeSession) (ext : List ℕ) (r : DecodeClosed) → at ≤ length file → length file ≤ at → Stands s (still at)
+      → K at ext
       → Closes s r → Ended (r .session) ext
   unfolding outcome
   ended at s ext r l k st b c =
@@ -62,7 +65,8 @@ module _ (d : Decoding) (file : List ℕ) (h : Outline) (accepted : readImage d 
       }
 
   pub buffers : {s s′ : DecodeSession} {ext end : List ℕ} {at : ℕ} {flag : Bool} {cs : List Call} {rs : List Reply} {a : Answer Told}
-      → at ≤ length file → flag ≡ false → Stands s (still at) → K at ext → Trace s ext cs rs s′ end → Cut file at flag cs rs a → Ended s′ end
+      → at ≤ length file → flag ≡ false → Stands s (still at) → K at ext → Trace s ext cs rs s′ end → Cut file at flag cs rs a
+      → Ended s′ end
   buffers {s} {ext = ext} l e st k (Traces.fed {out = out} {out′ = out′} {ext′ = ext′} {r = r} f t) (part {at = at} size c) =
       let n = left at size s out ext out′ ext′ r l st f in
       buffers (n .there) (rw e (n .unmet)) (n .stands) (n .holds k) t c
@@ -71,4 +75,4 @@ module _ (d : Decoding) (file : List ℕ) (h : Outline) (accepted : readImage d 
       let z : at ≡ at + tookOf (fedMeaning (r .answer)) = omega (arith, ap tookOf q) in
       buffers (n .there) (rw e (n .unmet)) (n .stands) (subst (λ (n : ℕ). K n ext) z k) t c
   buffers {s} {ext = ext} l e st k (Traces.shut {r = r} f Traces.none) (taken {at = at} j) = ended at s ext r l j st k f
-  buffers l e st k (Traces.shut f t) Traces.refusal = zero-one (cc)
+  buffers l e st k (Traces.shut f t) Traces.afterRefusal = zero-one (cc)

@@ -7,7 +7,8 @@ use native.Mathlib.Omega.{arith}
 use borrow.Author.Tests.{lt-leb, leb-true, leb-false}
 use lib.Dec.{ltb, leb}
 use lib.ListN.{length, take, drop, length-append, length-take, take-append-drop}
-use lib.Seq.{slice, sets, sets-eq, length-sets, take-all, take-length, take-append-le, take-append-add, take-append-seam, take-take, length-take-le}
+use lib.Seq.{slice, sets, sets-eq, length-sets, take-all, take-length, take-append-le, take-append-add, take-append-seam, take-take}
+use lib.Seq.{length-take-le}
 use Rattle.error.specs.Choice.{if}
 use Rattle.error.specs.Answer.{Answer, gives, refuses, isEnd}
 use Rattle.laws.proofs.Lists.{take-length-take}
@@ -81,7 +82,8 @@ module _ (o : Settings) (fix : ℕ) (fields τ : List ℕ) (f : Fields) (passed 
 
     whole-read : readFields (o .classes) true (kindBits fix) (part ++ (drop n fields ++ [])) 2 ≡ gives (f, 2 + length fields)
     whole-read =
-        ap (λ (l : List ℕ). fieldsIn (0 ∷ fix ∷ l)) (sym (append-assoc (take n fields) (drop n fields) []) ∙ ap (λ (l : List ℕ). l ++ []) (take-append-drop n fields))
+        ap (λ (l : List ℕ). fieldsIn (0 ∷ fix ∷ l))
+        (sym (append-assoc (take n fields) (drop n fields) []) ∙ ap (λ (l : List ℕ). l ++ []) (take-append-drop n fields))
         ∙ read []
 
     by-answer : (a : Answer (Fields × ℕ)) → fieldsIn part ≡ a → slice 2 (fieldsEnd part a) part ≡ take n fields
@@ -123,7 +125,8 @@ module _ (o : Settings) (fix : ℕ) (fields τ : List ℕ) (f : Fields) (passed 
           ∙ sym (take-all (suc (suc n) - 2) fields (omega arith))
       go false e =
           let l = leb-false (length fields) n e in
-          ap (λ (l : List ℕ). fieldBytes o (0 ∷ fix ∷ l)) (take-append-le n fields τ (omega arith)) ∙ kept-part n l ∙ ap (λ (k : ℕ). take k fields) (sym less)
+          ap (λ (l : List ℕ). fieldBytes o (0 ∷ fix ∷ l)) (take-append-le n fields τ (omega arith)) ∙ kept-part n l
+          ∙ ap (λ (k : ℕ). take k fields) (sym less)
 
   -- a buffer that holds the fields of the first bytes
   pub record Holds (at : ℕ) (ext : List ℕ) : Type 0 where
@@ -137,7 +140,8 @@ module _ (o : Settings) (fix : ℕ) (fields τ : List ℕ) (f : Fields) (passed 
   file = fieldsFile fix fields τ
 
   pub holds-more : (at n : ℕ) (ext : List ℕ) → Holds at ext
-      → Holds (at + n) (sets ext (length (fieldBytes o (take at file))) (drop (length (fieldBytes o (take at file))) (fieldBytes o (take (at + n) file))))
+      → Holds (at + n) (sets ext (length (fieldBytes o (take at file)))
+      (drop (length (fieldBytes o (take at file))) (fieldBytes o (take (at + n) file))))
   holds-more at n ext h =
       let a = take (at - 2) fields in
       let b = take (at + n - 2) fields in

@@ -14,7 +14,8 @@ use Rattle.decoder.specs.Image.{imageSettings, readImage}
 use Rattle.decoder.specs.Frames.{framesOf}
 use Rattle.decode_session.specs.Sequence.{sequence}
 use Rattle.decode_session.specs.Extension.{fieldBytes}
-use Rattle.decode_session.specs.Model.{nothing, refusal, Model, Call, feed, close, Told, frames, Reply, takes, grown, written, stored, outcome, replies}
+use Rattle.decode_session.specs.Model.{nothing, metAt, Model, Call, feed, close, Told, frames, Reply, takes, grown, written, stored}
+use Rattle.decode_session.specs.Model.{outcome, replies}
 use Rattle.decode_session.specs.Trace.{bytesOf, joined, tookOf, isMet, Cut, part, taken}
 use Rattle.decode_session.specs.Trace as Traces
 use Rattle.decode_session.proofs.MostTaken.{most-small}
@@ -36,10 +37,14 @@ module _ (d : Decoding) (file : List ℕ) (h : Outline) (accepted : readImage d 
 
   -- more of the file: none of what was put out changes
   grows : (at n : ℕ) → Extends (sent at) (sent (at + n))
-  grows at n = subst (λ (l : List ℕ). Extends (sent at) (sequence ceiling d l)) (sym (take-add at n file)) (sequence-extends ceiling d (take at file) (take n (drop at file)))
+  grows at n =
+      subst (λ (l : List ℕ). Extends (sent at) (sequence ceiling d l)) (sym (take-add at n file))
+      (sequence-extends ceiling d (take at file) (take n (drop at file)))
 
   to-end : (at : ℕ) → Extends (sent at) (sequence ceiling d file)
-  to-end at = subst (λ (l : List ℕ). Extends (sent at) (sequence ceiling d l)) (take-append-drop at file) (sequence-extends ceiling d (take at file) (drop at file))
+  to-end at =
+      subst (λ (l : List ℕ). Extends (sent at) (sequence ceiling d l)) (take-append-drop at file)
+      (sequence-extends ceiling d (take at file) (drop at file))
 
   -- a buffer with the extension bytes stored of the bytes from `at` to `to`
   abbrev pub storedTo : ℕ → ℕ → List ℕ → List ℕ
@@ -65,11 +70,14 @@ module _ (d : Decoding) (file : List ℕ) (h : Outline) (accepted : readImage d 
         record {
           next-is = ap still z;
           sends = sym (drop-length (sent at)) ∙ ap (λ (n : ℕ). drop (length (sent at)) (sent n)) z;
-          stores = ap (sets ext _) (sym (drop-length (fieldBytes (imageSettings (d .mode)) (take at file)))) ∙ ap (λ (n : ℕ). storedTo at n ext) z;
+          stores =
+              ap (sets ext _) (sym (drop-length (fieldBytes (imageSettings (d .mode)) (take at file))))
+              ∙ ap (λ (n : ℕ). storedTo at n ext) z;
           unmet = refl;
           there = omega arith;
         })
-        (let n = next-part file at size (takes (still at) piece (length out)) l (most-small ceiling d (take at file) piece (length out) (length piece)) in
+        (let n = next-part file at size (takes (still at) piece (length out)) l
+        (most-small ceiling d (take at file) piece (length out) (length piece)) in
         record {
           next-is = ap (λ (bytes : List ℕ). record { options = d; live = true; bytes = bytes; met = nothing }) (n .0);
           sends =
@@ -102,4 +110,4 @@ module _ (d : Decoding) (file : List ℕ) (h : Outline) (accepted : readImage d 
       ∙ ap (λ (l : List ℕ). l ++ []) (closing-sends (framesOf ceiling d (take at file)))
       ∙ sym (drop-length (sent at))
       ∙ ap (λ (l : List ℕ). drop (length (sent at)) (sequence ceiling d l)) (take-all at file k)
-  outputs {at} l f Traces.refusal e = zero-one (cc)
+  outputs {at} l f Traces.afterRefusal e = zero-one (cc)

@@ -19,7 +19,10 @@ use Rattle.decode_session.proofs.Extends.{Extends, drop-extends, take-e
 module _ (format : PixelFormat) (width : ℕ) where
   body-extends : (at : ℕ) (s t : List ℕ) → Extends s t → Extends (bodyFrom format width at s) (bodyFrom format width at t)
   body-extends at s t e =
-      record { rest = bodyFrom format width (at + length s) (e .rest); whole-is = ap (bodyFrom format width at) (e .whole-is) ∙ body-append format width s (e .rest) at }
+      record {
+        rest = bodyFrom format width (at + length s) (e .rest);
+        whole-is = ap (bodyFrom format width at) (e .whole-is) ∙ body-append format width s (e .rest) at;
+      }
 
 pub sequence-none : (ceiling : ℕ) (d : Decoding) → sequence ceiling d [] ≡ []
 unfolding sequence readHeader readRest
@@ -33,7 +36,8 @@ module _ (ceiling : ℕ) (d : Decoding) (s ρ : List ℕ) where
       go : (a : Answer Outline) → headerOf (d .mode) s ≡ a
           → Extends (sequenceOf ceiling (d .format) s a) (sequenceOf ceiling (d .format) (s ++ ρ) (headerOf (d .mode) (s ++ ρ)))
       go (gives h) e = rw (header-kept s ρ (d .mode) (ap settled e) ∙ e)
-          (body-extends (d .format) (h .width) 0 (take (ceiling * planeOf h) (drop (h .body) s)) (take (ceiling * planeOf h) (drop (h .body) (s ++ ρ)))
+          (body-extends (d .format) (h .width) 0 (take (ceiling * planeOf h) (drop (h .body) s))
+          (take (ceiling * planeOf h) (drop (h .body) (s ++ ρ)))
           (let a = drop-extends (h .body) s ρ in
           let b = take-extends (ceiling * planeOf h) (drop (h .body) s) (a .rest) in
           record { rest = b .rest; whole-is = ap (take (ceiling * planeOf h)) (a .whole-is) ∙ b .whole-is }))

@@ -15,7 +15,8 @@ use Rattle.decoder.specs.Body.{framesIn}
 use Rattle.decoder.specs.Image.{readImage}
 use Rattle.decoder.specs.Frames.{framesOf}
 use Rattle.decoder.proofs.After.{image-kept}
-use Rattle.decode_session.specs.Model.{Met, nothing, refusal, Model, Call, feed, close, Told, frames, Reply, Outcome, takes, grown, fedBy, unaltered, outcome, replies}
+use Rattle.decode_session.specs.Model.{Met, nothing, metAt, Model, Call, feed, close, Told, frames, Reply, Outcome, takes, grown}
+use Rattle.decode_session.specs.Model.{fedBy, unaltered, outcome, replies}
 use Rattle.decode_session.specs.Trace.{tookOf, isMet, Cut, part, taken}
 use Rattle.decode_session.specs.Trace as Traces
 use Rattle.decode_session.proofs.MostTaken.{most-small}
@@ -41,7 +42,7 @@ module _ (d : Decoding) (file : List ℕ) where
   -- a met refusal is the whole file's
   pub data Meets : Bool → Met → Type 0 where
     unmet : Meets false nothing
-    met : {flag : Bool} {code place : ℕ} → readImage d file ≡ refuses code place → Meets flag (refusal code place)
+    met : {flag : Bool} {code place : ℕ} → readImage d file ≡ refuses code place → Meets flag (metAt code place)
 
   pub record Next (at : ℕ) (flag : Bool) (o : Outcome) : Type 0 where
     pub met′ : Met
@@ -53,7 +54,8 @@ module _ (d : Decoding) (file : List ℕ) where
   rest-of at size = append-take-drop (take at file) (drop at file) size ∙ take-append-drop at file
 
   -- a refusal of the bytes so far other than an early end is the whole file's
-  pub met-whole : (at size code place : ℕ) → isEnd code ≡ false → readImage d (take at file ++ take size (drop at file)) ≡ refuses code place
+  pub met-whole : (at size code place : ℕ) → isEnd code ≡ false
+      → readImage d (take at file ++ take size (drop at file)) ≡ refuses code place
       → readImage d file ≡ refuses code place
   met-whole at size code place f e =
       ap (readImage d) (sym (rest-of at size))
@@ -64,7 +66,8 @@ module _ (d : Decoding) (file : List ℕ) where
     abbrev piece : List ℕ
     piece = take size (drop at file)
 
-    stays : (code place : ℕ) (flag : Bool) (x : Met) → Meets (flag || isMet (refuses code place)) x → Next at flag (unaltered (midway at x) code place out ext)
+    stays : (code place : ℕ) (flag : Bool) (x : Met) → Meets (flag || isMet (refuses code place)) x
+        → Next at flag (unaltered (midway at x) code place out ext)
     stays code place flag x h =
         let z : at + 0 ≡ at = omega arith in
         record {
@@ -98,8 +101,8 @@ module _ (d : Decoding) (file : List ℕ) where
         (λ code place e f.
         let z : at + 0 ≡ at = omega arith in
         record {
-          met′ = refusal code place;
-          next-is = ap (λ (n : ℕ). midway n (refusal code place)) (sym z);
+          met′ = metAt code place;
+          next-is = ap (λ (n : ℕ). midway n (metAt code place)) (sym z);
           holds = met (met-whole at size code place f e);
           there = omega arith;
         })
@@ -132,6 +135,6 @@ module _ (d : Decoding) (file : List ℕ) where
   whole {at} x h l (taken {r = r} k) e =
       let p : r ≡ outcome (midway at x) close .reply = cc in
       ap (λ (r : Reply). r .answer) p ∙ taken-whole at x h k
-  whole {at} x h l (Traces.refusal {r = r}) e =
+  whole {at} x h l (Traces.afterRefusal {r = r}) e =
       let p : r ≡ outcome (midway at x) close .reply = cc in
       ap (λ (r : Reply). r .answer) p ∙ met-closing at x h

@@ -6,9 +6,9 @@ use mathlib.Core.List.{List, _++_, append-nil}
 use lib.ListN.{length}
 use Rattle.error.specs.declared.WbmpError.{WbmpError}
 use Rattle.header.specs.Read.{Outline, parsed}
-use Rattle.header.specs.declared.FieldsSeen.{FieldsSeen}
+use Rattle.header_reader.specs.declared.FieldsSeen.{FieldsSeen}
 use Rattle.header.specs.declared.ParsedHeader.{ParsedHeader}
-use Rattle.header.specs.declared.reader.HeaderReader.{HeaderReader}
+use Rattle.header_reader.specs.declared.reader.HeaderReader.{HeaderReader}
 use Rattle.decoder.specs.Image.{imageSettings}
 use Rattle.decode_session.specs.Model.{Met, nothing, Model, feed, stored, fedBy, unaltered, outcome}
 use Rattle.decode_session.specs.Session.{InBody, Stands, Feeds}
@@ -26,12 +26,14 @@ use Rattle.decode_session.proofs.Replies.{stored-none, reading, closed,
 
 -- a refusal that alters nothing
 unaltered-fits : (s : DecodeSession) (m : Model) (piece out ext : List ℕ) (e : WbmpError) (d : DecodeFed) → Stands s m
-    → outcome m (feed piece out ext) ≡ unaltered m (e .code) (e .offset) out ext → d ≡ record { session = s; answer = DecodeFeed.Refused e } → Fits m piece out ext d out ext
+    → outcome m (feed piece out ext) ≡ unaltered m (e .code) (e .offset) out ext → d ≡ record { session = s; answer = DecodeFeed.Refused e }
+    → Fits m piece out ext d out ext
 unaltered-fits s m piece out ext e d st x q =
     agreed m piece out ext d out ext ext _ x refl
     (subst (λ (d : DecodeFed). Agrees d out ext (unaltered m (e .code) (e .offset) out ext)) (sym q) (record { reply = refl; stands = st }))
 
-module _ (s : DecodeSession) (piece out ext : List ℕ) (d : DecodeFed) (e : WbmpError) (is : d ≡ record { session = s; answer = DecodeFeed.Refused e }) where
+module _ (s : DecodeSession) (piece out ext : List ℕ) (d : DecodeFed) (e : WbmpError)
+    (is : d ≡ record { session = s; answer = DecodeFeed.Refused e }) where
   pub feed-closed : s .live ≡ false → e ≡ record { code = 30; offset = 0 } → Feeds s piece out ext d out ext
   feed-closed l n =
       record {
@@ -55,7 +57,8 @@ module _ (s : DecodeSession) (piece out ext : List ℕ) (d : DecodeFed) (e : Wbm
       record {
         does =
             λ m st. unaltered-fits s m piece out ext e d st
-            (short m piece out ext (sym (st .live) ∙ l) (none m st) h ∙ ap (λ (e : WbmpError). unaltered m (e .code) (e .offset) out ext) (sym n)) is;
+            (short m piece out ext (sym (st .live) ∙ l) (none m st) h
+            ∙ ap (λ (e : WbmpError). unaltered m (e .code) (e .offset) out ext) (sym n)) is;
       }
 
   pub short-in-header : s .live ≡ true → (r : HeaderReader) (at kept : ℕ) → s .stage ≡ Stage.Header r at kept
@@ -82,7 +85,14 @@ enters m piece h whole begun b =
     record {
       inBody =
           subst (λ (l : List ℕ). InBody (having m l) h whole begun) (sym (append-nil (m .bytes)))
-          (record { nothingMet = refl; headerIs = b .headerIs; admitted = b .admitted; start = b .start; below = b .below; place = b .place });
+          (record {
+            nothingMet = refl;
+            headerIs = b .headerIs;
+            admitted = b .admitted;
+            start = b .start;
+            below = b .below;
+            place = b .place;
+          });
       earlier = shown-length b;
     }
 

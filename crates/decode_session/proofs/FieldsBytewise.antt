@@ -19,11 +19,11 @@ use Rattle.ext.specs.Read.{readFields}
 use Rattle.ext.specs.Bytewise.{octets, octet, pairsFrom, identifierFrom, valueFrom, fieldsFrom, valueFault}
 use Rattle.ext.proofs.Continuation.{fields-in}
 use Rattle.header.specs.Settings.{Settings}
-use Rattle.header.specs.Machine.{State, inType, atFix, inOctets, atOctet, atPair, inIdentifier, inValue, inWidth, inHeight, start, Step, more, done, refused, onByte, stepOf, steps}
-use Rattle.header.specs.Represents.{Sound}
-use Rattle.header.specs.Pieces.{onward}
-use Rattle.header.proofs.Machine.{steps-cons}
-use Rattle.header.proofs.Keeps.{SoundStep, sound-step, value-kept}
+use Rattle.header_reader.specs.Machine.{State, inType, atFix, inOctets, atOctet, atPair, inIdentifier, inValue, inWidth, inHeight, start, Step, more, done, refused, onByte, stepOf, steps}
+use Rattle.header_reader.specs.Represents.{Sound}
+use Rattle.header_reader.specs.Pieces.{onward}
+use Rattle.header_reader.proofs.Machine.{steps-cons}
+use Rattle.header_reader.proofs.Keeps.{SoundStep, sound-step, value-kept}
 use Rattle.decode_session.specs.Extension.{fieldsEnd, fieldBytesAt, afterType, fieldBytes}
 use Rattle.decode_session.proofs.Zones.{Zone, before, inside, behind, zone}
 
@@ -64,7 +64,8 @@ rest o s (atOctet fix at) τ = cut s at (octet τ at ended)
 rest o s (atPair fix from at pairs) τ = cut s from (pairsFrom τ (o .classes) from at pairs ended)
 rest o s (inIdentifier fix from at pairs begun left size again fault) τ =
     cut s from (identifierFrom τ (o .classes) from at pairs begun left size again fault ended)
-rest o s (inValue fix from at pairs begun left again fault) τ = cut s from (valueFrom τ (o .classes) from at pairs begun left again fault ended)
+rest o s (inValue fix from at pairs begun left again fault) τ =
+    cut s from (valueFrom τ (o .classes) from at pairs begun left again fault ended)
 rest o s (inWidth fix f at v n) τ = spanned f s
 rest o s (inHeight fix f w at v n) τ = spanned f s
 
@@ -72,7 +73,8 @@ module _ (o : Settings) (s : List ℕ) where
   fix-direct : (at : ℕ) → fieldBytesAt o s at ≡ fixRest o s (drop at s) at
   fix-direct at = go (leb (length s) at) refl
     where
-      end : (x : Answer (Fields × ℕ)) (k : Fields × ℕ → Answer ℕ) → ((r : Fields × ℕ) → k r ≡ gives (r .1)) → fieldsEnd s x ≡ endIn s (bind x k)
+      end : (x : Answer (Fields × ℕ)) (k : Fields × ℕ → Answer ℕ) → ((r : Fields × ℕ) → k r ≡ gives (r .1))
+          → fieldsEnd s x ≡ endIn s (bind x k)
       end (gives r) k h = rw (h r)
       end (refuses code place) k h = refl
 
@@ -81,7 +83,8 @@ module _ (o : Settings) (s : List ℕ) where
           ≡ cut s from (fieldsFrom (o .classes) true kind (drop from s) from ended)
       fields kind from =
           ap (λ (n : ℕ). slice from n s)
-          (end (readFields (o .classes) true kind s from) _ (λ r. refl) ∙ ap (endIn s) (sym (fields-in s ended (o .classes) true kind from)))
+          (end (readFields (o .classes) true kind s from) _ (λ r. refl)
+          ∙ ap (endIn s) (sym (fields-in s ended (o .classes) true kind from)))
 
       within : (b : ℕ) (t u : Bool)
           → if t [] (if u (slice (at + 1) (fieldsEnd s (readFields (o .classes) true (kindBits b) s (at + 1))) s) [])
@@ -130,7 +133,8 @@ module _ (o : Settings) (s τ : List ℕ) where
   pick f z true u v x y p q = p
   pick f z false u v x y p q = q
 
-  choose : (z : Zone) (t : Bool) (u v : List ℕ) (x y : Step) → u ≡ after o s z x τ → v ≡ after o s z y τ → if t u v ≡ after o s z (if t x y) τ
+  choose : (z : Zone) (t : Bool) (u v : List ℕ) (x y : Step) → u ≡ after o s z x τ → v ≡ after o s z y τ
+      → if t u v ≡ after o s z (if t x y) τ
   choose z true u v x y p q = p
   choose z false u v x y p q = q
 

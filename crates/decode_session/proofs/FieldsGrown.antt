@@ -15,15 +15,17 @@ use Rattle.mbi.specs.Read.{readRest, readByte}
 use Rattle.ext.specs.Kinds.{Span, absent, span}
 use Rattle.ext.specs.Read.{readFields, readPairs, readPair}
 use Rattle.header.specs.Settings.{Settings, extInner}
-use Rattle.header.specs.Machine.{State, start, inFields, Step, more, done, refused, stepOf, steps, atPair, inIdentifier}
-use Rattle.header.specs.Represents.{Sound}
-use Rattle.header.specs.Pieces.{onward}
-use Rattle.header.proofs.Machine.{steps-cons}
-use Rattle.header.proofs.Keeps.{SoundStep, sound-step, sound-steps, sound-start}
-use Rattle.header.proofs.Taken.{taken, Moves, moves-step, taken-steps}
+use Rattle.header_reader.specs.Machine.{State, start, inFields, Step, more, done, refused, stepOf, steps, atPair, inIdentifier}
+use Rattle.header_reader.specs.Represents.{Sound}
+use Rattle.header_reader.specs.Pieces.{onward}
+use Rattle.header_reader.proofs.Machine.{steps-cons}
+use Rattle.header_reader.proofs.Keeps.{SoundStep, sound-step, sound-steps, sound-start}
+use Rattle.header_reader.proofs.Taken.{taken, Moves, moves-step, taken-steps}
 use Rattle.decode_session.specs.Extension.{fieldBytes}
-use Rattle.decode_session.proofs.Zones.{Zone, before, inside, behind, zone, isInside, inside-is, Next, early, enters, skips, runs, leaves, late, Stops, Moved, zone-step}
-use Rattle.decode_session.proofs.FieldsBytewise.{spanned, rest, rest-start, rest-steps, rest-step, rest-end, stopped, after, zoneBytes}
+use Rattle.decode_session.proofs.Zones.{Zone, before, inside, behind, zone, isInside, inside-is, Next, early, enters, skips, runs}
+use Rattle.decode_session.proofs.Zones.{leaves, late, Stops, Moved, zone-step}
+use Rattle.decode_session.proofs.FieldsBytewise.{spanned, rest, rest-start, rest-steps, rest-step, rest-end, stopped, after}
+use Rattle.decode_session.proofs.FieldsBytewise.{zoneBytes}
 
 -- a zone whose fields start, and end where they have, in the bytes taken
 abbrev pub Fits : ℕ → Zone → Type 0
@@ -44,11 +46,13 @@ fits-next at z z′ (runs p q) h = omega arith
 fits-next at z z′ (leaves p q) h = omega arith
 fits-next at z z′ (late {f = f}) h = spanFits at f h
 
-fits-steps : (o : Settings) (σ : List ℕ) (st st′ : State) → Sound st → Fits (taken st) (zone st) → steps o st σ ≡ more st′ → Fits (taken st′) (zone st′)
+fits-steps : (o : Settings) (σ : List ℕ) (st st′ : State) → Sound st → Fits (taken st) (zone st) → steps o st σ ≡ more st′
+    → Fits (taken st′) (zone st′)
 unfolding steps
 fits-steps o [] st st′ s h e = let f : st ≡ st′ = cc in subst (λ (x : State). Fits (taken x) (zone x)) f h
 fits-steps o (b ∷ σ) st st′ s h e =
-    go (stepOf o st b) (sound-step o st b s) (moves-step o st b) (zone-step o st b s) (λ x. fits-steps o σ x st′) (sym (steps-cons o st b σ) ∙ e)
+    go (stepOf o st b) (sound-step o st b s) (moves-step o st b) (zone-step o st b s) (λ x. fits-steps o σ x st′)
+    (sym (steps-cons o st b σ) ∙ e)
   where
     go : (x : Step) → SoundStep x → Moves (taken st) x → Moved (taken st) (zone st) x
         → ((t : State) → Sound t → Fits (taken t) (zone t) → steps o t σ ≡ more st′ → Fits (taken st′) (zone st′))
@@ -105,7 +109,8 @@ room-more σ z z′ (runs {from = from} p q) e = room-inside σ from p q
 room-more σ z z′ (leaves {from = from} p q) e = room-inside σ from p q
 room-more σ z z′ late e = zero-one (cc)
 
-room-stop : (σ : List ℕ) (z : Zone) (place : ℕ) → Stops (length σ) place z → (isInside z && ltb (length σ) place) ≡ true → length (zoneBytes z σ) < 4118
+room-stop : (σ : List ℕ) (z : Zone) (place : ℕ) → Stops (length σ) place z → (isInside z && ltb (length σ) place) ≡ true
+    → length (zoneBytes z σ) < 4118
 room-stop σ before place x e = zero-one (cc)
 room-stop σ (inside from) place (k, inl q) e =
     let f = le-ltb (length σ) place (omega arith) in
@@ -152,19 +157,24 @@ module _ (o : Settings) (σ : List ℕ) (st : State) (e : steps o start σ ≡ m
 
   -- the one-byte law
   pub grown : (b : ℕ) (τ : List ℕ) (x : Step) → stepOf o st b ≡ x → Follow x τ → Grown o σ b τ (stores st (length σ) x)
-  grown b τ x q f = go x f (subst (Moved (length σ) (zone st)) q (subst (λ (n : ℕ). Moved n (zone st) (stepOf o st b)) taken-so (zone-step o st b sound-so)))
+  grown b τ x q f =
+      go x f (subst (Moved (length σ) (zone st)) q
+      (subst (λ (n : ℕ). Moved n (zone st) (stepOf o st b)) taken-so (zone-step o st b sound-so)))
       (bytes-step b τ ∙ ap (λ (y : Step). after o (σ ++ b ∷ τ) (zone st) y τ) q)
     where
       go : (x : Step) → Follow x τ → Moved (length σ) (zone st) x → fieldBytes o (σ ++ b ∷ τ) ≡ after o (σ ++ b ∷ τ) (zone st) x τ
           → Grown o σ b τ (stores st (length σ) x)
       go (more st′) f m q =
           record {
-            bytes = rw (bytes-so, inside-is st, f) (rw f at q ∙ rest-end o (σ ++ b ∷ []) st′ ∙ zone-more σ b (zone st) (zone st′) m fits-so);
+            bytes =
+                rw (bytes-so, inside-is st, f) (rw f at q ∙ rest-end o (σ ++ b ∷ []) st′ ∙ zone-more σ b (zone st) (zone st′) m fits-so);
             room = λ t. rw bytes-so (room-more σ (zone st) (zone st′) m (sym (inside-is st) ∙ t));
           }
       go (done h) f m q =
           record {
-            bytes = q ∙ spanned-prefix (h .fields) σ (b ∷ τ) (subst (Fits (length σ)) m fits-so) ∙ sym (append-nil _ ∙ bytes-so ∙ ap (λ (z : Zone). zoneBytes z σ) m);
+            bytes =
+                q ∙ spanned-prefix (h .fields) σ (b ∷ τ) (subst (Fits (length σ)) m fits-so)
+                ∙ sym (append-nil _ ∙ bytes-so ∙ ap (λ (z : Zone). zoneBytes z σ) m);
             room = λ t. zero-one (cc);
           }
       go (refused code place) f m q =

@@ -16,7 +16,8 @@ pub record Stored (ext₀ : List ℕ) (kept : ℕ) (bytes : List ℕ) (count : �
   pub all : count ≡ length bytes
   pub begun : kept ≤ count
 
-pub stored-more : (ext₀ bytes ext ext′ : List ℕ) (kept count count′ b : ℕ) (w : Bool) → Stored ext₀ kept bytes count ext → (w ≡ true → count < length ext)
+pub stored-more : (ext₀ bytes ext ext′ : List ℕ) (kept count count′ b : ℕ) (w : Bool) → Stored ext₀ kept bytes count ext
+    → (w ≡ true → count < length ext)
     → Keeps count b w ext count′ ext′ → Stored ext₀ kept (bytes ++ added w b) count′ ext′
 stored-more ext₀ bytes ext ext′ kept count count′ b true s r k =
     let p = k .stored refl (r refl) in

@@ -18,9 +18,20 @@ use Rattle.decode_session.specs.Sequence.{padded, bodyFrom}
 use Rattle.decode_session.specs.Body.{Cleared}
 use Rattle.decode_session.proofs.BodyBytes.{body-length, body-at, body-black}
 
+-- bytes that fill their output
+filled : (bytes old new : List ℕ) (r : Answer ℕ) → length bytes ≡ length old → Emits (gives bytes) r old new → new ≡ bytes
+filled bytes old new r n e =
+    e .bytes
+    ∙ if-true (leb (length bytes) (length old)) (bytes ++ drop (length bytes) old) old (le-leb (length bytes) (length old) (omega arith))
+    ∙ ap (λ (k : ℕ). bytes ++ drop k old) n
+    ∙ ap (λ (l : List ℕ). bytes ++ l) (drop-length old)
+    ∙ append-nil bytes
+
 -- inverted bytes whose padding is cleared
-pub white-is : (w at : ℕ) (xs mid new : List ℕ) → mid ≡ invert xs → Cleared w at mid new → new ≡ bodyFrom MonoWhite w at xs
-white-is w at xs mid new e c =
+pub white-is : (w at : ℕ) (xs old mid new : List ℕ) (r : Answer ℕ) → length xs ≡ length old → Emits (gives (invert xs)) r old mid
+    → Cleared w at mid new → new ≡ bodyFrom MonoWhite w at xs
+white-is w at xs old mid new r l i c =
+    let e = filled (invert xs) old mid r (invert-length xs ∙ l) i in
     let n = ap length e ∙ invert-length xs in
     let m = c .same in
     ext-getD 0 new (bodyFrom MonoWhite w at xs) (m ∙ n ∙ sym (body-length MonoWhite w xs at))
@@ -33,10 +44,4 @@ white-is w at xs mid new e c =
 pub black-is : (w at : ℕ) (xs old new : List ℕ) (r : Answer ℕ) → length xs ≡ length old
     → Emits (gives (convertFormat MonoBlack MonoBlack w 0 (rowBytes w) xs)) r old new → new ≡ bodyFrom MonoBlack w at xs
 unfolding convertFormat
-black-is w at xs old new r n e =
-    e .bytes
-    ∙ if-true (leb (length xs) (length old)) (xs ++ drop (length xs) old) old (le-leb (length xs) (length old) (omega arith))
-    ∙ ap (λ (k : ℕ). xs ++ drop k old) n
-    ∙ ap (λ (l : List ℕ). xs ++ l) (drop-length old)
-    ∙ append-nil xs
-    ∙ body-black w xs at
+black-is w at xs old new r n e = filled xs old new r n e ∙ body-black w xs at

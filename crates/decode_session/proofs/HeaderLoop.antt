@@ -12,16 +12,16 @@ use Rattle.error.specs.Answer.{gives, map}
 use Rattle.error.specs.declared.WbmpError.{WbmpError}
 use Rattle.header.specs.Settings.{Settings}
 use Rattle.header.specs.Read.{Outline, outline, readHeader}
-use Rattle.header.specs.Machine.{State, start, inFields, Step, more, done, refused, stepOf, steps, after, resume}
-use Rattle.header.specs.Represents.{Represents, Answers, Stepped}
-use Rattle.header.specs.Pieces.{onward}
+use Rattle.header_reader.specs.Machine.{State, start, inFields, Step, more, done, refused, stepOf, steps, after, resume}
+use Rattle.header_reader.specs.Represents.{Represents, Answers, Stepped}
+use Rattle.header_reader.specs.Pieces.{onward}
 use Rattle.header.specs.declared.ParsedHeader.{ParsedHeader}
-use Rattle.header.specs.declared.reader.HeaderReader.{HeaderReader}
-use Rattle.header.specs.declared.reader.HeaderStep.{HeaderStep}
-use Rattle.header.proofs.Machine.{one-step, steps-cons, steps-law, steps-append}
-use Rattle.header.proofs.Direct.{direct}
-use Rattle.header.proofs.Keeps.{SoundStep, sound-step}
-use Rattle.header.proofs.Taken.{Moves, taken, moves-step}
+use Rattle.header_reader.specs.declared.reader.HeaderReader.{HeaderReader}
+use Rattle.header_reader.specs.declared.reader.HeaderStep.{HeaderStep}
+use Rattle.header_reader.proofs.Machine.{one-step, steps-cons, steps-law, steps-append}
+use Rattle.header_reader.proofs.Direct.{direct}
+use Rattle.header_reader.proofs.Keeps.{SoundStep, sound-step}
+use Rattle.header_reader.proofs.Taken.{Moves, taken, moves-step}
 use Rattle.decode_session.specs.Extension.{fieldBytes}
 use Rattle.decode_session.specs.Head.{Reached, Ends, Heads, isKept, Keeps}
 use Rattle.decode_session.specs.declared.head.HeadFed.{HeadFed}
@@ -35,7 +35,8 @@ pub record Going (o : Settings) (bytes piece ext₀ : List ℕ) (at kept i : ℕ
   pub stored : Stored ext₀ kept (fieldBytes o (bytes ++ take i piece)) count ext
 
 -- what the code does with byte i
-pub record Turn (piece : List ℕ) (at i : ℕ) (r : HeaderReader) (count : ℕ) (ext : List ℕ) (x : HeaderStep) (count′ : ℕ) (ext′ : List ℕ) : Type 0 where
+pub record Turn (piece : List ℕ) (at i : ℕ) (r : HeaderReader) (count : ℕ) (ext : List ℕ) (x : HeaderStep) (count′ : ℕ)
+    (ext′ : List ℕ) : Type 0 where
   pub within : i < length piece
   pub big : 4118 ≤ length ext
   pub inside : Bool
@@ -47,7 +48,8 @@ pub record Turn (piece : List ℕ) (at i : ℕ) (r : HeaderReader) (count : ℕ)
 
 -- what `Heads` promises of one reading
 abbrev pub Headed : Settings → List ℕ → List ℕ → List ℕ → ℕ → ℕ → HeadFed → List ℕ → Type 0
-Headed o bytes piece ext at kept r ext′ = Ends o bytes piece at r (r .end) × (ext′ ≡ sets ext kept (drop kept (fieldBytes o (bytes ++ piece))))
+Headed o bytes piece ext at kept r ext′ =
+    Ends o bytes piece at r (r .end) × (ext′ ≡ sets ext kept (drop kept (fieldBytes o (bytes ++ piece))))
 
 -- the code's test and the law's agree
 kept-as : (o : Settings) (st : State) (at : ℕ) (x : HeaderStep) (y : Step) → Answers o x y → isKept (inFields st) at x ≡ stores st at y
@@ -61,7 +63,8 @@ kept-as o st at (HeaderStep.Refused e) (more s) h = absurd h
 kept-as o st at (HeaderStep.Refused e) (done g) h = absurd h
 kept-as o st at (HeaderStep.Refused e) (refused code place) h = ap (λ (n : ℕ). inFields st && ltb at n) (h .1)
 
-module _ (o : Settings) (bytes piece ext₀ : List ℕ) (at kept i : ℕ) (r : HeaderReader) (count : ℕ) (ext : List ℕ) (x : HeaderStep) (count′ : ℕ) (ext′ : List ℕ)
+module _ (o : Settings) (bytes piece ext₀ : List ℕ) (at kept i : ℕ) (r : HeaderReader) (count : ℕ) (ext : List ℕ) (x : HeaderStep)
+    (count′ : ℕ) (ext′ : List ℕ)
     (g : Going o bytes piece ext₀ at kept i r count ext) (t : Turn piece at i r count ext x count′ ext′) where
   abbrev b : ℕ
   b = getD piece i 0
@@ -83,7 +86,8 @@ module _ (o : Settings) (bytes piece ext₀ : List ℕ) (at kept i : ℕ) (r : H
   answers = t .stepped .does o st (g .reached .represents)
 
   -- the extension bytes behind it
-  behind : (τ : List ℕ) (y : Step) → stepOf o st b ≡ y → Answers o x y → Follow y τ → Stored ext₀ kept (fieldBytes o (σ ++ b ∷ τ)) count′ ext′
+  behind : (τ : List ℕ) (y : Step) → stepOf o st b ≡ y → Answers o x y → Follow y τ
+      → Stored ext₀ kept (fieldBytes o (σ ++ b ∷ τ)) count′ ext′
   behind τ y e a f =
       let n = grown o σ st (g .reached .reached) b τ y e f in
       let w : t .wanted ≡ stores st (length σ) y =
@@ -144,7 +148,8 @@ module _ (o : Settings) (bytes piece ext₀ : List ℕ) (at kept i : ℕ) (r : H
   pub turn-refused : (f : WbmpError) → x ≡ HeaderStep.Refused f
       → Headed o bytes piece ext₀ at kept (record { taken = i + 1; kept = count′; end = HeadEnd.Refused f }) ext′
   turn-refused f e =
-      go (stepOf o st b) refl (subst (λ (k : HeaderStep). Answers o k (stepOf o st b)) e answers) (sound-step o st b (g .reached .represents .sound))
+      go (stepOf o st b) refl (subst (λ (k : HeaderStep). Answers o k (stepOf o st b)) e answers)
+      (sound-step o st b (g .reached .represents .sound))
     where
       go : (y : Step) → stepOf o st b ≡ y → Answers o (HeaderStep.Refused f) y → SoundStep y
           → Headed o bytes piece ext₀ at kept (record { taken = i + 1; kept = count′; end = HeadEnd.Refused f }) ext′
@@ -152,7 +157,8 @@ module _ (o : Settings) (bytes piece ext₀ : List ℕ) (at kept i : ℕ) (r : H
       go (done y) q a m = absurd a
       go (refused code place) q a m = (
         (reads (refused code place) q ∙ cc (a .0, a .1), rw (a .0) m),
-        rw whole-list (behind (drop (i + 1) piece) (refused code place) q (subst⁻¹ (λ (k : HeaderStep). Answers o k (refused code place)) e a) tt .buffer),
+        rw whole-list (behind (drop (i + 1) piece) (refused code place) q
+            (subst⁻¹ (λ (k : HeaderStep). Answers o k (refused code place)) e a) tt .buffer),
       )
 
 -- before the first byte

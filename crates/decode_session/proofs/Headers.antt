@@ -8,15 +8,15 @@ use Rattle.error.specs.Answer.{gives, refuses, map}
 use Rattle.laws.proofs.Tests.{zero-one}
 use Rattle.header.specs.Settings.{Settings}
 use Rattle.header.specs.Read.{Outline, outline, readHeader}
-use Rattle.header.specs.Machine.{State, inType, atFix, inOctets, atOctet, atPair, inIdentifier, inValue, inWidth, inHeight, Step, more, done, refused, start, steps, stepOf, resume, after}
-use Rattle.header.specs.Pieces.{onward}
-use Rattle.header.specs.Represents.{Sound}
-use Rattle.header.specs.declared.reader.HeaderReader.{HeaderReader}
-use Rattle.header.proofs.Machine.{steps-cons, steps-law, steps-all}
-use Rattle.header.proofs.Direct.{direct}
-use Rattle.header.proofs.Meets.{finds, found}
-use Rattle.header.proofs.Ends.{endCode, endOffset, end-is}
-use Rattle.header.proofs.Taken.{taken, Moves, moves-step, taken-steps}
+use Rattle.header_reader.specs.Machine.{State, inType, atFix, inOctets, atOctet, atPair, inIdentifier, inValue, inWidth, inHeight, Step, more, done, refused, start, steps, stepOf, resume, after}
+use Rattle.header_reader.specs.Pieces.{onward}
+use Rattle.header_reader.specs.Represents.{Sound}
+use Rattle.header_reader.specs.declared.reader.HeaderReader.{HeaderReader}
+use Rattle.header_reader.proofs.Machine.{steps-cons, steps-law, steps-all}
+use Rattle.header_reader.proofs.Direct.{direct}
+use Rattle.header_reader.proofs.Meets.{finds, found}
+use Rattle.header_reader.proofs.Ends.{endCode, endOffset, end-is}
+use Rattle.header_reader.proofs.Taken.{taken, Moves, moves-step, taken-steps}
 use Rattle.decode_session.specs.Head.{Reached}
 
 module _ (o : Settings) where
@@ -26,7 +26,8 @@ module _ (o : Settings) where
   done-past [] st h e = zero-one (cc)
   done-past (b ∷ σ) st h e = go (stepOf o st b) (moves-step o st b) (λ s. done-past σ s h) (sym (steps-cons o st b σ) ∙ e)
     where
-      go : (x : Step) → Moves (taken st) x → ((s : State) → steps o s σ ≡ done h → taken s < h .body) → onward o x σ ≡ done h → taken st < h .body
+      go : (x : Step) → Moves (taken st) x → ((s : State) → steps o s σ ≡ done h → taken s < h .body) → onward o x σ ≡ done h
+          → taken st < h .body
       go (more s) m ih q = omega (arith, m, ih s q)
       go (done g) m ih q = let e : g ≡ h = cc in omega (arith, m, ap (λ (g : Outline). g .body) e)
       go (refused code offset) m ih q = zero-one (cc)
@@ -37,7 +38,8 @@ module _ (o : Settings) where
     header-later h e τ = direct o (s ++ τ) ∙ found o start s h (finds o start s h (sym (direct o s) ∙ e)) τ
 
     -- the bytes up to its body have it
-    pub header-cut : (τ : List ℕ) (h : Outline) → map outline (readHeader o (s ++ τ)) ≡ gives h → h .body ≡ length s → map outline (readHeader o s) ≡ gives h
+    pub header-cut : (τ : List ℕ) (h : Outline) → map outline (readHeader o (s ++ τ)) ≡ gives h → h .body ≡ length s
+        → map outline (readHeader o s) ≡ gives h
     header-cut τ h e n =
         direct o s ∙ steps-all o s start ∙ go (steps o start s) refl (sym (steps-law o s τ start) ∙ sym (direct o (s ++ τ)) ∙ e)
       where

@@ -4,7 +4,7 @@ pub mod FieldsGrown
 pub mod Places
 pub mod FieldsStored
 pub mod HeaderLoop
-pub mod Running
+pub mod RunStored
 pub mod BodyBytes
 pub mod MostTaken
 pub mod Headers
@@ -19,13 +19,13 @@ pub mod RefusalsMet
 pub mod Replies
 pub mod PlanesFed
 pub mod BodyBegun
-pub mod Heading
+pub mod HeaderPiece
 pub mod FeedCalls
 pub mod CloseAnswers
 pub mod Asked
 pub mod CloseCalls
-pub mod Opening
-pub mod Seeing
+pub mod OpenCorrect
+pub mod HeaderShown
 pub mod WholeReading
 pub mod Lists
 pub mod CutCases

@@ -38,10 +38,13 @@ module _ {m : Model} {piece : List ℕ} {from room : ℕ} {h : Outline} {whole b
   split i = ap (λ (l : List ℕ). m .bytes ++ l) (take-add from i piece) ∙ sym (append-assoc (m .bytes) (take from piece) (take i rest))
 
   grows : (i : ℕ) → sequence (ceilingOf (m .options)) (m .options) (m .bytes ++ take (from + i) piece)
-      ≡ sequence (ceilingOf (m .options)) (m .options) (m .bytes ++ take from piece) ++ bodyFrom (m .options .format) (h .width) begun (take left (take i rest))
+      ≡ sequence (ceilingOf (m .options)) (m .options) (m .bytes ++ take from piece) ++ bodyFrom (m .options .format) (h .width) begun
+      (take left (take i rest))
   grows i = ap (sequence (ceilingOf (m .options)) (m .options)) (split i) ∙ shown-grows (en .inBody) (take i rest)
 
-  shown : (i : ℕ) → i ≤ length rest → shownWith (ceilingOf (m .options)) (m .options) (m .bytes) piece room (from + i) ≡ shownBytes (en .inBody) + length (take left (take i rest))
+  shown : (i : ℕ) → i ≤ length rest
+      → shownWith (ceilingOf (m .options)) (m .options) (m .bytes) piece room (from + i)
+      ≡ shownBytes (en .inBody) + length (take left (take i rest))
   shown i l =
       ap length (grows i)
       ∙ length-append (sequence (ceilingOf (m .options)) (m .options) (m .bytes ++ take from piece)) _
@@ -64,7 +67,8 @@ module _ {m : Model} {piece : List ℕ} {from room : ℕ} {h : Outline} {whole b
       ⊎-elim
       (λ w. ap (λ (k : ℕ). take left (take k rest)) (w .1 .0)
       ∙ take-all left (take (r .written) rest) (rw length-take (omega (arith, below-left (w .0)))))
-      (λ w. ap (take left) (take-all (r .taken) rest (omega (arith, w .1 .1))) ∙ ap (λ (k : ℕ). take k rest) (sym (all-left (w .0) (w .1 .0))))
+      (λ w. ap (take left) (take-all (r .taken) rest (omega (arith, w .1 .1)))
+      ∙ ap (λ (k : ℕ). take k rest) (sym (all-left (w .0) (w .1 .0))))
       (advanced .ends)
 
   pub takes-is : takes m piece room ≡ from + r .taken
@@ -72,13 +76,16 @@ module _ {m : Model} {piece : List ℕ} {from room : ℕ} {h : Outline} {whole b
       most-is (ceilingOf (m .options)) (m .options) (m .bytes) piece room (from + r .taken) (length piece)
       (omega (arith, length-drop from piece, a .takes)) low high
     where
-      low : shownWith (ceilingOf (m .options)) (m .options) (m .bytes) piece room (from + r .taken) ≤ length (sequence (ceilingOf (m .options)) (m .options) (m .bytes)) + room
+      low : shownWith (ceilingOf (m .options)) (m .options) (m .bytes) piece room (from + r .taken) ≤ length
+          (sequence (ceilingOf (m .options)) (m .options) (m .bytes)) + room
       low =
-          let n : length (take left (take (r .taken) rest)) ≡ r .written = ap length new-is ∙ length-take-le (r .written) rest (omega (arith, a .takes, a .writes)) in
+          let n : length (take left (take (r .taken) rest)) ≡ r .written =
+          ap length new-is ∙ length-take-le (r .written) rest (omega (arith, a .takes, a .writes)) in
           omega (arith, shown (r .taken) (a .takes), a .fits, en .earlier)
 
       high : (j : ℕ) → from + r .taken < j → j ≤ length piece
-          → length (sequence (ceilingOf (m .options)) (m .options) (m .bytes)) + room < shownWith (ceilingOf (m .options)) (m .options) (m .bytes) piece room j
+          → length (sequence (ceilingOf (m .options)) (m .options) (m .bytes)) + room < shownWith (ceilingOf (m .options)) (m .options)
+          (m .bytes) piece room j
       high j p q =
           let l = length-drop from piece in
           let e : from + (j - from) ≡ j = omega arith in
@@ -88,9 +95,11 @@ module _ {m : Model} {piece : List ℕ} {from room : ℕ} {h : Outline} {whole b
           let b = below-left (w .0) in
           let t = w .1 .0 in
           let n : room < length (take left (take (j - from) rest)) = rw (length-take, length-take) (omega arith) in
-          let s : length (sequence (ceilingOf (m .options)) (m .options) (m .bytes)) + room < shownWith (ceilingOf (m .options)) (m .options) (m .bytes) piece room (from + (j - from)) =
+          let s : length (sequence (ceilingOf (m .options)) (m .options) (m .bytes)) + room < shownWith (ceilingOf (m .options))
+          (m .options) (m .bytes) piece room (from + (j - from)) =
           omega (arith, shown (j - from) (omega arith), en .earlier) in
-          subst (λ (k : ℕ). length (sequence (ceilingOf (m .options)) (m .options) (m .bytes)) + room < shownWith (ceilingOf (m .options)) (m .options) (m .bytes) piece room k) e s)
+          subst (λ (k : ℕ). length (sequence (ceilingOf (m .options)) (m .options) (m .bytes)) + room < shownWith (ceilingOf (m .options))
+          (m .options) (m .bytes) piece room k) e s)
           (w .1 .1))
           (λ w. let z : ⊥ = omega (arith, w .1 .1) in absurd z)
           (advanced .ends)
@@ -102,9 +111,11 @@ module _ {m : Model} {piece : List ℕ} {from room : ℕ} {h : Outline} {whole b
   pub written-is : written m piece room ≡ bodyFrom (m .options .format) (h .width) begun (take (r .written) rest)
   unfolding written grown
   written-is =
-      ap (λ (k : ℕ). drop (length (sequence (ceilingOf (m .options)) (m .options) (m .bytes))) (sequence (ceilingOf (m .options)) (m .options) (m .bytes ++ take k piece))) takes-is
+      ap (λ (k : ℕ). drop (length (sequence (ceilingOf (m .options)) (m .options) (m .bytes)))
+      (sequence (ceilingOf (m .options)) (m .options) (m .bytes ++ take k piece))) takes-is
       ∙ ap (drop (length (sequence (ceilingOf (m .options)) (m .options) (m .bytes)))) (grows (r .taken))
-      ∙ drop-at (sequence (ceilingOf (m .options)) (m .options) (m .bytes ++ take from piece)) _ (length (sequence (ceilingOf (m .options)) (m .options) (m .bytes)))
+      ∙ drop-at (sequence (ceilingOf (m .options)) (m .options) (m .bytes ++ take from piece)) _
+      (length (sequence (ceilingOf (m .options)) (m .options) (m .bytes)))
       (shown-length (en .inBody) ∙ sym (en .earlier))
       ∙ ap (bodyFrom (m .options .format) (h .width) begun) new-is
 

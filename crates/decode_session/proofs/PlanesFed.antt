@@ -27,9 +27,11 @@ use Rattle.decode_session.proofs.FieldBytes.{fields-kept}
 use Rattle.decode_session.proofs.Replies.{replied, stored-as}
 use Rattle.decode_session.proofs.PieceTaken.{advanced, below-left, takes-is, grown-is, written-is, written-length}
 
-module _ (o : DecodeOptions) (p : ParsedHeader) (most whole begun from : ℕ) (piece out out′ : List ℕ) (within : from ≤ length piece) (r : BodyFed)
+module _ (o : DecodeOptions) (p : ParsedHeader) (most whole begun from : ℕ) (piece out out′ : List ℕ) (within : from ≤ length piece)
+    (r : BodyFed)
     (b : Bodies (o .format) (p .width) (p .height) most whole begun (drop from piece) out r out′) where
-  module _ (m : Model) (settles : Settled (m .options)) (full : ceilingOf (m .options) ≡ most) (options : decoding o ≡ m .options) (en : Enters m piece from (parsed p) whole begun) where
+  module _ (m : Model) (settles : Settled (m .options)) (full : ceilingOf (m .options) ≡ most) (options : decoding o ≡ m .options)
+      (en : Enters m piece from (parsed p) whole begun) where
     abbrev plane : ℕ
     plane = planeOf (parsed p)
 
@@ -45,8 +47,10 @@ module _ (o : DecodeOptions) (p : ParsedHeader) (most whole begun from : ℕ) (p
     next-length : length (bytes ++ take (r .taken) rest) ≡ length bytes + r .taken
     next-length = length-append-take bytes rest (r .taken) (b .advances .takes)
 
-    next-place : ((r .whole < ceilingOf (m .options)) × (p .«data_offset» + (r .whole * plane + r .begun) ≡ length (bytes ++ take (r .taken) rest)))
-        ⊎ ((r .whole ≡ ceilingOf (m .options)) × ((r .begun ≡ 0) × (p .«data_offset» + r .whole * plane ≤ length (bytes ++ take (r .taken) rest))))
+    next-place : ((r .whole < ceilingOf (m .options))
+        × (p .«data_offset» + (r .whole * plane + r .begun) ≡ length (bytes ++ take (r .taken) rest)))
+        ⊎ ((r .whole ≡ ceilingOf (m .options))
+        × ((r .begun ≡ 0) × (p .«data_offset» + r .whole * plane ≤ length (bytes ++ take (r .taken) rest))))
     next-place =
         ⊎-elim
         (λ w. ⊎-elim (λ v. inl (omega (arith, full, w .0), omega (arith, next-length, ends .sum, v .1, w .1 .0)))
@@ -61,7 +65,8 @@ module _ (o : DecodeOptions) (p : ParsedHeader) (most whole begun from : ℕ) (p
           (
             w .1 .0,
             ⊎-elim (λ v. omega (arith, next-length, ends .sum, b .advances .writes, v .1))
-                (λ v. let a : r .whole * plane ≡ whole * plane = ap (λ (k : ℕ). k * plane) (w .0 ∙ sym full ∙ sym (v .0)) in omega (arith, next-length, v .1 .1))
+                (λ v. let a : r .whole * plane ≡ whole * plane =
+                ap (λ (k : ℕ). k * plane) (w .0 ∙ sym full ∙ sym (v .0)) in omega (arith, next-length, v .1 .1))
                 (en .inBody .place),
           ),
         ))
@@ -95,7 +100,8 @@ module _ (o : DecodeOptions) (p : ParsedHeader) (most whole begun from : ℕ) (p
               (new ∙ ap (λ (f : PixelFormat). bodyFrom f (p .width) begun (take (r .written) rest)) (sym f))
               ∙ sym (b .output))
               (stored-as m ext (grown m piece (length out)) (m .bytes ++ piece)
-              (ap (fieldBytes (imageSettings (m .options .mode))) all ∙ fields-kept (imageSettings (m .options .mode)) bytes (take (r .taken) rest) (parsed p) (en .inBody .headerIs)
+              (ap (fieldBytes (imageSettings (m .options .mode))) all
+              ∙ fields-kept (imageSettings (m .options .mode)) bytes (take (r .taken) rest) (parsed p) (en .inBody .headerIs)
               ∙ sym (fields-kept (imageSettings (m .options .mode)) bytes rest (parsed p) (en .inBody .headerIs))
               ∙ ap (fieldBytes (imageSettings (m .options .mode))) (append-take-drop (m .bytes) piece from)));
           stands =
@@ -109,13 +115,15 @@ module _ (o : DecodeOptions) (p : ParsedHeader) (most whole begun from : ℕ) (p
 
 -- as the code has it: the part of the piece that is lent, and the session that is built
 pub planes : (o : DecodeOptions) (p : ParsedHeader) (most whole begun from : ℕ) (piece out out′ part : List ℕ) (r : BodyFed) (d : DecodeFed)
-    → most ≡ ceilingOf (decoding o) → from ≤ length piece → part ≡ drop from piece → Bodies (o .format) (p .width) (p .height) most whole begun part out r out′
+    → most ≡ ceilingOf (decoding o) → from ≤ length piece → part ≡ drop from piece
+    → Bodies (o .format) (p .width) (p .height) most whole begun part out r out′
     → d ≡ takenIn o (Stage.Body p (r .whole) (r .begun)) (from + r .taken) (r .written)
     → Planes o p whole begun from piece out d out′
 planes o p most whole begun from piece out out′ part r d n within same b e =
     let b′ = subst (λ (l : List ℕ). Bodies (o .format) (p .width) (p .height) most whole begun l out r out′) same b in
     record {
       does =
-          λ m ext c q en. subst (λ (d : DecodeFed). Agrees d out′ (stored m (m .bytes ++ piece) ext) (fedBy m piece out ext nothing)) (sym e)
+          λ m ext c q en. subst (λ (d : DecodeFed). Agrees d out′ (stored m (m .bytes ++ piece) ext) (fedBy m piece out ext nothing))
+          (sym e)
           (planed o p most whole begun from piece out out′ within r b′ m c (sym (n ∙ ap ceilingOf q)) q en ext);
     }

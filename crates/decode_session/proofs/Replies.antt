@@ -11,7 +11,8 @@ use Rattle.error.specs.Answer.{Answer}
 use Rattle.laws.proofs.Tests.{if-true, if-false}
 use Rattle.decoder.specs.Image.{imageSettings}
 use Rattle.decode_session.specs.Extension.{fieldBytes}
-use Rattle.decode_session.specs.Model.{nothing, refusal, Model, feed, Told, Reply, Outcome, meets, stored, fedBy, unaltered, afterMet, outcome}
+use Rattle.decode_session.specs.Model.{nothing, metAt, Model, feed, Told, Reply, Outcome, meets, stored, fedBy, unaltered, afterMet}
+use Rattle.decode_session.specs.Model.{outcome}
 use Rattle.decode_session.specs.Session.{fedMeaning, Stands}
 use Rattle.decode_session.specs.Stages.{Agrees}
 use Rattle.decode_session.specs.declared.DecodeFed.{DecodeFed}
@@ -33,7 +34,8 @@ module _ (m : Model) (ext : List ℕ) where
   stored-none s e = stored-as s (m .bytes) e ∙ ap (sets ext (length (fields (m .bytes)))) (drop-length (fields (m .bytes)))
 
 module _ (m : Model) (piece out ext : List ℕ) where
-  pub reading : m .live ≡ true → m .met ≡ nothing → 4118 ≤ length ext → outcome m (feed piece out ext) ≡ fedBy m piece out ext (meets m piece)
+  pub reading : m .live ≡ true → m .met ≡ nothing → 4118 ≤ length ext
+      → outcome m (feed piece out ext) ≡ fedBy m piece out ext (meets m piece)
   unfolding outcome
   reading l n h =
       if-true (m .live) _ _ l ∙ ap (afterMet m piece out ext) n ∙ if-true (leb 4118 (length ext)) _ _ (le-leb 4118 (length ext) h)
@@ -42,7 +44,8 @@ module _ (m : Model) (piece out ext : List ℕ) where
   unfolding outcome
   closed l = if-false (m .live) _ _ l
 
-  pub met-earlier : (code place : ℕ) → m .live ≡ true → m .met ≡ refusal code place → outcome m (feed piece out ext) ≡ unaltered m code place out ext
+  pub met-earlier : (code place : ℕ) → m .live ≡ true → m .met ≡ metAt code place
+      → outcome m (feed piece out ext) ≡ unaltered m code place out ext
   unfolding outcome
   met-earlier code place l n = if-true (m .live) _ _ l ∙ ap (afterMet m piece out ext) n
 
@@ -57,7 +60,9 @@ module _ (m : Model) (piece out ext : List ℕ) where
       (outcome m (feed piece out ext) .reply ≡ record { answer = fedMeaning (r .answer); output = out′; extension = ext′ })
       × Stands (r .session) (outcome m (feed piece out ext) .next)
 
-  pub agreed : (r : DecodeFed) (out′ ext′ ext″ : List ℕ) (x : Outcome) → outcome m (feed piece out ext) ≡ x → ext″ ≡ ext′ → Agrees r out′ ext″ x → Fits r out′ ext′
+  pub agreed : (r : DecodeFed) (out′ ext′ ext″ : List ℕ) (x : Outcome) → outcome m (feed piece out ext) ≡ x → ext″ ≡ ext′
+      → Agrees r out′ ext″ x → Fits r out′ ext′
   agreed r out′ ext′ ext″ x e q a =
-      subst (λ (y : Outcome). (y .reply ≡ record { answer = fedMeaning (r .answer); output = out′; extension = ext′ }) × Stands (r .session) (y .next)) (sym e)
+      subst (λ (y : Outcome). (y .reply ≡ record { answer = fedMeaning (r .answer); output = out′; extension = ext′ })
+      × Stands (r .session) (y .next)) (sym e)
       (a .reply ∙ replied refl refl q, a .stands)

@@ -23,7 +23,8 @@ use Rattle.decode_session.specs.Body.{Cleared}
 apart : (row x y : ℕ) → x % row + 1 ≡ row → y % row + 1 ≡ row → x < y → x + row ≤ y
 apart row x y p q h =
     elim (decLt (x / row) (y / row)) [
-      | yes l ↦ let m : (x / row + 1) * row ≤ y / row * row = mul-le-mul-right row (omega arith) in omega (arith, div-add-mod' x row, div-add-mod' y row)
+      | yes l ↦ let m : (x / row + 1) * row ≤ y / row * row =
+          mul-le-mul-right row (omega arith) in omega (arith, div-add-mod' x row, div-add-mod' y row)
       | no g ↦
           let m : y / row * row ≤ x / row * row = mul-le-mul-right row (omega arith) in
           let z : ⊥ = omega (arith, div-add-mod' x row, div-add-mod' y row) in
@@ -89,7 +90,8 @@ begins w at row mask l p q h =
     }
 
 module _ {w at row mask : ℕ} {old new : List ℕ} {last : ℕ} (c : Clearing w at row mask old new last) where
-  pub goes-on : last < length new → getD new last 0 < 256 → Clearing w at row mask old (set new last (bitAnd (getD new last 0) mask)) (last + row)
+  pub goes-on : last < length new → getD new last 0 < 256
+      → Clearing w at row mask old (set new last (bitAnd (getD new last 0) mask)) (last + row)
   goes-on h small =
       let r = c .row-is in
       let here = c .aligned in
@@ -115,7 +117,8 @@ module _ {w at row mask : ℕ} {old new : List ℕ} {last : ℕ} (c : Clearing w
           ∙ ap (clearLow (paddingBits w)) (c .behind last (omega arith))
           ∙ sym (padded-end w (at + last) (getD old last 0) (c .aligned))
 
-      at-byte : (j : ℕ) → j < last + row → Dec (j < last) → Dec (last < j) → getD (set new last value) j 0 ≡ padded w (at + j) (getD old j 0)
+      at-byte : (j : ℕ) → j < last + row → Dec (j < last) → Dec (last < j)
+          → getD (set new last value) j 0 ≡ padded w (at + j) (getD old j 0)
       at-byte j k (yes l) d = getD-set-other new last j value 0 (λ e. omega arith) ∙ c .before j l
       at-byte j k (no l) (yes g) =
           getD-set-other new last j value 0 (λ e. omega arith) ∙ c .behind j (omega arith)

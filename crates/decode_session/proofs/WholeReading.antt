@@ -86,7 +86,8 @@ planes-are f bytes h (suc k) l =
     ∙ ap (λ (l : List ℕ). bodyFrom f (h .width) 0 (take n body) ++ l)
     (plane-is f (h .width) (h .height) (take (planeOf h) (drop (h .body + n) bytes)) part
     ∙ ap (λ (l : List ℕ). bodyFrom f (h .width) 0 (take (planeOf h) l)) (sym (drop-drop n (h .body) bytes))
-    ∙ body-mod f (h .width) (take (planeOf h) (drop n body)) 0 (0 + length (take n body)) (sym (ap (λ (i : ℕ). (0 + i) % rowBytes (h .width)) size ∙ whole-rows k)))
+    ∙ body-mod f (h .width) (take (planeOf h) (drop n body)) 0 (0 + length (take n body))
+    (sym (ap (λ (i : ℕ). (0 + i) % rowBytes (h .width)) size ∙ whole-rows k)))
     ∙ sym (body-append f (h .width) (take n body) (take (planeOf h) (drop n body)) 0)
     ∙ ap (bodyFrom f (h .width) 0) (sym (take-add n (planeOf h) body) ∙ ap (λ (i : ℕ). take i body) e)
   where
@@ -102,7 +103,8 @@ unfolding sequence
 sequence-planes ceiling d bytes h k e l b =
     ap (λ (x : Answer Outline). take (k * planeOf h) (sequenceOf ceiling (d .format) bytes x)) e
     ∙ body-take (d .format) (h .width) (k * planeOf h) (take (ceiling * planeOf h) (drop (h .body) bytes)) 0
-    ∙ ap (bodyFrom (d .format) (h .width) 0) (take-take (k * planeOf h) (ceiling * planeOf h) (drop (h .body) bytes) (mul-le-mul-right (planeOf h) l))
+    ∙ ap (bodyFrom (d .format) (h .width) 0)
+    (take-take (k * planeOf h) (ceiling * planeOf h) (drop (h .body) bytes) (mul-le-mul-right (planeOf h) l))
     ∙ sym (planes-are (d .format) bytes h k b)
 
 -- the first planes of a body of so many, up to a ceiling

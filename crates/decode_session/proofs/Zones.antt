@@ -11,9 +11,9 @@ use Rattle.mbi.specs.Read.{ByteRead, goes, ends, wrong, readByte}
 use Rattle.ext.specs.Kinds.{Span, absent, span, fieldsFollow, kindBits}
 use Rattle.ext.specs.Bytewise.{valueFault}
 use Rattle.header.specs.Settings.{Settings}
-use Rattle.header.specs.Machine.{State, inType, atFix, inOctets, atOctet, atPair, inIdentifier, inValue, inWidth, inHeight, inFields, Step, more, done, refused, onByte, stepOf}
-use Rattle.header.specs.Represents.{Sound}
-use Rattle.header.proofs.Taken.{taken}
+use Rattle.header_reader.specs.Machine.{State, inType, atFix, inOctets, atOctet, atPair, inIdentifier, inValue, inWidth, inHeight, inFields, Step, more, done, refused, onByte, stepOf}
+use Rattle.header_reader.specs.Represents.{Sound}
+use Rattle.header_reader.proofs.Taken.{taken}
 
 -- before the fields, in those that start at an offset, or behind those with a span
 pub data Zone : Type 0 where
@@ -82,7 +82,8 @@ module _ (o : Settings) where
   pub zone-step : (st : State) (b : ℕ) → Sound st → Moved (taken st) (zone st) (stepOf o st b)
   unfolding stepOf
   zone-step (inType at v n) b s =
-      number at before (readByte (o .shortest) at v n b) _ _ (λ w. early) (λ w. pick at before (eqb w 0) _ _ (λ e. early) (λ e. tt)) (λ code place. tt)
+      number at before (readByte (o .shortest) at v n b) _ _ (λ w. early) (λ w. pick at before (eqb w 0) _ _ (λ e. early) (λ e. tt))
+      (λ code place. tt)
   zone-step (atFix at) b s =
       pick at before (o .fixZero && ltb 0 b) _ _ (λ e. tt)
       (λ e. pick at before (o .honoured && fieldsFollow b) _ _

@@ -32,6 +32,7 @@ pub record Advances (ceiling plane whole begun given room : ℕ) (r : BodyFed) :
   pub fits : r .written ≤ room
   pub does : Placed ceiling plane whole begun → Advanced ceiling plane whole begun given room r
 
-pub record Bodies (format : PixelFormat) (width height ceiling whole begun : ℕ) (piece out : List ℕ) (r : BodyFed) (out′ : List ℕ) : Type 0 where
+pub record Bodies (format : PixelFormat) (width height ceiling whole begun : ℕ) (piece out : List ℕ) (r : BodyFed)
+    (out′ : List ℕ) : Type 0 where
   pub advances : Advances ceiling (planeBytes width height) whole begun (length piece) (length out) r
   pub output : out′ ≡ bodyFrom format width begun (take (r .written) piece) ++ drop (r .written) out

@@ -1,4 +1,5 @@
--- The extension bytes of a file so far (document 01, "Reading session"): "Extension bytes go unaltered to a lent buffer .. ; a refused file leaves there those before its refusal's place and all that earlier calls took."
+-- The extension bytes of a file so far (document 01, "Reading session"): "Extension bytes go unaltered to a lent buffer .. ; a refused file
+-- leaves there those before its refusal's place and all that earlier calls took."
 use Prim.Native.Nat.{ℕ, _+_}
 use mathlib.Core.Bool.{true, _&&_}
 use mathlib.Core.List.{List, []}

@@ -9,10 +9,10 @@ use lib.Seq.{sets}
 use Rattle.error.specs.Answer.{gives, refuses, map, isEnd}
 use Rattle.header.specs.Settings.{Settings}
 use Rattle.header.specs.Read.{outline, parsed, readHeader}
-use Rattle.header.specs.Machine.{State, start, more, steps}
-use Rattle.header.specs.Represents.{Represents}
-use Rattle.header.specs.declared.reader.HeaderReader.{HeaderReader}
-use Rattle.header.specs.declared.reader.HeaderStep.{HeaderStep}
+use Rattle.header_reader.specs.Machine.{State, start, more, steps}
+use Rattle.header_reader.specs.Represents.{Represents}
+use Rattle.header_reader.specs.declared.reader.HeaderReader.{HeaderReader}
+use Rattle.header_reader.specs.declared.reader.HeaderStep.{HeaderStep}
 use Rattle.decode_session.specs.Extension.{fieldBytes}
 use Rattle.decode_session.specs.declared.head.HeadFed.{HeadFed}
 use Rattle.decode_session.specs.declared.head.HeadEnd.{HeadEnd}
@@ -37,7 +37,8 @@ Ends o bytes piece at r (HeadEnd.Refused e) =
 pub record Heads (r₀ : HeaderReader) (at kept : ℕ) (piece ext : List ℕ) (r : HeadFed) (ext′ : List ℕ) : Type 0 where
   pub within : r .taken ≤ length piece
   pub does : (o : Settings) (bytes : List ℕ) → Reached o bytes r₀ at kept → Ends o bytes piece at r (r .end)
-  pub stores : (o : Settings) (bytes : List ℕ) → Reached o bytes r₀ at kept → ext′ ≡ sets ext kept (drop kept (fieldBytes o (bytes ++ piece)))
+  pub stores : (o : Settings) (bytes : List ℕ) → Reached o bytes r₀ at kept
+      → ext′ ≡ sets ext kept (drop kept (fieldBytes o (bytes ++ piece)))
 
 -- whether a byte at an offset is stored: one of the fields, and before the place of its refusal
 abbrev pub isKept : Bool → ℕ → HeaderStep → Bool

@@ -5,10 +5,10 @@ use mathlib.Core.List.{List, []}
 use lib.ListN.{length, take, drop}
 use lib.Seq.{sets}
 use Rattle.header.specs.Settings.{Settings}
-use Rattle.header.specs.Machine.{State}
-use Rattle.header.specs.Represents.{Represents}
-use Rattle.header.specs.Run.{Ran}
-use Rattle.header.specs.declared.reader.HeaderReader.{HeaderReader}
+use Rattle.header_reader.specs.Machine.{State}
+use Rattle.header_reader.specs.Represents.{Represents}
+use Rattle.header_reader.specs.Run.{Ran}
+use Rattle.header_reader.specs.declared.reader.HeaderReader.{HeaderReader}
 use Rattle.decode_session.specs.declared.head.HeadRun.{HeadRun}
 
 -- a run is stored behind the bytes kept, where it has room

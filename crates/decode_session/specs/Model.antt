@@ -1,4 +1,5 @@
--- Reading in pieces (document 01, "Reading session" and "Lists": the plain machine, which "keeps only the opening's arguments, open or closed, the .. bytes taken, joined in call order, and a met refusal").
+-- Reading in pieces (document 01, "Reading session" and "Lists": the plain machine, which "keeps only the opening's arguments, open or
+-- closed, the .. bytes taken, joined in call order, and a met refusal").
 use Prim.Native.Nat.{ℕ}
 use mathlib.Core.Bool.{Bool, true, false}
 use mathlib.Core.List.{List, [], _∷_, _++_}
@@ -17,7 +18,7 @@ use Rattle.decode_session.specs.Extension.{fieldBytes}
 -- a refusal of the file that a call has met: code and offset
 pub data Met : Type 0 where
   nothing : Met
-  refusal : ℕ → ℕ → Met
+  metAt : ℕ → ℕ → Met
 
 -- document 01: the plain machine
 pub record Model : Type 0 where
@@ -33,7 +34,8 @@ opened d = record { options = d; live = true; bytes = []; met = nothing }
 abbrev pub opening : Decoding → ℕ → Answer (Unit {0})
 opening d extension = bind (settled d) (λ _. if (leb 4118 extension) (gives tt) (refuses 28 0))
 
--- a call with what it is lent: a piece of the file, and the output and the extension buffer as they are before the call; closing is lent none
+-- a call with what it is lent: a piece of the file, and the output and the extension buffer as they are before the call; closing is lent
+-- none
 pub data Call : Type 0 where
   feed : List ℕ → List ℕ → List ℕ → Call
   close : Call
@@ -49,10 +51,11 @@ pub record Reply : Type 0 where
   pub output : List ℕ
   pub extension : List ℕ
 
--- "A call meets a refusal of the file if whole reading of the bytes taken and its piece, output enough, gives one other than 1, 6, 9, 13 or 20"
+-- "A call meets a refusal of the file if whole reading of the bytes taken and its piece, output enough, gives one other than 1, 6, 9, 13 or
+-- 20"
 abbrev pub metBy : Answer Outline → Met
 metBy (gives h) = nothing
-metBy (refuses code place) = if (isEnd code) nothing (refusal code place)
+metBy (refuses code place) = if (isEnd code) nothing (metAt code place)
 
 abbrev pub meets : Model → List ℕ → Met
 meets m piece = metBy (readImage (m .options) (m .bytes ++ piece))
@@ -68,7 +71,8 @@ grown m piece room = m .bytes ++ take (takes m piece room) piece
 -- the plane bytes among these, behind the earlier ones
 unfoldable pub written : Model → List ℕ → ℕ → List ℕ
 written m piece room =
-    drop (length (sequence (ceilingOf (m .options)) (m .options) (m .bytes))) (sequence (ceilingOf (m .options)) (m .options) (grown m piece room))
+    drop (length (sequence (ceilingOf (m .options)) (m .options) (m .bytes)))
+    (sequence (ceilingOf (m .options)) (m .options) (grown m piece room))
 
 -- a buffer with the extension bytes of a longer file stored behind those of the bytes taken
 abbrev pub stored : Model → List ℕ → List ℕ → List ℕ
@@ -94,10 +98,10 @@ fedBy m piece out ext nothing =
       };
       next = record { options = m .options; live = true; bytes = grown m piece (length out); met = nothing };
     }
-fedBy m piece out ext (refusal code place) =
+fedBy m piece out ext (metAt code place) =
     record {
       reply = record { answer = refuses code place; output = out; extension = stored m (m .bytes ++ piece) ext };
-      next = record { options = m .options; live = true; bytes = m .bytes; met = refusal code place };
+      next = record { options = m .options; live = true; bytes = m .bytes; met = metAt code place };
     }
 
 -- nothing is altered
@@ -108,12 +112,12 @@ unaltered m code place out ext = record { reply = record { answer = refuses code
 abbrev pub afterMet : Model → List ℕ → List ℕ → List ℕ → Met → Outcome
 afterMet m piece out ext nothing =
     if (leb 4118 (length ext)) (fedBy m piece out ext (meets m piece)) (unaltered m 28 0 out ext)
-afterMet m piece out ext (refusal code place) = unaltered m code place out ext
+afterMet m piece out ext (metAt code place) = unaltered m code place out ext
 
 -- "Closing gives the frame count, without an unfinished extra frame, or 1, 6, 9, 13 or 20. A refused session repeats its refusal"
 abbrev pub closing : Model → Met → Answer Told
 closing m nothing = map frames (framesOf (ceilingOf (m .options)) (m .options) (m .bytes))
-closing m (refusal code place) = refuses code place
+closing m (metAt code place) = refuses code place
 
 -- "Closing a reading session closes it, refused or not."
 abbrev pub shut : Model → Model

@@ -10,13 +10,13 @@ use Rattle.error.specs.Choice.{if}
 use Rattle.error.specs.Answer.{Answer, gives, refuses, checked}
 use Rattle.error.specs.Answer as Answers
 use Rattle.header.specs.Read.{Outline, parsed}
-use Rattle.header.specs.Known.{Known, fieldsKnown, knownMeaning}
-use Rattle.header.specs.declared.FieldsSeen.{FieldsSeen}
+use Rattle.header_reader.specs.Known.{Known, fieldsKnown, knownMeaning}
+use Rattle.header_reader.specs.declared.FieldsSeen.{FieldsSeen}
 use Rattle.options.specs.Limits.{Decoding, settled, ceilingOf, decoding, checkLimits}
 use Rattle.decoder.specs.Body.{planeOf}
 use Rattle.decoder.specs.Image.{imageSettings, headerOf}
 use Rattle.decode_session.specs.Head.{Reached}
-use Rattle.decode_session.specs.Model.{Met, nothing, refusal, Model, feed, close, Told, took, frames, shut, outcome}
+use Rattle.decode_session.specs.Model.{Met, nothing, metAt, Model, feed, close, Told, took, frames, shut, outcome}
 use Rattle.decode_session.specs.declared.Stage.{Stage}
 use Rattle.decode_session.specs.declared.DecodeSession.{DecodeSession}
 use Rattle.decode_session.specs.declared.DecodeOpened.{DecodeOpened}
@@ -49,7 +49,7 @@ seenMeaning (HeaderSeen.Header h) = seen (parsed h)
 abbrev pub seenOf : Answer Outline → Met → Seen
 seenOf (gives h) nothing = seen h
 seenOf (refuses code place) nothing = unread
-seenOf a (refusal code place) = unread
+seenOf a (metAt code place) = unread
 
 abbrev pub headerSeen : Model → Seen
 headerSeen m = seenOf (headerOf (m .options .mode) (m .bytes)) (m .met)
@@ -77,14 +77,14 @@ pub record InBody (m : Model) (h : Outline) (whole begun : ℕ) : Type 0 where
       ⊎ ((whole ≡ ceilingOf (m .options)) × ((begun ≡ 0) × (h .body + whole * planeOf h ≤ length (m .bytes))))
 
 -- before the header is read: no frame is done, and so much is known of the fields
-pub record Unread (m : Model) (f : FieldsSeen) : Type 0 where
+pub record BeforeHeader (m : Model) (f : FieldsSeen) : Type 0 where
   pub none : framesDone m ≡ 0
   pub fields : knownMeaning f ≡ fieldsSeen m
 
 abbrev pub StageOf : Stage → Model → Type 0
 StageOf (Stage.Header r at kept) m = (m .met ≡ nothing) × Reached (imageSettings (m .options .mode)) (m .bytes) r at kept
 StageOf (Stage.Body h whole begun) m = InBody m (parsed h) whole begun
-StageOf (Stage.Refused e f) m = (m .met ≡ refusal (e .code) (e .offset)) × Unread m f
+StageOf (Stage.Refused e f) m = (m .met ≡ metAt (e .code) (e .offset)) × BeforeHeader m f
 
 -- the settings passed their test
 abbrev pub Settled : Decoding → Type 0

@@ -7,7 +7,7 @@ use lib.ListN.{length, take}
 use Rattle.error.specs.Answer.{gives}
 use Rattle.error.specs.declared.WbmpError.{WbmpError}
 use Rattle.header.specs.Read.{Outline, parsed}
-use Rattle.header.specs.declared.FieldsSeen.{FieldsSeen}
+use Rattle.header_reader.specs.declared.FieldsSeen.{FieldsSeen}
 use Rattle.header.specs.declared.ParsedHeader.{ParsedHeader}
 use Rattle.options.specs.Limits.{decoding, ceilingOf}
 use Rattle.options.specs.declared.DecodeOptions.{DecodeOptions}
@@ -15,7 +15,7 @@ use Rattle.decoder.specs.Body.{planeOf}
 use Rattle.decoder.specs.Image.{headerOf}
 use Rattle.decode_session.specs.Sequence.{sequence}
 use Rattle.decode_session.specs.Model.{nothing, Model, Outcome, fedBy, meets, stored, closing}
-use Rattle.decode_session.specs.Session.{fedMeaning, closedMeaning, InBody, Unread, StageOf, Settled, Stands}
+use Rattle.decode_session.specs.Session.{fedMeaning, closedMeaning, InBody, BeforeHeader, StageOf, Settled, Stands}
 use Rattle.decode_session.specs.declared.Stage.{Stage}
 use Rattle.decode_session.specs.declared.DecodeFeed.{DecodeFeed}
 use Rattle.decode_session.specs.declared.DecodeFeed.the-variants.{Took}
@@ -45,7 +45,8 @@ pub record Enters (m : Model) (piece : List ℕ) (from : ℕ) (h : Outline) (who
   pub earlier : length (sequence (ceilingOf (m .options)) (m .options) (m .bytes)) ≡ whole * planeOf h + begun
 
 -- the extension bytes of the piece are stored by then
-pub record Planes (o : DecodeOptions) (h : ParsedHeader) (whole begun from : ℕ) (piece out : List ℕ) (r : DecodeFed) (out′ : List ℕ) : Type 0 where
+pub record Planes (o : DecodeOptions) (h : ParsedHeader) (whole begun from : ℕ) (piece out : List ℕ) (r : DecodeFed)
+    (out′ : List ℕ) : Type 0 where
   pub does : (m : Model) (ext : List ℕ) → Settled (m .options) → decoding o ≡ m .options → Enters m piece from (parsed h) whole begun
       → Agrees r out′ (stored m (m .bytes ++ piece) ext) (fedBy m piece out ext nothing)
 
@@ -59,7 +60,7 @@ pub record Ended (m : Model) (piece : List ℕ) (from : ℕ) (h : Outline) : Typ
 pub record Begins (o : DecodeOptions) (f : FieldsSeen) (h : ParsedHeader) (from : ℕ) (piece out : List ℕ) (r : DecodeFed) (out′ : List ℕ)
     : Type 0 where
   pub does : (m : Model) (ext : List ℕ) → Settled (m .options) → decoding o ≡ m .options
-      → Unread m f → Ended m piece from (parsed h)
+      → BeforeHeader m f → Ended m piece from (parsed h)
       → Agrees r out′ (stored m (m .bytes ++ piece) ext) (fedBy m piece out ext (meets m piece))
 
 -- what closing answers

@@ -1,4 +1,5 @@
--- Lists of calls (document 01, "Lists"): "Each gets the session that the last call returned; a feeding call, unless 30, an earlier refusal or 28 answers it, also gets the .. extension buffer as left".
+-- Lists of calls (document 01, "Lists"): "Each gets the session that the last call returned; a feeding call, unless 30, an earlier refusal
+-- or 28 answers it, also gets the .. extension buffer as left".
 use Prim.Native.Nat.{ℕ, _+_, _≤_}
 use mathlib.Core.Path.{_≡_}
 use mathlib.Core.Bool.{Bool, true, false, _||_}
@@ -49,10 +50,11 @@ abbrev pub isMet : Answer Told → Bool
 isMet (gives t) = false
 isMet (refuses code place) = if (eqb code 28) false true
 
--- A cut of a file (document 01, "Lists"): "each piece is the next part of what isn't taken, and closing comes once all is taken or a refusal of the file met". `at` bytes are taken, and `met` says whether a refusal was met; the last answer is the closing's.
+-- A cut of a file (document 01, "Lists"): "each piece is the next part of what isn't taken, and closing comes once all is taken or a
+-- refusal of the file met". `at` bytes are taken, and `met` says whether a refusal was met; the last answer is the closing's.
 pub data Cut : List ℕ → ℕ → Bool → List Call → List Reply → Answer Told → Type 0 where
   part : {file out ext : List ℕ} {at : ℕ} {met : Bool} {cs : List Call} {r : Reply} {rs : List Reply} {a : Answer Told} (size : ℕ)
       → Cut file (at + tookOf (r .answer)) (met || isMet (r .answer)) cs rs a
       → Cut file at met (feed (take size (drop at file)) out ext ∷ cs) (r ∷ rs) a
   taken : {file : List ℕ} {at : ℕ} {met : Bool} {r : Reply} → length file ≤ at → Cut file at met (close ∷ []) (r ∷ []) (r .answer)
-  refusal : {file : List ℕ} {at : ℕ} {r : Reply} → Cut file at true (close ∷ []) (r ∷ []) (r .answer)
+  afterRefusal : {file : List ℕ} {at : ℕ} {r : Reply} → Cut file at true (close ∷ []) (r ∷ []) (r .answer)

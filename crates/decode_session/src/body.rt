@@ -7,8 +7,6 @@ ghost use mathlib.Core.Logic.{_⊎_};
 ghost use Prim.Native.Nat.{_≤_};
 ghost use Rattle.decode_session.specs.Body.{Advances, Bodies};
 
-pub(crate) const MAX_FRAMES: usize = 16;
-
 // How many bytes of the piece are taken and written, and the whole planes and the bytes of the begun one after them.
 pub struct BodyFed {
     pub taken: usize,
@@ -65,23 +63,30 @@ fn advance(
     fed(most, most, whole + 1 + further, rest % plane)
 }
 
-// From so many whole planes and bytes of the begun one on.
+// Where a body of this size goes on: behind so many whole planes and bytes of the begun one.
+pub(crate) struct BodyPlace {
+    pub(crate) width: u32,
+    pub(crate) height: u32,
+    pub(crate) whole: usize,
+    pub(crate) begun: usize,
+}
+
+// The body from a place on, up to a ceiling of planes.
 pub(crate) fn feed_body(
     format: PixelFormat,
-    width: u32,
-    height: u32,
     ceiling: usize,
-    whole: usize,
-    begun: usize,
+    place: BodyPlace,
     piece: &[u8],
     out: &mut [u8],
 ) -> BodyFed
-    ensures { λ r. ⌜ Bodies format width height ceiling whole begun (now (piece .entry)) (now (out .entry)) r (now (out .exit)) ⌝ }
+    ensures { λ r. ⌜ Bodies format (place .width) (place .height) ceiling (place .whole) (place .begun) (now (piece .entry))
+        (now (out .entry)) r (now (out .exit)) ⌝ }
 {
-    let layout = PlaneLayout::new(width, height);
+    let begun = place.begun;
+    let layout = PlaneLayout::new(place.width, place.height);
     let plane = layout.total_bytes;
-    let next = advance(ceiling, plane, whole, begun, piece.len(), out.len());
+    let next = advance(ceiling, plane, place.whole, begun, piece.len(), out.len());
     let n = next.written;
-    convert(format, width, begun, &piece[..n], &mut out[..n]);
+    convert(format, place.width, begun, &piece[..n], &mut out[..n]);
     next
 }

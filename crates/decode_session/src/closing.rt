@@ -1,8 +1,8 @@
 // Closing a session.
 use crate::DecodeClose;
 use crate::Stage;
-use crate::body::MAX_FRAMES;
 use crate::body::least;
+use decoder::MAX_READ_FRAMES;
 use error::PLANE_TOO_SHORT;
 use error::WbmpError;
 ghost use Rattle.decode_session.specs.Stages.{Finishes};
@@ -20,7 +20,7 @@ pub(crate) fn finish(stage: Stage) -> DecodeClose
                     offset: h.data_offset,
                 });
             }
-            DecodeClose::Frames(least(whole, MAX_FRAMES) as u32)
+            DecodeClose::Frames(least(whole, MAX_READ_FRAMES) as u32)
         }
         Stage::Refused(e, _) => DecodeClose::Refused(e),
     }

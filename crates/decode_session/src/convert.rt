@@ -3,21 +3,8 @@ use image::PixelFormat;
 use image::PlaneLayout;
 ghost use mathlib.Core.Path.{_≡_};
 ghost use lib.ListN.{length};
-ghost use Rattle.image.specs.Rows.{invert};
 ghost use Rattle.decode_session.specs.Sequence.{bodyFrom};
 ghost use Rattle.decode_session.specs.Body.{Cleared};
-
-// The inverted bytes of another list.
-fn invert_from(from: &[u8], to: &mut [u8])
-    requires { ⌜ length (now from) ≡ length (now to) ⌝ }
-    ensures { λ r. ⌜ now (to .exit) ≡ invert (now (from .entry)) ⌝ }
-{
-    let mut i: usize = 0;
-    while i < to.len() {
-        to[i] = 255 - from[i];
-        i += 1;
-    }
-}
 
 // The padding of each row that ends among these bytes of a body, the first of which is byte `at`, is cleared.
 fn clear_ends(bytes: &mut [u8], width: u32, at: usize)
@@ -47,7 +34,7 @@ pub(crate) fn convert(format: PixelFormat, width: u32, at: usize, bytes: &[u8], 
             image::into_format(bytes, width, 0, native, native, out);
         }
         PixelFormat::MonoWhite => {
-            invert_from(bytes, out);
+            image::invert_into(bytes, out);
             clear_ends(out, width, at);
         }
     }

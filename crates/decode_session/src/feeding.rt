@@ -3,17 +3,18 @@ use crate::DecodeFed;
 use crate::DecodeFeed;
 use crate::DecodeSession;
 use crate::Stage;
-use crate::body::MAX_FRAMES;
+use crate::body::BodyPlace;
 use crate::body::feed_body;
 use crate::head::HeadEnd;
 use crate::head::feed_header;
+use decoder::MAX_READ_FRAMES;
 use error::Checked;
 use error::WbmpError;
 use ext::ExtFields;
-use header::FieldsSeen;
 use header::HeaderFields;
-use header::HeaderReader;
 use header::ParsedHeader;
+use header_reader::FieldsSeen;
+use header_reader::HeaderReader;
 use image::PlaneLayout;
 use options::DecodeOptions;
 ghost use mathlib.Core.Path.{_≡_};
@@ -96,16 +97,13 @@ pub(crate) fn feed_planes(
     ensures { λ r. ⌜ Planes options h whole begun from (now (piece .entry)) (now (out .entry)) r (now (out .exit)) ⌝ }
 {
     let format = options.format;
-    let fed = feed_body(
-        format,
-        h.width,
-        h.height,
-        MAX_FRAMES,
+    let place = BodyPlace {
+        width: h.width,
+        height: h.height,
         whole,
         begun,
-        &piece[from..],
-        out,
-    );
+    };
+    let fed = feed_body(format, MAX_READ_FRAMES, place, &piece[from..], out);
     let header = rebuilt(h);
     let stage = Stage::Body(header, fed.whole, fed.begun);
     took(options, stage, from + fed.taken, fed.written)
@@ -143,7 +141,8 @@ pub(crate) fn feed_head(
     ext: &mut [u8],
 ) -> DecodeFed
     requires { ⌜ 4118 ≤ length (now ext) ⌝ }
-    ensures { λ r. ⌜ Feeds (record { options = options; stage = Stage.Header reader at kept; live = true }) (now (piece .entry)) (now (out .entry)) (now (ext .entry)) r (now (out .exit)) (now (ext .exit)) ⌝ }
+    ensures { λ r. ⌜ Feeds (record { options = options; stage = Stage.Header reader at kept; live = true }) (now (piece .entry))
+        (now (out .entry)) (now (ext .entry)) r (now (out .exit)) (now (ext .exit)) ⌝ }
 {
     let known = reader.fields();
     let fed = feed_header(reader, at, kept, piece, ext);

@@ -1,9 +1,9 @@
-// The header's part of a piece: its bytes go to the header's reader, one by one or in runs, and those of extension fields to the lent buffer
-// too.
+// The header's part of a piece: its bytes go to the header's reader, one by one or in runs, and those of extension fields to the lent
+// buffer too.
 use error::WbmpError;
-use header::HeaderReader;
-use header::HeaderStep;
 use header::ParsedHeader;
+use header_reader::HeaderReader;
+use header_reader::HeaderStep;
 ghost use Prim.Native.Nat.{_+_, _≤_};
 ghost use mathlib.Core.Path.{_≡_};
 ghost use lib.ListN.{length};

@@ -1,9 +1,9 @@
 // What a caller can ask of a session, open or closed.
 use crate::DecodeSession;
 use crate::Stage;
-use crate::body::MAX_FRAMES;
 use crate::body::least;
-use header::FieldsSeen;
+use decoder::MAX_READ_FRAMES;
+use header_reader::FieldsSeen;
 ghost use Rattle.decode_session.specs.Session.{TellsClosed, TellsFrames, SeesFields};
 
 impl DecodeSession {
@@ -20,7 +20,7 @@ impl DecodeSession {
         let stage = self.stage;
         match stage {
             Stage::Header(_, _, _) => 0,
-            Stage::Body(_, whole, _) => least(whole, MAX_FRAMES) as u32,
+            Stage::Body(_, whole, _) => least(whole, MAX_READ_FRAMES) as u32,
             Stage::Refused(_, _) => 0,
         }
     }

@@ -37,10 +37,12 @@ module _ (s ρ : List ℕ) where
       ap (map outline)
       (header-prefix (imageSettings mode) s ρ (sym (outline-settled (readHeader (imageSettings mode) s)) ∙ e))
 
-  body-kept : (d : Decoding) (h : Outline) → settled (testBody d (length s) h) ≡ true → testBody d (length (s ++ ρ)) h ≡ testBody d (length s) h
+  body-kept : (d : Decoding) (h : Outline) → settled (testBody d (length s) h) ≡ true
+      → testBody d (length (s ++ ρ)) h ≡ testBody d (length s) h
   unfolding testBody
   body-kept d h =
-      bind-prefix (checkLimits d (h .width) (h .height) (planeOf h) (h .body)) (checkLimits d (h .width) (h .height) (planeOf h) (h .body)) _ _
+      bind-prefix (checkLimits d (h .width) (h .height) (planeOf h) (h .body)) (checkLimits d (h .width) (h .height) (planeOf h) (h .body))
+      _ _
       (λ _. refl) (λ _. go (ltb (length s - h .body) (planeOf h)) refl)
     where
       go : (t : Bool) → ltb (length s - h .body) (planeOf h) ≡ t → settled {A = Outline} (if t (refuses 20 (h .body)) (gives h)) ≡ true

@@ -32,7 +32,8 @@ frames-there most bytes h n e t =
     let p : n * planeOf h ≤ length bytes - h .body = rw e q in
     omega arith
 
-module _ (most : ℕ) (f : PixelFormat) (bytes : List ℕ) (h : Outline) (n : ℕ) (old : List ℕ) (counted : n ≡ framesIn (1 + most) (length bytes) h)
+module _ (most : ℕ) (f : PixelFormat) (bytes : List ℕ) (h : Outline) (n : ℕ) (old : List ℕ)
+    (counted : n ≡ framesIn (1 + most) (length bytes) h)
     (there : h .body + planeOf h ≤ length bytes) where
   all-length : length (planes f bytes h n) ≡ n * planeOf h
   all-length = planes-length f bytes h n (frames-there most bytes h n counted there)
@@ -78,11 +79,13 @@ module _ (ceiling : ℕ) (d : Decoding) (bytes old : List ℕ) where
   refused code offset e =
       record {
         answer = sym (ap (λ (a : Answer Outline). bind a (λ h. fitted (length old) h (framesIn ceiling (length bytes) h))) e);
-        output-is = sym (ap (λ (a : Answer Outline). output (map (λ h. planes (d .format) bytes h (framesIn ceiling (length bytes) h)) a) old) e);
+        output-is =
+            sym (ap (λ (a : Answer Outline). output (map (λ h. planes (d .format) bytes h (framesIn ceiling (length bytes) h)) a) old) e);
       }
 
   -- settings that pass their test
-  pub decodes : (n : ℕ) (r : Answer Image) (new : List ℕ) → settled d ≡ gives d → n ≡ ceiling → Imaged n d bytes r old new → Decodes ceiling d bytes r old new
+  pub decodes : (n : ℕ) (r : Answer Image) (new : List ℕ) → settled d ≡ gives d → n ≡ ceiling → Imaged n d bytes r old new
+      → Decodes ceiling d bytes r old new
   decodes n r new s c p =
       record {
         answer =

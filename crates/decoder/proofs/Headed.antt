@@ -17,7 +17,12 @@ use Rattle.image.specs.Geometry.{layoutOf}
 use Rattle.image.specs.declared.PlaneLayout.{PlaneLayout}
 use Rattle.options.specs.Limits.{Decoding, checkLimits}
 use Rattle.decoder.specs.Body.{planeOf}
-use Rattle.decoder.specs.Image.{imageSettings, headerOf, testBody, readImage}
+use Rattle.options.proofs.Ceilings.{passes}
+use Rattle.decoder.specs.Image.{imageSettings, headerOf, testBody, readImage, imageRead}
+
+-- settings pass their test
+pub tested : (d : Decoding) (bytes : List ℕ) → imageRead d bytes ≡ readImage d bytes
+tested d bytes = ap (λ (a : Answer Decoding). bind a (λ s. readImage s bytes)) (passes d)
 
 -- what is left to test behind the limits
 abbrev pub afterLimits : ℕ → Outline → Answer Outline
@@ -34,7 +39,8 @@ module _ (d : Decoding) (size : ℕ) (p : ParsedHeader) (l : PlaneLayout) (r : C
       sym (ap checked e) ∙ q ∙ ap (λ (k : ℕ). checkLimits d (p .width) (p .height) k (p .«data_offset»)) n in
       ap (λ (a : Answer (Unit {0})). bind a (λ _. afterLimits size (parsed p))) (sym c)
 
-module _ (size : ℕ) (p : ParsedHeader) (l : PlaneLayout) (body : ℕ) (laid : l ≡ layoutOf (p .width) (p .height)) (left : body ≡ size - p .«data_offset») where
+module _ (size : ℕ) (p : ParsedHeader) (l : PlaneLayout) (body : ℕ) (laid : l ≡ layoutOf (p .width) (p .height))
+    (left : body ≡ size - p .«data_offset») where
   plane-is : l .«total_bytes» ≡ planeOf (parsed p)
   plane-is = ap (λ (l : PlaneLayout). l .«total_bytes») laid
 

@@ -24,7 +24,8 @@ pub lent-room : (from plane to : ℕ) (bytes out : List ℕ) → from + plane �
     → length (take (from + plane - from) (drop from bytes)) ≤ length (midOf to (length out - to) out)
 lent-room from plane to bytes out a b =
     let e : from + plane - from ≡ plane = omega arith in
-    let d : midOf to (length out - to) out ≡ drop to out = take-all (length out - to) (drop to out) (rw (length-drop to out) (omega arith)) in
+    let d : midOf to (length out - to) out ≡ drop to out =
+    take-all (length out - to) (drop to out) (rw (length-drop to out) (omega arith)) in
     rw (e, length-part plane from bytes a, d, length-drop to out) (omega arith)
 
 -- one plane more
@@ -88,7 +89,8 @@ module _ {f : PixelFormat} {bytes : List ℕ} {h : Outline} {out₀ : List ℕ} 
       planes-length f bytes h k (rw (c .plane-is) at b) ∙ rw (c .plane-is)
 
   pub planed : (to : ℕ) (source new : List ℕ) → k < frames → to ≡ k * plane → source ≡ sourcePlane bytes h k
-      → new ≡ convertFormat MonoBlack f (h .width) (h .height) (rowBytes (h .width)) source ++ drop (length source) (midOf to (length out - to) out)
+      → new ≡ convertFormat MonoBlack f (h .width) (h .height) (rowBytes (h .width)) source ++ drop (length source)
+      (midOf to (length out - to) out)
       → Planing f bytes h out₀ plane frames (putMid to (length out - to) out new) (k + 1)
   unfolding planes planeAt
   planed to source new l t s e =
@@ -97,9 +99,11 @@ module _ {f : PixelFormat} {bytes : List ℕ} {h : Outline} {out₀ : List ℕ} 
       let n : length v ≡ planeOf h = plane-length f bytes h k b in
       let m : length source ≡ length v = ap length s ∙ length-part (planeOf h) (h .body + k * planeOf h) bytes b ∙ sym n in
       let fits : to + length v ≤ length out = omega (arith, next-in l .1, c .plane-is) in
-      let d : midOf to (length out - to) out ≡ drop to out = take-all (length out - to) (drop to out) (rw (length-drop to out) (omega arith)) in
+      let d : midOf to (length out - to) out ≡ drop to out =
+      take-all (length out - to) (drop to out) (rw (length-drop to out) (omega arith)) in
       let new-is : new ≡ v ++ drop (length v) (drop to out) =
-      e ∙ ap (λ (q : List ℕ). convertFormat MonoBlack f (h .width) (h .height) (rowBytes (h .width)) q ++ drop (length source) (midOf to (length out - to) out)) s
+      e ∙ ap (λ (q : List ℕ). convertFormat MonoBlack f (h .width) (h .height) (rowBytes (h .width)) q ++ drop (length source)
+      (midOf to (length out - to) out)) s
       ∙ ap (λ (q : ℕ). v ++ drop q (midOf to (length out - to) out)) m
       ∙ ap (λ (q : List ℕ). v ++ drop (length v) q) d in
       let at-front : to ≡ 0 + length (planes f bytes h k) = omega (arith, front (c .turn)) in
@@ -120,7 +124,8 @@ module _ {f : PixelFormat} {bytes : List ℕ} {h : Outline} {out₀ : List ℕ} 
   pub ended : frames ≤ k → out ≡ planes f bytes h frames ++ drop (frames * planeOf h) out₀
   ended l =
       let e : k ≡ frames = omega (arith, c .turn) in
-      let n : length (planes f bytes h frames) ≡ frames * plane = ap (λ (k : ℕ). length (planes f bytes h k)) (sym e) ∙ front (c .turn) ∙ ap (λ (k : ℕ). k * plane) e in
+      let n : length (planes f bytes h frames) ≡ frames * plane =
+      ap (λ (k : ℕ). length (planes f bytes h k)) (sym e) ∙ front (c .turn) ∙ ap (λ (k : ℕ). k * plane) e in
       c .now-is ∙ ap (λ (k : ℕ). sets out₀ 0 (planes f bytes h k)) e
       ∙ sets-front out₀ (planes f bytes h frames) (omega (arith, c .room))
       ∙ ap (λ (q : ℕ). planes f bytes h frames ++ drop q out₀) (n ∙ ap (λ (q : ℕ). frames * q) (c .plane-is))

@@ -9,7 +9,7 @@ use Rattle.error.specs.Answer.{Answer, gives, refuses, bind, map}
 use Rattle.ext.specs.Kinds.{Fields}
 use Rattle.header.specs.Settings.{Settings, inner, extInner}
 use Rattle.header.specs.Read.{Header, Outline, outline, readHeader}
-use Rattle.options.specs.Limits.{Mode, lenient, strict, Decoding, checkLimits}
+use Rattle.options.specs.Limits.{Mode, lenient, strict, Decoding, settled, checkLimits}
 use Rattle.decoder.specs.Body.{planeOf}
 
 -- "Strict image reading uses `parse_header_inner`"; lenient reading honours fields
@@ -32,3 +32,7 @@ testBody d size h =
 
 unfoldable pub readImage : Decoding → List ℕ → Answer Outline
 readImage d bytes = bind (headerOf (d .mode) bytes) (testBody d (length bytes))
+
+-- the settings are tested before all reading
+abbrev pub imageRead : Decoding → List ℕ → Answer Outline
+imageRead d bytes = bind (settled d) (λ s. readImage s bytes)

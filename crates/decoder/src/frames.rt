@@ -3,6 +3,7 @@ use crate::Decoded;
 use crate::DecodedImage;
 use crate::image_header::read_image;
 use crate::planes::write_planes;
+use crate::saturating::saturating_sub;
 use error::OUTPUT_TOO_SHORT;
 use error::WbmpError;
 use header::HeaderRead;
@@ -17,13 +18,6 @@ ghost use Rattle.header.specs.Read.{parsed};
 ghost use Rattle.options.specs.Limits.{decoding};
 ghost use Rattle.decoder.specs.Body.{extraFrames, planeOf};
 ghost use Rattle.decoder.specs.Frames.{Imaged, Framed, meaning};
-
-// A difference, or 0 where it would be below 0.
-pub(crate) fn saturating_sub(a: usize, b: usize) -> usize
-    ensures { λ r. ⌜ r ≡ a - b ⌝ }
-{
-    if a < b { 0 } else { a - b }
-}
 
 // How many whole planes follow the first one in a file of so many bytes, up to `most`.
 pub fn animated_frame_count(

@@ -1,5 +1,5 @@
 // The header of an image and the tests behind it.
-use crate::frames::saturating_sub;
+use crate::saturating::saturating_sub;
 use error::Checked;
 use error::PLANE_TOO_SHORT;
 use error::WbmpError;
@@ -13,7 +13,7 @@ ghost use mathlib.Core.Path.{_≡_};
 ghost use Rattle.header.specs.Read.{meaning, parsed};
 ghost use Rattle.header.specs.Settings.{settings};
 ghost use Rattle.options.specs.Limits.{modeOf, decoding};
-ghost use Rattle.decoder.specs.Image.{imageSettings, testBody, readImage};
+ghost use Rattle.decoder.specs.Image.{imageSettings, testBody, imageRead};
 
 // How the header of an image is read in a mode.
 pub fn image_mode(mode: DecodeMode) -> HeaderMode
@@ -47,8 +47,9 @@ fn test_body(size: usize, h: ParsedHeader, options: DecodeOptions) -> HeaderRead
     HeaderRead::Header(h)
 }
 
-pub(crate) fn read_image(bytes: &[u8], options: DecodeOptions) -> HeaderRead
-    ensures { λ r. ⌜ meaning r ≡ readImage (decoding options) (now (bytes .entry)) ⌝ }
+// The header of an image that is within the limits and whose first plane is there.
+pub fn read_image(bytes: &[u8], options: DecodeOptions) -> HeaderRead
+    ensures { λ r. ⌜ meaning r ≡ imageRead (decoding options) (now (bytes .entry)) ⌝ }
 {
     let mode = options.mode;
     match header::parse_header_mode(bytes, image_mode(mode)) {

@@ -8,12 +8,17 @@ ghost use Rattle.decoder.specs.Frames.{Decodes, meaning};
 mod frames;
 mod image_header;
 mod planes;
+mod saturating;
 
 pub use frames::animated_frame_count;
 pub use image_header::image_mode;
+pub use image_header::read_image;
+
+// The most frames that are read.
+pub const MAX_READ_FRAMES: usize = 16;
 
 // At most this many images follow the main image.
-pub const MAX_ANIMATED_IMAGES: usize = 15;
+pub const MAX_ANIMATED_IMAGES: usize = MAX_READ_FRAMES - 1;
 
 pub struct DecodedImage {
     pub width: u32,
@@ -41,7 +46,8 @@ pub fn decode_image(bytes: &[u8], options: DecodeOptions, out: &mut [u8]) -> Dec
 
 // The main image and the images that follow it, up to 16 frames.
 pub fn decode_frames(bytes: &[u8], options: DecodeOptions, out: &mut [u8]) -> Decoded
-    ensures { λ r. ⌜ Decodes (ceilingOf (decoding options)) (decoding options) (now (bytes .entry)) (meaning r) (now (out .entry)) (now (out .exit)) ⌝ }
+    ensures { λ r. ⌜ Decodes (ceilingOf (decoding options)) (decoding options) (now (bytes .entry)) (meaning r) (now (out .entry))
+        (now (out .exit)) ⌝ }
 {
     frames::decode(bytes, options, MAX_ANIMATED_IMAGES, out)
 }

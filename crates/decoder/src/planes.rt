@@ -14,7 +14,9 @@ ghost use Rattle.decoder.specs.Body.{planeOf, planes};
 // A plane as the file has it, in the asked format, at the front of the lent output.
 fn write_plane(plane: &[u8], width: u32, height: u32, format: PixelFormat, out: &mut [u8])
     requires { ⌜ length (now plane) ≤ length (now out) ⌝ }
-    ensures { λ r. ⌜ now (out .exit) ≡ convertFormat PixelFormat.MonoBlack format width height (rowBytes width) (now (plane .entry)) ++ drop (length (now (plane .entry))) (now (out .entry)) ⌝ }
+    ensures { λ r. ⌜ now (out .exit)
+        ≡ convertFormat PixelFormat.MonoBlack format width height (rowBytes width) (now (plane .entry)) ++ drop
+        (length (now (plane .entry))) (now (out .entry)) ⌝ }
 {
     image::into_format(plane, width, height, PixelFormat::MonoBlack, format, out);
 }
@@ -27,8 +29,10 @@ pub(crate) fn write_planes(
     format: PixelFormat,
     out: &mut [u8],
 )
-    requires { ⌜ (h .«data_offset» + frames * planeOf (parsed h) ≤ length (now bytes)) × (frames * planeOf (parsed h) ≤ length (now out)) ⌝ }
-    ensures { λ r. ⌜ now (out .exit) ≡ planes format (now (bytes .entry)) (parsed h) frames ++ drop (frames * planeOf (parsed h)) (now (out .entry)) ⌝ }
+    requires { ⌜ (h .«data_offset» + frames * planeOf (parsed h) ≤ length (now bytes))
+        × (frames * planeOf (parsed h) ≤ length (now out)) ⌝ }
+    ensures { λ r. ⌜ now (out .exit)
+        ≡ planes format (now (bytes .entry)) (parsed h) frames ++ drop (frames * planeOf (parsed h)) (now (out .entry)) ⌝ }
 {
     let start = h.data_offset;
     let layout = PlaneLayout::new(h.width, h.height);

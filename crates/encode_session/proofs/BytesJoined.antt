@@ -7,15 +7,17 @@ use lib.ListN.{length, drop}
 use lib.Seq.{take-append-seam}
 use Rattle.quantize.specs.Finished.{finished}
 use Rattle.quantize.proofs.Growing.{finished-more}
-use Rattle.encode_session.specs.Model.{Opening, settingOf, Model, Call, feed, close, taken, written, Outcome, fedBy, outcome, replies, finally}
+use Rattle.encode_session.specs.Model.{Opening, settingOf, Model, Call, feed, close, taken, written, Outcome, fedBy, outcome, replies}
+use Rattle.encode_session.specs.Model.{finally}
 use Rattle.encode_session.specs.Trace.{bytesOf, joined}
-use Rattle.encode_session.proofs.Answering.{by-feed, by-close}
-use Rattle.encode_session.proofs.Reaching.{Reached, reached-next}
+use Rattle.encode_session.proofs.OutcomeCases.{by-feed, by-close}
+use Rattle.encode_session.proofs.ModelReached.{Reached, reached-next}
 
 -- what one call adds
 abbrev Adds : Model → Outcome → Type 0
 Adds m x =
-    finished (settingOf (m .opening)) (m .samples) ++ bytesOf (x .reply .answer) (x .reply .output) ≡ finished (settingOf (m .opening)) (x .next .samples)
+    finished (settingOf (m .opening)) (m .samples) ++ bytesOf (x .reply .answer) (x .reply .output)
+    ≡ finished (settingOf (m .opening)) (x .next .samples)
 
 adds-feed : (m : Model) (xs out : List ℕ) → 0 < m .opening .width → Adds m (fedBy m xs out)
 unfolding written

@@ -6,9 +6,9 @@ use mathlib.Core.List.{[], _∷_}
 use Rattle.error.specs.Answer.{gives, refuses}
 use Rattle.header.specs.declared.ExtPresence.the-variants.{Absent}
 use Rattle.options.specs.declared.Quantize.the-variants.{Dither}
-use Rattle.quantize.specs.Bits.{upto, appended}
-use Rattle.quantize.specs.Diffusion.{part, value, white, residual, valueFrom, handed, rowValue, above, valueAt}
-use Rattle.quantize.specs.Rule.{dot}
+use Rattle.rules.specs.Bits.{upto, appended}
+use Rattle.rules.specs.Diffusion.{part, value, white, residual, valueFrom, handed, rowValue, above, valueAt}
+use Rattle.rules.specs.Rule.{dot}
 use Rattle.quantize.specs.Finished.{begunBytes, count, frame, dotOf, bitAt, byteAt, finished, most, takes}
 use Rattle.encode_session.specs.Model.{Opening, opening, opened, feed, close, took, closed, taken, written, outcome, replies}
 
@@ -18,7 +18,8 @@ card = opening (record { quantize = Dither; ext = Absent; strict = false }) 2 1 
 
 -- "P8 dither 127,128 in one row: 40", a sample a call; closing comes too early, then in time, and then nothing is open
 in-pieces : replies (opened card)
-    (feed (127 ∷ []) (9 ∷ 9 ∷ []) 4 ∷ close ∷ feed (128 ∷ []) (9 ∷ 9 ∷ []) 3 ∷ feed (128 ∷ []) (9 ∷ 9 ∷ []) 4 ∷ close ∷ feed (7 ∷ []) (9 ∷ []) 0 ∷ close ∷ [])
+    (feed (127 ∷ []) (9 ∷ 9 ∷ []) 4 ∷ close ∷ feed (128 ∷ []) (9 ∷ 9 ∷ []) 3 ∷ feed (128 ∷ []) (9 ∷ 9 ∷ []) 4 ∷ close
+    ∷ feed (7 ∷ []) (9 ∷ []) 0 ∷ close ∷ [])
     ≡ record { answer = gives (took 1 0); output = 9 ∷ 9 ∷ [] }
     ∷ record { answer = refuses 22 0; output = [] }
     ∷ record { answer = refuses 28 0; output = 9 ∷ 9 ∷ [] }
@@ -27,5 +28,6 @@ in-pieces : replies (opened card)
     ∷ record { answer = refuses 30 0; output = 9 ∷ [] }
     ∷ record { answer = refuses 30 0; output = [] }
     ∷ []
-unfolding replies outcome taken written upto appended part value white residual valueFrom handed rowValue above valueAt dot begunBytes count frame dotOf bitAt byteAt finished most takes
+unfolding replies outcome taken written upto appended part value white residual valueFrom handed rowValue above valueAt dot begunBytes count
+    frame dotOf bitAt byteAt finished most takes
 in-pieces = refl

@@ -14,12 +14,13 @@ use Rattle.encode_session.specs.declared.EncodeOpened.{EncodeOpened}
 use Rattle.encode_session.specs.Model.{Opening, settingOf, opened, Call, Reply, replies, finally}
 use Rattle.encode_session.specs.Session.{Stands, Opens}
 use Rattle.encode_session.specs.Trace.{Trace, joined}
-use Rattle.encode_session.proofs.Opening.{Passed, accepted}
+use Rattle.encode_session.proofs.OpenCorrect.{Passed, accepted}
 use Rattle.encode_session.proofs.Lists.{lists-from}
-use Rattle.encode_session.proofs.Reaching.{reached-start, reached, Frames, whole-frames}
+use Rattle.encode_session.proofs.ModelReached.{reached-start, reached, Frames, whole-frames}
 use Rattle.encode_session.proofs.BytesJoined.{joined-from}
 
-module _ {a : Opening} {room : ℕ} {r : EncodeOpened} {old new : List ℕ} (o : Opens a room r old new) (n : ℕ) (e : written (r .answer) ≡ gives n) where
+module _ {a : Opening} {room : ℕ} {r : EncodeOpened} {old new : List ℕ} (o : Opens a room r old new) (n : ℕ)
+    (e : written (r .answer) ≡ gives n) where
   passed : Passed a room (accepted o n e .0)
   passed = accepted o n e .1
 

@@ -1,4 +1,5 @@
--- Making in pieces (document 01, "Making session" and "Lists": the plain machine, which "keeps only the opening's arguments, open or closed, the samples .. taken, joined in call order").
+-- Making in pieces (document 01, "Making session" and "Lists": the plain machine, which "keeps only the opening's arguments, open or
+-- closed, the samples .. taken, joined in call order").
 use Prim.Native.Nat.{ℕ, _*_, _/_}
 use mathlib.Core.Bool.{Bool, true, false, _||_}
 use mathlib.Core.List.{List, [], _∷_, _++_}
@@ -7,10 +8,10 @@ use lib.ListN.{length, take, drop}
 use Rattle.error.specs.Choice.{if}
 use Rattle.error.specs.Answer.{Answer, gives, refuses}
 use Rattle.header.specs.Write.{extHeader}
+use Rattle.options.specs.Settings.{madeFrames}
 use Rattle.options.specs.declared.EncodeOptions.{EncodeOptions}
-use Rattle.quantize.specs.Engine.{meaning, roomy, setting}
-use Rattle.quantize.specs.Finished.{Setting, takes, newly, wholeFrames}
-use Rattle.quantize.specs.Whole.{knownRule}
+use Rattle.rules.specs.Rule.{meaning, roomy, knownRule}
+use Rattle.quantize.specs.Finished.{setting, Setting, takes, newly, wholeFrames}
 
 -- what a session is opened with; pairs of the fields are two lengths each, beside one text
 pub record Opening : Type 0 where
@@ -23,9 +24,9 @@ pub record Opening : Type 0 where
 abbrev pub opening : EncodeOptions → ℕ → ℕ → List ℕ → List ℕ → Opening
 opening o w h text lengths = record { options = o; width = w; height = h; text = text; lengths = lengths }
 
--- at most 16 frames of its size
+-- so many frames of its size at most
 abbrev pub settingOf : Opening → Setting
-settingOf a = setting (a .options .quantize) (a .width) (a .height) 16
+settingOf a = setting (a .options .quantize) (a .width) (a .height) madeFrames
 
 -- the work buffer, of so many numbers, is long enough
 abbrev pub serves : Opening → ℕ → Bool
@@ -107,7 +108,8 @@ closedBy m = record { reply = record { answer = gives closed; output = [] }; nex
 abbrev pub unaltered : Model → ℕ → List ℕ → Outcome
 unaltered m code out = record { reply = record { answer = refuses code 0; output = out }; next = m }
 
--- "Each session call tests 30, then .. 28 for a buffer lent to it"; "Closing inside a frame or before the first one ends gives 22 and leaves the session open; else it closes it"
+-- "Each session call tests 30, then .. 28 for a buffer lent to it"; "Closing inside a frame or before the first one ends gives 22 and
+-- leaves the session open; else it closes it"
 unfoldable pub outcome : Model → Call → Outcome
 outcome m (feed xs out work) =
     if (m .live) (if (serves (m .opening) work) (fedBy m xs out) (unaltered m 28 out)) (unaltered m 30 out)

@@ -9,12 +9,14 @@ use Rattle.error.specs.Answer.{Answer, gives, refuses, refusal, written as mean
 use Rattle.error.specs.Emits.{Emits}
 use Rattle.error.specs.declared.Checked.{Checked}
 use Rattle.error.specs.declared.Written.{Written}
-use Rattle.ext.specs.Left.{Left, ChecksPairs}
-use Rattle.ext.specs.declared.FieldsCheck.{FieldsCheck}
-use Rattle.ext.specs.declared.PairsBegun.{PairsBegun}
+use Rattle.ext_write.specs.Left.{Left, ChecksPairs}
+use Rattle.ext_write.specs.declared.FieldsCheck.{FieldsCheck}
+use Rattle.ext_write.specs.declared.PairsBegun.{PairsBegun}
+use Rattle.options.specs.Settings.{madeFrames}
 use Rattle.options.specs.declared.EncodeOptions.{EncodeOptions}
 use Rattle.quantize.specs.Engine.{Runs, Stands as QStands, Holds as QHolds}
-use Rattle.encode_session.specs.Model.{Opening, opening, settingOf, header, Model, opened, framesDone, shut, feed, close, Told, took, closed, outcome}
+use Rattle.encode_session.specs.Model.{Opening, opening, settingOf, header, Model, opened, framesDone, shut, feed, close, Told, took}
+use Rattle.encode_session.specs.Model.{closed, outcome}
 use Rattle.encode_session.specs.declared.EncodeSession.{EncodeSession}
 use Rattle.encode_session.specs.declared.EncodeOpened.{EncodeOpened}
 use Rattle.encode_session.specs.declared.EncodeFeed.{EncodeFeed}
@@ -45,7 +47,7 @@ refusedClosed s code = record { session = s; answer = Checked.Refused (record { 
 -- the session's own numbers are those of the model; while it is open, the engine stands behind the samples taken
 pub record Stands (s : EncodeSession) (m : Model) : Type 0 where
   pub live : s .live ≡ m .live
-  pub left : s .quantizer .place .frames + framesDone m ≡ 16
+  pub left : s .quantizer .place .frames + framesDone m ≡ madeFrames
   pub place : m .live ≡ true → QStands (s .quantizer) (settingOf (m .opening)) (length (m .samples))
 
 -- the work buffer too is as the model's samples leave it
@@ -71,7 +73,8 @@ BeginsOpening o width height text found work old new b =
 -- What opening hands back, by its answer: where that is a header's, it is an opening.
 abbrev pub OpensBy : EncodeOptions → ℕ → ℕ → Written → EncodeOpened → Type 0
 OpensBy o width height answer r =
-    (text lengths : List ℕ) (work : ℕ) (old new : List ℕ) → Emits (header (opening o width height text lengths) work) (meantWritten answer) old new
+    (text lengths : List ℕ) (work : ℕ) (old new : List ℕ)
+    → Emits (header (opening o width height text lengths) work) (meantWritten answer) old new
     → Opens (opening o width height text lengths) work r old new
 
 -- Feeding. Answers and counts are the model's whatever the work buffer holds; the bytes are too where it is as the last call left it. What
@@ -81,14 +84,17 @@ pub record Feeds (s : EncodeSession) (xs out : List ℕ) (work : List ℤ) (r : 
   pub runs : (n b : ℕ) → r .answer ≡ Took n b
       → Runs (s .quantizer) xs out work (record { quantizer = r .session .quantizer; taken = n; written = b }) out′ work′
   pub counts : (m : Model) → Stands s m
-      → (fedMeaning (r .answer) ≡ outcome m (feed xs out (length work)) .reply .answer) × Stands (r .session) (outcome m (feed xs out (length work)) .next)
+      → (fedMeaning (r .answer) ≡ outcome m (feed xs out (length work)) .reply .answer)
+      × Stands (r .session) (outcome m (feed xs out (length work)) .next)
   pub does : (m : Model) → Holds s work m
-      → (out′ ≡ outcome m (feed xs out (length work)) .reply .output) × Holds (r .session) work′ (outcome m (feed xs out (length work)) .next)
+      → (out′ ≡ outcome m (feed xs out (length work)) .reply .output)
+      × Holds (r .session) work′ (outcome m (feed xs out (length work)) .next)
 
 -- Closing: it is lent nothing, and the buffer stays as it is.
 pub record Closes (s : EncodeSession) (r : EncodeClosed) : Type 0 where
   pub refused : (code place : ℕ) → closedMeaning (r .answer) ≡ refuses code place → r .session ≡ s
-  pub counts : (m : Model) → Stands s m → (closedMeaning (r .answer) ≡ outcome m close .reply .answer) × Stands (r .session) (outcome m close .next)
+  pub counts : (m : Model) → Stands s m
+      → (closedMeaning (r .answer) ≡ outcome m close .reply .answer) × Stands (r .session) (outcome m close .next)
   pub does : (m : Model) (work : List ℤ) → Holds s work m → Holds (r .session) work (outcome m close .next)
 
 -- ---- what can be asked of a session

@@ -1,4 +1,5 @@
--- Lists of calls (document 01, "Lists"): "Each gets the session that the last call returned; a feeding call, unless 30, .. or 28 answers it, also gets the work .. buffer as left".
+-- Lists of calls (document 01, "Lists"): "Each gets the session that the last call returned; a feeding call, unless 30, .. or 28 answers
+-- it, also gets the work .. buffer as left".
 use Prim.Native.Nat.{ℕ}
 use mathlib.Core.Path.{_≡_}
 use mathlib.Core.List.{List, [], _∷_, _++_}
@@ -25,6 +26,12 @@ pub data Trace : EncodeSession → List ℤ → List Call → List Reply → Enc
   shut : {s s′ : EncodeSession} {work : List ℤ} {r : EncodeClosed} {cs : List Call} {rs : List Reply}
       → Closes s r → Trace (r .session) work cs rs s′
       → Trace s work (close ∷ cs) (record { answer = closedMeaning (r .answer); output = [] } ∷ rs) s′
+
+-- how many samples a call took
+abbrev pub tookOf : Answer Told → ℕ
+tookOf (gives (took n b)) = n
+tookOf (gives closed) = 0
+tookOf (refuses code place) = 0
 
 -- the bytes that a reply says were written, and those of all replies, joined
 abbrev pub bytesOf : Answer Told → List ℕ → List ℕ

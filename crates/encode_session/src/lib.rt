@@ -7,10 +7,11 @@ use error::UNKNOWN_SETTING;
 use error::WbmpError;
 use error::Written;
 use error::ZERO_DIMENSION;
-use ext::FieldsCheck;
-use ext::PairsBegun;
-use ext::Parameter;
+use ext_write::FieldsCheck;
+use ext_write::PairsBegun;
+use ext_write::Parameter;
 use options::EncodeOptions;
+use options::MAX_MADE_FRAMES;
 use options::Quantize;
 use quantize::Quantizer;
 ghost use Prim.Native.Nat.{_*_};
@@ -18,14 +19,12 @@ ghost use mathlib.Core.Path.{_≡_};
 ghost use mathlib.Core.Bool.{true};
 ghost use lib.ListN.{length};
 ghost use Rattle.error.specs.Answer.{refuses, written};
-ghost use Rattle.ext.specs.Write.{flattened};
+ghost use Rattle.ext_write.specs.Write.{flattened};
 ghost use Rattle.options.specs.declared.Quantize.{Quantize};
-ghost use Rattle.quantize.specs.Engine.{meaning, roomy};
+ghost use Rattle.rules.specs.Rule.{meaning, roomy};
 ghost use Rattle.encode_session.specs.Model.{opening};
-ghost use Rattle.encode_session.specs.Session.{isGiven, refusedFed, refusedClosed, BeginsOpening, OpensBy, Opens, Feeds, Closes, TellsClosed, TellsFrames};
-
-// The main image and at most 15 that follow it.
-const MAX_FRAMES: u32 = 16;
+ghost use Rattle.encode_session.specs.Session.{isGiven, refusedFed, refusedClosed, BeginsOpening, OpensBy, Opens, Feeds, Closes};
+ghost use Rattle.encode_session.specs.Session.{TellsClosed, TellsFrames};
 
 // How many numbers of work serve a card of so many dots a row under any rule; only dithering wants them.
 pub fn work_numbers(width: u32) -> usize
@@ -135,7 +134,7 @@ fn opened(width: u32, height: u32, options: EncodeOptions, answer: Written) -> E
     ensures { λ r. ⌜ OpensBy options width height answer r ⌝ }
 {
     let rule = options.quantize;
-    let quantizer = Quantizer::new(rule, width, height, MAX_FRAMES);
+    let quantizer = Quantizer::new(rule, width, height, MAX_MADE_FRAMES);
     let live = is_given(answer);
     EncodeOpened {
         session: EncodeSession {
@@ -157,11 +156,12 @@ impl EncodeSession {
         work: &[i16],
         out: &mut [u8],
     ) -> EncodeOpened
-        ensures { λ r. ⌜ Opens (opening options width height (now (text .entry)) (flattened (now (parameters .entry)))) (length (now (work .entry))) r (now (out .entry)) (now (out .exit)) ⌝ }
+        ensures { λ r. ⌜ Opens (opening options width height (now (text .entry)) (flattened (now (parameters .entry))))
+            (length (now (work .entry))) r (now (out .entry)) (now (out .exit)) ⌝ }
     {
-        let found = ext::check_parameters(text, parameters, options.strict);
+        let found = ext_write::check_parameters(text, parameters, options.strict);
         let begun = begin_opening(width, height, options, text, found, work.len(), &mut *out);
-        let answer = ext::put_parameters(text, parameters, begun, out);
+        let answer = ext_write::put_parameters(text, parameters, begun, out);
         opened(width, height, options, answer)
     }
 
@@ -175,11 +175,12 @@ impl EncodeSession {
         work: &[i16],
         out: &mut [u8],
     ) -> EncodeOpened
-        ensures { λ r. ⌜ Opens (opening options width height (now (text .entry)) (now (lengths .entry))) (length (now (work .entry))) r (now (out .entry)) (now (out .exit)) ⌝ }
+        ensures { λ r. ⌜ Opens (opening options width height (now (text .entry)) (now (lengths .entry))) (length (now (work .entry))) r
+            (now (out .entry)) (now (out .exit)) ⌝ }
     {
-        let found = ext::check_lengths(text, lengths, options.strict);
+        let found = ext_write::check_lengths(text, lengths, options.strict);
         let begun = begin_opening(width, height, options, text, found, work.len(), &mut *out);
-        let answer = ext::put_lengths(text, lengths, begun, out);
+        let answer = ext_write::put_lengths(text, lengths, begun, out);
         opened(width, height, options, answer)
     }
 
@@ -221,8 +222,8 @@ impl EncodeSession {
     {
         let quantizer = self.quantizer;
         let spot = quantizer.spot();
-        if spot.frames < MAX_FRAMES as usize {
-            MAX_FRAMES - spot.frames as u32
+        if spot.frames < MAX_MADE_FRAMES as usize {
+            MAX_MADE_FRAMES - spot.frames as u32
         } else {
             0
         }
@@ -233,7 +234,7 @@ impl EncodeSession {
         ensures { λ r. ⌜ Closes self r ⌝ }
     {
         let quantizer = self.quantizer;
-        let whole = quantizer.whole_frames(MAX_FRAMES);
+        let whole = quantizer.whole_frames(MAX_MADE_FRAMES);
         if self.live {
             if whole {
                 self.live = false;

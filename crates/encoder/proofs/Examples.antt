@@ -6,7 +6,7 @@ use mathlib.Core.List.{List, [], _∷_, _++_}
 use lib.ListN.{length}
 use Rattle.error.specs.Answer.{Answer, gives, refuses}
 use Rattle.mbi.specs.Bytes.{mbiBytes, groups}
-use Rattle.ext.specs.Write.{fieldsBytes}
+use Rattle.ext_write.specs.Write.{fieldsBytes}
 use Rattle.header.specs.declared.ExtPresence.the-variants.{Absent}
 use Rattle.image.specs.Geometry.{planeBytes, checkGeometry}
 use Rattle.image.specs.Rows.{clearPadding, wireRow, wireBits}

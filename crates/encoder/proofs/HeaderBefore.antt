@@ -18,7 +18,7 @@ use Rattle.laws.proofs.Runs.{sets-append, sets-front, sets-part}
 use Rattle.laws.proofs.Writers.{emits-none, emits-all}
 use Rattle.mbi.specs.Bytes.{mbiBytes}
 use Rattle.ext.specs.Kinds.{Fields}
-use Rattle.ext.specs.Write.{fieldsBytes}
+use Rattle.ext_write.specs.Write.{fieldsBytes}
 use Rattle.header.specs.Write.{fixByte, sizeBytes, headerBytes, fieldsHeader, presented, extHeader}
 use Rattle.header.specs.declared.ExtPresence.{ExtPresence}
 use Rattle.encoder.specs.Parts.{Heads}

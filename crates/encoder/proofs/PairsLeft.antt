@@ -13,11 +13,11 @@ use Rattle.error.specs.Emits.{Emits}
 use Rattle.error.specs.declared.WbmpError.{WbmpError}
 use Rattle.error.specs.declared.Written.{Written}
 use Rattle.laws.proofs.Tests.{zero-one}
-use Rattle.ext.specs.Left.{Left, none-left, pairs-left}
-use Rattle.ext.specs.declared.PairsBegun.{PairsBegun}
-use Rattle.ext.specs.Steps.{putStart, putPairs}
-use Rattle.ext.proofs.Begun.{left-put}
-use Rattle.ext.proofs.Stores.{sets-left}
+use Rattle.ext_write.specs.Left.{Left, none-left, pairs-left}
+use Rattle.ext_write.specs.declared.PairsBegun.{PairsBegun}
+use Rattle.ext_write.specs.Steps.{putStart, putPairs}
+use Rattle.ext_write.proofs.Begun.{left-put}
+use Rattle.ext_write.proofs.Stores.{sets-left}
 use Rattle.header.specs.Write.{extHeader}
 use Rattle.header.specs.Begin.{Within}
 use Rattle.image.specs.Geometry.{planeBytes}

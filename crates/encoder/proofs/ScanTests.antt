@@ -10,8 +10,7 @@ use Rattle.error.specs.Choice.{if}
 use Rattle.error.specs.Answer.{Answer, gives, refuses, bind}
 use Rattle.laws.proofs.Tests.{zero-one}
 use Rattle.options.specs.declared.Quantize.{Quantize}
-use Rattle.quantize.specs.Engine.{meaning, roomy}
-use Rattle.quantize.specs.Whole.{knownRule}
+use Rattle.rules.specs.Rule.{meaning, roomy, knownRule}
 use Rattle.encoder.specs.File.{checkCount}
 use Rattle.encoder.specs.Make.{checkScans}
 use Rattle.encoder.proofs.CountTests.{Counted, counted, accepted}

@@ -17,9 +17,8 @@ use Rattle.error.specs.Emits.{Emits}
 use Rattle.laws.proofs.Runs.{sets-append, sets-front, emits-part}
 use Rattle.image.specs.Geometry.{rowBytes, planeBytes}
 use Rattle.options.specs.declared.Quantize.{Quantize}
-use Rattle.quantize.specs.Asked.{meaning, carries}
-use Rattle.quantize.specs.Engine.{setting}
-use Rattle.quantize.specs.Finished.{finished}
+use Rattle.rules.specs.Rule.{meaning, carries}
+use Rattle.quantize.specs.Finished.{setting, finished}
 use Rattle.quantize.specs.Whole.{quantized, Quantizes}
 use Rattle.quantize.proofs.Wholes.{refused-none, plane-long}
 use Rattle.quantize.proofs.Joining.{scans-none, scans-long, scans-more}
@@ -53,7 +52,7 @@ pub record Scanning (rule : Quantize) (w h count : ℕ) (gray : List ℕ) (work�
   pub turn : k ≤ count
   pub now-is : out ≡ sets out₀ 0 (scanBytes rule w h gray k)
   pub work-long : length work ≡ length work₀
-  pub beyond : drop (2 * w) work ≡ drop (2 * w) work₀
+  pub beyond : drop w work ≡ drop w work₀
   pub spared : carries (meaning rule) ≡ false → work ≡ work₀
 
 pub begun : (rule : Quantize) (w h count : ℕ) (gray : List ℕ) (work : List ℤ) (out : List ℕ) (plane : ℕ)

@@ -9,17 +9,16 @@ use lib.Seq.{take-append-le}
 use Rattle.error.specs.Answer.{gives, refuses}
 use Rattle.error.specs.Emits.{emitted}
 use Rattle.mbi.specs.Bytes.{groups, mbiBytes}
-use Rattle.ext.specs.Write.{octetsBytes, fieldsBytes, lentFields}
+use Rattle.ext_write.specs.Write.{octetsBytes, fieldsBytes, lentFields}
 use Rattle.ext.specs.declared.ExtFieldType.the-variants.{Bitfield00}
 use Rattle.header.specs.Write.{extHeader}
 use Rattle.header.specs.declared.ExtPresence.the-variants.{Absent, Present}
 use Rattle.options.specs.declared.EncodeOptions.{EncodeOptions}
 use Rattle.options.specs.declared.Quantize.the-variants.{Threshold, Dither, Ordered}
-use Rattle.quantize.specs.Bits.{upto, appended}
-use Rattle.quantize.specs.Diffusion.{part, value, white, residual, valueFrom, handed, rowValue, above, valueAt}
-use Rattle.quantize.specs.Rule.{dot}
-use Rattle.quantize.specs.Engine.{setting}
-use Rattle.quantize.specs.Finished.{begunBytes, count, frame, dotOf, bitAt, byteAt, finished}
+use Rattle.rules.specs.Bits.{upto, appended}
+use Rattle.rules.specs.Diffusion.{part, value, white, residual, valueFrom, handed, rowValue, above, valueAt}
+use Rattle.rules.specs.Rule.{dot}
+use Rattle.quantize.specs.Finished.{setting, begunBytes, count, frame, dotOf, bitAt, byteAt, finished}
 use Rattle.encoder.specs.Make.{checkScans, fileOfScans}
 use Rattle.encoder.proofs.ScanTests.{passed, passes}
 

@@ -7,9 +7,9 @@ use lib.ListN.{length}
 use Rattle.error.specs.Answer.{gives, written}
 use Rattle.error.specs.Emits.{Emits}
 use Rattle.image.specs.declared.PixelFormat.{PixelFormat}
-use Rattle.ext.specs.Left.{Left, ChecksPairs}
-use Rattle.ext.specs.declared.FieldsCheck.{FieldsCheck}
-use Rattle.ext.specs.declared.PairsBegun.{PairsBegun}
+use Rattle.ext_write.specs.Left.{Left, ChecksPairs}
+use Rattle.ext_write.specs.declared.FieldsCheck.{FieldsCheck}
+use Rattle.ext_write.specs.declared.PairsBegun.{PairsBegun}
 use Rattle.header.specs.Write.{extHeader}
 use Rattle.options.specs.declared.EncodeOptions.{EncodeOptions}
 use Rattle.encoder.specs.Parts.{Heads}

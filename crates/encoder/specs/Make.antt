@@ -12,10 +12,8 @@ use Rattle.error.specs.Answer.{Answer, gives, refuses, bind}
 use Rattle.error.specs.Emits.{Emits}
 use Rattle.options.specs.declared.EncodeOptions.{EncodeOptions}
 use Rattle.options.specs.declared.Quantize.{Quantize}
-use Rattle.quantize.specs.Asked.{carries}
-use Rattle.quantize.specs.Engine.{meaning, roomy, setting}
-use Rattle.quantize.specs.Finished.{finished}
-use Rattle.quantize.specs.Whole.{knownRule}
+use Rattle.rules.specs.Rule.{carries, meaning, roomy, knownRule}
+use Rattle.quantize.specs.Finished.{setting, finished}
 use Rattle.encoder.specs.File.{checkCount, fileOf}
 
 -- "Whole making: 8, 21, 29, 28, 22", of so many samples and numbers of work
@@ -38,10 +36,10 @@ fileOfScans ceiling o width height count gray text lengths work =
     bind (checkScans ceiling (o .quantize) width height count (length gray) work)
     (λ _. fileOf o width height text lengths (scanBytes (o .quantize) width height gray count))
 
--- the file or the refusal; a work buffer is altered by a rule that keeps carries alone, where nothing is refused, in its first 2 × width numbers
+-- the file or the refusal; a work buffer is altered by a rule that keeps carries alone, where nothing is refused, in its first `width` numbers
 pub record Makes (ceiling : ℕ) (o : EncodeOptions) (width height count : ℕ) (gray text lengths out : List ℕ) (work : List ℤ) (r : Answer ℕ)
     (out′ : List ℕ) (work′ : List ℤ) : Type 0 where
   pub emits : Emits (fileOfScans ceiling o width height count gray text lengths (length work)) r out out′
-  pub beyond : drop (2 * width) work′ ≡ drop (2 * width) work
+  pub beyond : drop width work′ ≡ drop width work
   pub spared : carries (meaning (o .quantize)) ≡ false → work′ ≡ work
   pub refused : (code place : ℕ) → r ≡ refuses code place → work′ ≡ work

@@ -3,17 +3,17 @@ use error::Checked;
 use error::FRAME_COUNT;
 use error::WbmpError;
 use error::ZERO_DIMENSION;
-use ext::FieldsCheck;
-use ext::PairsBegun;
+use ext_write::FieldsCheck;
+use ext_write::PairsBegun;
 use options::EncodeOptions;
+use options::MAX_MADE_FRAMES;
 ghost use mathlib.Core.Path.{_≡_};
 ghost use Prim.Native.Nat.{_-_};
 ghost use Rattle.error.specs.Answer.{checked, refuses};
 ghost use Rattle.encoder.specs.File.{checkCount};
 ghost use Rattle.encoder.specs.Begin.{BeginsBefore};
 
-// The main image and at most 15 that follow it.
-const MAX_FRAMES: usize = 16;
+const MAX_FRAMES: usize = MAX_MADE_FRAMES as usize;
 
 // "Writers return place 0 always."
 pub(crate) fn refused(code: u8) -> Checked

@@ -7,9 +7,9 @@ use error::Checked;
 use error::GRAY_TOO_SHORT;
 use error::UNKNOWN_SETTING;
 use error::Written;
-use ext::FieldsCheck;
-use ext::PairsBegun;
-use ext::Parameter;
+use ext_write::FieldsCheck;
+use ext_write::PairsBegun;
+use ext_write::Parameter;
 use image::PlaneLayout;
 use options::EncodeOptions;
 use options::Quantize;
@@ -22,7 +22,7 @@ ghost use Rattle.image.specs.Parts.{Laid};
 ghost use Rattle.encoder.specs.Make.{checkScans, Makes};
 ghost use Rattle.encoder.specs.Scans.{PutsScans};
 ghost use Rattle.encoder.specs.Begin.{BeginsMade};
-ghost use Rattle.ext.specs.Write.{flattened};
+ghost use Rattle.ext_write.specs.Write.{flattened};
 
 // Scans of one size, end to end: their planes' layout, and how many they are.
 struct Scans {
@@ -158,7 +158,7 @@ pub fn encode_gray8(
 ) -> Written
     ensures { λ r. ⌜ Makes 16 options width height count (now (gray .entry)) (now (text .entry)) (flattened (now (parameters .entry))) (now (out .entry)) (now (work .entry)) (written r) (now (out .exit)) (now (work .exit)) ⌝ }
 {
-    let found = ext::check_parameters(text, parameters, options.strict);
+    let found = ext_write::check_parameters(text, parameters, options.strict);
     let begun = begin_gray8(
         width,
         height,
@@ -170,7 +170,7 @@ pub fn encode_gray8(
         work,
         &mut *out,
     );
-    ext::put_parameters(text, parameters, begun, out)
+    ext_write::put_parameters(text, parameters, begun, out)
 }
 
 // The same, with the lengths of the pairs lent as numbers.
@@ -187,7 +187,7 @@ pub fn encode_gray8_lengths(
 ) -> Written
     ensures { λ r. ⌜ Makes 16 options width height count (now (gray .entry)) (now (text .entry)) (now (lengths .entry)) (now (out .entry)) (now (work .entry)) (written r) (now (out .exit)) (now (work .exit)) ⌝ }
 {
-    let found = ext::check_lengths(text, lengths, options.strict);
+    let found = ext_write::check_lengths(text, lengths, options.strict);
     let begun = begin_gray8(
         width,
         height,
@@ -199,5 +199,5 @@ pub fn encode_gray8_lengths(
         work,
         &mut *out,
     );
-    ext::put_lengths(text, lengths, begun, out)
+    ext_write::put_lengths(text, lengths, begun, out)
 }

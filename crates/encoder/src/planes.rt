@@ -5,9 +5,9 @@ use crate::file::refused;
 use error::Checked;
 use error::PLANE_TOO_SHORT;
 use error::Written;
-use ext::FieldsCheck;
-use ext::PairsBegun;
-use ext::Parameter;
+use ext_write::FieldsCheck;
+use ext_write::PairsBegun;
+use ext_write::Parameter;
 use image::PixelFormat;
 use image::PlaneLayout;
 use options::EncodeOptions;
@@ -19,7 +19,7 @@ ghost use Rattle.error.specs.Answer.{gives, checked, written};
 ghost use Rattle.error.specs.Emits.{Emits};
 ghost use Rattle.image.specs.Geometry.{neededBytes, planeBytes};
 ghost use Rattle.image.specs.Parts.{Laid};
-ghost use Rattle.ext.specs.Write.{flattened};
+ghost use Rattle.ext_write.specs.Write.{flattened};
 ghost use Rattle.encoder.specs.Begin.{BeginsFile, BeginsImages};
 ghost use Rattle.encoder.specs.Write.{checkPlanes, wirePlanes, fileOfPlanes};
 
@@ -177,7 +177,7 @@ pub fn encode_images(
 ) -> Written
     ensures { λ r. ⌜ Emits (fileOfPlanes 16 options format width height count stride (now (planes .entry)) (now (text .entry)) (flattened (now (parameters .entry)))) (written r) (now (out .entry)) (now (out .exit)) ⌝ }
 {
-    let found = ext::check_parameters(text, parameters, options.strict);
+    let found = ext_write::check_parameters(text, parameters, options.strict);
     let begun = begin_images(
         width,
         height,
@@ -190,7 +190,7 @@ pub fn encode_images(
         found,
         &mut *out,
     );
-    ext::put_parameters(text, parameters, begun, out)
+    ext_write::put_parameters(text, parameters, begun, out)
 }
 
 // The same, with the lengths of the pairs lent as numbers.
@@ -208,7 +208,7 @@ pub fn encode_images_lengths(
 ) -> Written
     ensures { λ r. ⌜ Emits (fileOfPlanes 16 options format width height count stride (now (planes .entry)) (now (text .entry)) (now (lengths .entry))) (written r) (now (out .entry)) (now (out .exit)) ⌝ }
 {
-    let found = ext::check_lengths(text, lengths, options.strict);
+    let found = ext_write::check_lengths(text, lengths, options.strict);
     let begun = begin_images(
         width,
         height,
@@ -221,5 +221,5 @@ pub fn encode_images_lengths(
         found,
         &mut *out,
     );
-    ext::put_lengths(text, lengths, begun, out)
+    ext_write::put_lengths(text, lengths, begun, out)
 }

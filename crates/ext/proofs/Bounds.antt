@@ -13,7 +13,7 @@ use Rattle.laws.proofs.Tests.{zero-one}
 use Rattle.ext.specs.Kinds.{Pair, Fields, none, pairs}
 use Rattle.ext.specs.Classes.{all, isAlphaDigit}
 use Rattle.ext.specs.Read.{readOctets, readOctet, readPair, readPairs, readFields}
-use Rattle.ext.proofs.Cases.{by-kind, PairsGiven, last, more, pairs-given}
+use Rattle.ext.proofs.FieldsCases.{by-kind, PairsGiven, last, more, pairs-given}
 use Rattle.ext.proofs.Continuation.{pairCount}
 
 -- fields f of a file s that stand from `at` to `end`
@@ -24,7 +24,8 @@ pub record Bounds (follow : Bool) (s : List ℕ) (at : ℕ) (f : Fields) (end : 
   pub empty : follow ≡ false → end ≡ at
   pub within : follow ≡ true → end ≤ length s
 
-octets-bound : (τ : List ℕ) (start at : ℕ) (r : List ℕ × ℕ) → readOctets τ start at ≡ gives r → (at < r .1) × (r .1 ≤ start + 4096) × (r .1 ≤ at + length τ)
+octets-bound : (τ : List ℕ) (start at : ℕ) (r : List ℕ × ℕ) → readOctets τ start at ≡ gives r → (at < r .1) × (r .1 ≤ start + 4096)
+    × (r .1 ≤ at + length τ)
 unfolding readOctets
 octets-bound [] start at r e = zero-one (cc)
 octets-bound (b ∷ τ) start at r e = go (leb (start + 4096) at) (ltb b 128) refl e (octets-bound τ start (at + 1))

@@ -14,9 +14,9 @@ use Rattle.ext.specs.Kinds.{Pair, Fields}
 use Rattle.ext.specs.Find.{pairsIn}
 use Rattle.ext.specs.Read.{PairAt, readOctets, readOctet, readPair, readPairs, readFields}
 use Rattle.ext.specs.Bytewise.{octets, octet, pairsFrom, fieldsFrom}
-use Rattle.ext.proofs.Extent.{pair-in}
-use Rattle.ext.proofs.Cases.{by-kind}
-use Rattle.ext.proofs.PairChain.{bind-map, afterPair, pairs-end, pairs-over, pairs-pair}
+use Rattle.ext.proofs.PairExtent.{pair-in}
+use Rattle.ext.proofs.FieldsCases.{by-kind}
+use Rattle.ext.proofs.PairsBytewise.{bind-map, afterPair, pairs-end, pairs-over, pairs-pair}
 
 -- how many pairs there are
 abbrev pub pairCount : Fields → ℕ
@@ -52,7 +52,8 @@ module _ {A : Type 0} (s : List ℕ) (k : ℕ → ℕ → List ℕ → Answer A)
   octet-in (b ∷ τ) at e = ap (k (at + 1) 0) (tail-drop s b τ at e)
 
   pub pairs-in : (most : ℕ) (strict : Bool) (start at done : ℕ) → length s < most + at
-      → pairsFrom (drop at s) strict start at done k ≡ bind (readPairs most strict s start at) (λ r. k (r .1) (done + length (r .0)) (drop (r .1) s))
+      → pairsFrom (drop at s) strict start at done k ≡ bind (readPairs most strict s start at)
+      (λ r. k (r .1) (done + length (r .0)) (drop (r .1) s))
   unfolding readPairs
   pairs-in zero strict start at done h = pairs-end strict s start done k at (omega arith)
   pairs-in (suc most) strict start at done h =
@@ -82,7 +83,8 @@ module _ {A : Type 0} (s : List ℕ) (k : ℕ → ℕ → List ℕ → Answer A)
       go false false p q ih =
           pairs-pair strict s start done k at (leb-false (length s) at p) (leb-false (start + 4096) at q) ∙ each (readPair strict s at) refl
         where
-          each : (x : Answer PairAt) → readPair strict s at ≡ x → bind x (λ q. afterPair strict s start done k (q .more) (q .end)) ≡ bind (bind x after) K
+          each : (x : Answer PairAt) → readPair strict s at ≡ x → bind x (λ q. afterPair strict s start done k (q .more) (q .end))
+              ≡ bind (bind x after) K
           each (refuses c o) e = refl
           each (gives p) e = again (p .more)
             where

@@ -27,7 +27,8 @@ settled-bind : {A B : Type 0} (f : A → Answer B) (x : Answer A) → settled (b
 settled-bind f (gives a) e = refl
 settled-bind f (refuses code offset) e = e
 
-octets-prefix : (τ ρ : List ℕ) (start at : ℕ) → settled (readOctets τ start at) ≡ true → readOctets (τ ++ ρ) start at ≡ readOctets τ start at
+octets-prefix : (τ ρ : List ℕ) (start at : ℕ) → settled (readOctets τ start at) ≡ true
+    → readOctets (τ ++ ρ) start at ≡ readOctets τ start at
 unfolding readOctets
 octets-prefix [] ρ start at e = zero-one (cc)
 octets-prefix (b ∷ τ) ρ start at e = go (leb (start + 4096) at) (ltb b 128) e (octets-prefix τ ρ start (at + 1))
@@ -74,7 +75,12 @@ module _ (strict : Bool) (s ρ : List ℕ) where
       go false false x y q =
           let h = ltb-false (length s) e y in
           let n = length-append s ρ in
-          rw (le-ltb (length (s ++ ρ)) b (omega arith), le-ltb (length (s ++ ρ)) e (omega arith), slice-prefix a b (omega arith), slice-prefix b e h)
+          rw (
+            le-ltb (length (s ++ ρ)) b (omega arith),
+            le-ltb (length (s ++ ρ)) e (omega arith),
+            slice-prefix a b (omega arith),
+            slice-prefix b e h,
+          )
 
   pair-prefix : (at : ℕ) → at < length s → settled (readPair strict s at) ≡ true → readPair strict (s ++ ρ) at ≡ readPair strict s at
   unfolding readPair
@@ -135,7 +141,8 @@ module _ (strict : Bool) (s ρ : List ℕ) where
           under : (u : Bool) → settled (pairs false u most s) ≡ true → pairs false u most′ (s ++ ρ) ≡ pairs false u most s
           under true q = refl
           under false q =
-              rw (pair-prefix at (leb-false (length s) at x) (settled-bind (afters most s) (readPair strict s at) q)) (each ih (readPair strict s at) q)
+              rw (pair-prefix at (leb-false (length s) at x) (settled-bind (afters most s) (readPair strict s at) q))
+              (each ih (readPair strict s at) q)
 
 -- a reader of the bytes from an offset on, which is refused where there are none
 from-prefix : {A : Type 0} (read : List ℕ → Answer A) (s ρ : List ℕ) (at : ℕ) → settled (read []) ≡ false

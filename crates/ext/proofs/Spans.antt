@@ -1,19 +1,16 @@
--- From a span, as the code answers it, to what a reading goes on with.
-use Prim.Native.Nat.{ℕ, suc, _+_, _-_}
+-- The span of fields that were read, in the direct form and byte by byte.
+use Prim.Native.Nat.{ℕ, suc, _-_}
 use mathlib.Core.Path.{_≡_, _∙_, refl, sym, ap, subst}
 use mathlib.Core.List.{List}
-use mathlib.Core.Bool.{Bool, true, false}
-use native.Mathlib.Omega.{arith}
+use mathlib.Core.Bool.{Bool, true}
 use lib.ListN.{length, drop}
 use Rattle.error.specs.Answer.{Answer, gives, refuses, bind, map}
 use Rattle.laws.proofs.Answers.{map-gives}
-use Rattle.ext.specs.Kinds.{Fields, Span, absent, span, spanOf, meaning}
+use Rattle.ext.specs.Kinds.{Fields, Span, span, spanOf}
 use Rattle.ext.specs.Read.{readOctets, readOctet, readPairs, readFields}
 use Rattle.ext.specs.Bytewise.{fieldsFrom}
-use Rattle.ext.specs.declared.ExtRead.{ExtRead}
-use Rattle.ext.proofs.Cases.{by-kind}
+use Rattle.ext.proofs.FieldsCases.{by-kind}
 use Rattle.ext.proofs.Continuation.{pairCount, fields-in}
-use Rattle.ext.proofs.Bounds.{fields-bound}
 
 -- fields that were read are of the kind that was asked for
 pub span-is : (strict : Bool) (kind : ℕ) (s : List ℕ) (at : ℕ) (r : Fields × ℕ) → readFields strict true kind s at ≡ gives r
@@ -45,30 +42,3 @@ spans strict kind s at = each (readFields strict true kind s at) refl ∙ sym (f
         → map (spanOf at) x ≡ bind x (λ r. gives (span kind at (r .1 - at) (pairCount (r .0))))
     each (gives r) e = ap gives (span-is strict kind s at r e)
     each (refuses code offset) e = refl
-
-module _ {A : Type 0} (s : List ℕ) (at : ℕ) (k : ℕ → ℕ → List ℕ → Answer A) where
-  -- what a reading goes on with behind a span
-  abbrev pub afterSpan : Span → Answer A
-  afterSpan absent = k at 0 (drop at s)
-  afterSpan (span kind start len count) = k (start + len) count (drop (start + len) s)
-
-  pub fields-span : (strict follow : Bool) (kind : ℕ)
-      → fieldsFrom strict follow kind (drop at s) at k ≡ bind (map (spanOf at) (readFields strict follow kind s at)) afterSpan
-  unfolding readFields fieldsFrom
-  fields-span strict false kind = refl
-  fields-span strict true kind = fields-in s k strict true kind at ∙ each (readFields strict true kind s at) refl
-    where
-      each : (x : Answer (Fields × ℕ)) → readFields strict true kind s at ≡ x
-          → bind x (λ r. k (r .1) (pairCount (r .0)) (drop (r .1) s)) ≡ bind (map (spanOf at) x) afterSpan
-      each (gives r) e =
-          let b = fields-bound strict true kind s at r e in
-          let end : r .1 ≡ at + (r .1 - at) = omega arith in
-          ap (λ (n : ℕ). k n (pairCount (r .0)) (drop n s)) end ∙ ap afterSpan (sym (span-is strict kind s at r e))
-      each (refuses code offset) e = refl
-
-  -- go on from what `parse_ext_fields` answered
-  pub fields-on : (strict follow : Bool) (kind : ℕ) (r x : ExtRead)
-      → meaning r ≡ map (spanOf at) (readFields strict follow kind s at) → r ≡ x
-      → fieldsFrom strict follow kind (drop at s) at k ≡ bind (meaning x) afterSpan
-  fields-on strict follow kind r x p e =
-      fields-span strict follow kind ∙ ap (λ (a : Answer Span). bind a afterSpan) (sym p ∙ ap meaning e)

@@ -1,5 +1,5 @@
 -- What extension fields are, and how the code's values stand for them.
-use Prim.Native.Nat.{ℕ, _+_, _-_, _/_, _%_}
+use Prim.Native.Nat.{ℕ, _-_, _/_, _%_}
 use mathlib.Core.Path.{_≡_}
 use mathlib.Core.Bool.{Bool}
 use mathlib.Core.List.{List}
@@ -9,6 +9,7 @@ use Rattle.error.specs.Answer.{Answer, gives, refusal}
 use Rattle.ext.specs.declared.ExtFieldType.{ExtFieldType}
 use Rattle.ext.specs.declared.ExtFieldType.the-variants.{Bitfield00, Reserved01, Reserved10, ParameterPairs11}
 use Rattle.ext.specs.declared.FixHeaderField.{FixHeaderField}
+use Rattle.ext.specs.declared.PairHeader.{PairHeader}
 use Rattle.ext.specs.declared.ExtFields.{ExtFields}
 use Rattle.ext.specs.declared.ExtRead.{ExtRead}
 use Rattle.ext.specs.declared.ExtRead.the-variants.{Absent}
@@ -55,6 +56,10 @@ pub record SplitFix (b : ℕ) (r : FixHeaderField) : Type 0 where
   pub raw-is : r .raw ≡ b
   pub follow-is : r .«ext_fields_follow» ≡ fieldsFollow b
   pub kind-is : kindNumber (r .«ext_type») ≡ kindBits b
+
+-- "header bit 7 continues, bits 6-4 identifier length, bits 3-0 value length"
+abbrev pub pairHeader : ℕ → PairHeader
+pairHeader b = record { «identifier_len» = b / 16 % 8; «value_len» = b % 16; more = leb 128 b }
 
 abbrev pub fieldsSpan : ExtFields → Span
 fieldsSpan f = span (kindNumber (f .«ext_type»)) (f .start) (f .len) (f .pairs)

@@ -4,7 +4,3 @@ pub mod Read
 pub mod Pairwise
 pub mod Bytewise
 pub mod Find
-pub mod Write
-pub mod Steps
-pub mod Left
-pub mod Ceiling

@@ -42,7 +42,8 @@ classed strict p =
     (if (inClass strict isAlphaDigit (p .pair .value)) (gives p) (refuses 15 (p .end)))
     (refuses 14 (p .end))
 
--- the identifier stands from a to b and the value from b to e; "identifier cut short, then value (13)", with the offset of the part that is cut
+-- the identifier stands from a to b and the value from b to e; "identifier cut short, then value (13)", with the offset of the part that
+-- is cut
 abbrev pub pairParts : Bool → List ℕ → Bool → ℕ → ℕ → ℕ → Answer PairAt
 pairParts strict s more a b e =
     if (ltb (length s) b) (refuses 13 a)

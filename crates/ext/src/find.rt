@@ -2,6 +2,7 @@
 use crate::ExtRead;
 use crate::FixHeaderField;
 use crate::Lookup;
+use crate::PairHeader;
 use crate::parse_ext_fields;
 ghost use mathlib.Core.Path.{_≡_};
 ghost use mathlib.Core.Bool.{true, false};
@@ -44,10 +45,10 @@ pub fn lookup(fix_header: FixHeaderField, bytes: &[u8], offset: usize, identifie
             let mut at = offset;
             let mut left = f.pairs;
             while 0 < left {
-                let header = bytes[at];
+                let header = PairHeader::from_byte(bytes[at]);
                 let from = at + 1;
-                let value = from + ((header / 16 % 8) as usize);
-                let end = value + ((header % 16) as usize);
+                let value = from + (header.identifier_len as usize);
+                let end = value + (header.value_len as usize);
                 if is_identifier(bytes, from, value, identifier) {
                     return Lookup::Value {
                         start: value,

@@ -1,32 +1,22 @@
-// Extension fields, WAP 4.4.1 to 4.4.3.
+// Extension fields, WAP 4.4.1 to 4.4.3: their kinds and classes, read and looked up.
 ghost use mathlib.Core.Path.{_≡_};
 ghost use Prim.Native.Nat.{_<_};
-ghost use Rattle.ext.specs.Kinds.{kindNumber, SplitFix};
+ghost use Rattle.ext.specs.Kinds.{kindNumber, SplitFix, pairHeader};
 
 mod class;
 pub mod find;
-mod pairs;
-mod parameters;
 mod read;
-mod validate;
-mod write;
 
+pub use class::identifier_in_class;
 pub use class::is_rfc2234_alpha_digit;
 pub use class::is_rfc2234_char;
+pub use class::value_in_class;
 use error::WbmpError;
-use error::Written;
-pub use parameters::check_parameters;
-pub use parameters::put_parameters;
-pub use parameters::write_ext_fields;
-pub use parameters::write_ext_fields_strict;
 pub use read::parse_ext_fields;
 pub use read::parse_ext_fields_strict;
-pub use write::begin_fields;
-pub use write::check_fields;
-pub use write::check_lengths;
-pub use write::put_lengths;
-pub use write::write_ext_fields_lengths;
-pub use write::write_ext_fields_lengths_strict;
+
+// An octet or a pair starts less than this far from the first one.
+pub const MAX_EXT_FIELD_BYTES: usize = 4096;
 
 // The kind of the fields: bits 6-5 of the FixHeader byte.
 pub enum ExtFieldType {
@@ -70,6 +60,25 @@ impl FixHeaderField {
     }
 }
 
+// The header byte of a pair, taken apart.
+pub struct PairHeader {
+    pub identifier_len: u8,
+    pub value_len: u8,
+    pub more: bool,
+}
+
+impl PairHeader {
+    pub fn from_byte(raw: u8) -> PairHeader
+        ensures { λ r. ⌜ r ≡ pairHeader raw ⌝ }
+    {
+        PairHeader {
+            identifier_len: raw / 16 % 8,
+            value_len: raw % 16,
+            more: 128 <= raw,
+        }
+    }
+}
+
 // Fields of an input: their kind, where they start, how many bytes they are, and how many pairs (0 unless the kind is 11).
 pub struct ExtFields {
     pub ext_type: ExtFieldType,
@@ -91,44 +100,9 @@ enum PairRead {
     Refused(WbmpError),
 }
 
-// The lengths of a pair to be written.
-pub struct Parameter {
-    pub identifier_len: usize,
-    pub value_len: usize,
-}
-
-pub enum NewParameter {
-    Made(Parameter),
-    Refused(WbmpError),
-}
-
 // What looking up an identifier answers: the value's bytes in the input.
 pub enum Lookup {
     Nothing,
     Value { start: usize, len: usize },
     Refused(WbmpError),
-}
-
-// What a check of fields to be written answers: how many bytes they are.
-pub enum FieldsCheck {
-    Length(usize),
-    Refused(WbmpError),
-}
-
-// A check of pairs on its way: where the next pair stands in the text, and the number of the first refusal, 0 for none.
-pub struct PairsCheck {
-    pub at: usize,
-    pub code: u8,
-}
-
-// Where the next pair to put stands in the text, and where it goes in the output.
-pub struct PairsPut {
-    pub at: usize,
-    pub to: usize,
-}
-
-// Fields begun: all but the pairs is written. The first pair goes to `to`, which is the output's end where none is left to put; `answer` is the writer's.
-pub struct PairsBegun {
-    pub to: usize,
-    pub answer: Written,
 }

@@ -3,6 +3,8 @@ use crate::ExtFieldType;
 use crate::ExtFields;
 use crate::ExtRead;
 use crate::FixHeaderField;
+use crate::MAX_EXT_FIELD_BYTES;
+use crate::PairHeader;
 use crate::PairRead;
 use crate::class::identifier_in_class;
 use crate::class::value_in_class;
@@ -14,10 +16,7 @@ ghost use lib.ListN.{length};
 ghost use Rattle.error.specs.Answer.{gives, refuses, map};
 ghost use Rattle.ext.specs.Kinds.{kindNumber, span, spanOf, meaning};
 ghost use Rattle.ext.specs.Read.{readPair, readFields};
-ghost use Rattle.ext.specs.Pairwise.{pairMeaning, pairStep};
-
-// An octet or a pair starts less than this far from the first one.
-pub const MAX_EXT_FIELD_BYTES: usize = 4096;
+ghost use Rattle.ext.specs.Pairwise.{pairMeaning, pairStep, pairBehind};
 
 fn refused(code: u8, offset: usize) -> ExtRead
     ensures { λ r. ⌜ meaning r ≡ refuses code offset ⌝ }
@@ -43,15 +42,13 @@ fn pair_refused(code: u8, offset: usize) -> PairRead
     PairRead::Refused(WbmpError { code, offset })
 }
 
-// The pair whose header byte stands at an offset.
-fn parse_pair(bytes: &[u8], at: usize, strict: bool) -> PairRead
-    requires { ⌜ at < length (now bytes) ⌝ }
-    ensures { λ r. ⌜ pairMeaning r ≡ map pairStep (readPair strict (now (bytes .entry)) at) ⌝ }
+// The pair behind its header byte, where the identifier starts at an offset.
+fn parse_parts(bytes: &[u8], identifier: usize, header: PairHeader, strict: bool) -> PairRead
+    requires { ⌜ identifier ≤ length (now bytes) ⌝ }
+    ensures { λ r. ⌜ pairMeaning r ≡ map pairStep (pairBehind strict (now (bytes .entry)) identifier header) ⌝ }
 {
-    let header = bytes[at];
-    let identifier_len = header / 16 % 8;
-    let value_len = header % 16;
-    let identifier = at + 1;
+    let identifier_len = header.identifier_len;
+    let value_len = header.value_len;
     if identifier_len == 0 {
         return pair_refused(error::IDENTIFIER_LENGTH, identifier);
     }
@@ -73,9 +70,18 @@ fn parse_pair(bytes: &[u8], at: usize, strict: bool) -> PairRead
         return pair_refused(error::VALUE_CLASS, end);
     }
     PairRead::Pair {
-        more: 128 <= header,
+        more: header.more,
         end,
     }
+}
+
+// The pair whose header byte stands at an offset.
+fn parse_pair(bytes: &[u8], at: usize, strict: bool) -> PairRead
+    requires { ⌜ at < length (now bytes) ⌝ }
+    ensures { λ r. ⌜ pairMeaning r ≡ map pairStep (readPair strict (now (bytes .entry)) at) ⌝ }
+{
+    let header = PairHeader::from_byte(bytes[at]);
+    parse_parts(bytes, at + 1, header, strict)
 }
 
 // Kind 11.

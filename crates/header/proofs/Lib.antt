@@ -1,14 +1,3 @@
-pub mod Machine
-pub mod Running
-pub mod IntegerByte
-pub mod Keeps
-pub mod Taken
-pub mod Ends
-pub mod Meets
-pub mod Represented
-pub mod Pieces
-pub mod Direct
-pub mod KnownFields
 pub mod Put
 pub mod Descent
 pub mod Prefix

@@ -16,9 +16,9 @@ use Rattle.mbi.proofs.RoundTrip.{read-written}
 use Rattle.ext.specs.Kinds.{Pair, Fields, none, bitfield, reserved, pairs, fieldsFollow, kindBits}
 use Rattle.ext.specs.Classes.{all, isAlphaDigit}
 use Rattle.ext.specs.Read.{readFields}
-use Rattle.ext.specs.Write.{fieldsBytes, pairsBytes, checkPair}
-use Rattle.ext.specs.Ceiling.{kindOf, Readable}
-use Rattle.ext.proofs.ReadBack.{read-back}
+use Rattle.ext_write.specs.Write.{fieldsBytes, pairsBytes, checkPair}
+use Rattle.ext_write.specs.Ceiling.{kindOf, Readable}
+use Rattle.ext_write.proofs.ReadBack.{read-back}
 use Rattle.header.specs.Settings.{Settings, inner, extInner}
 use Rattle.header.specs.Read.{Header, readHeader}
 use Rattle.header.specs.Write.{fixByte, sizeBytes, headerBytes}

@@ -6,9 +6,9 @@ use mathlib.Core.List.{List}
 use lib.ListN.{length}
 use Rattle.error.specs.Answer.{gives, written}
 use Rattle.error.specs.Emits.{Emits}
-use Rattle.ext.specs.Left.{Left, ChecksPairs}
-use Rattle.ext.specs.declared.FieldsCheck.{FieldsCheck}
-use Rattle.ext.specs.declared.PairsBegun.{PairsBegun}
+use Rattle.ext_write.specs.Left.{Left, ChecksPairs}
+use Rattle.ext_write.specs.declared.FieldsCheck.{FieldsCheck}
+use Rattle.ext_write.specs.declared.PairsBegun.{PairsBegun}
 use Rattle.header.specs.Write.{lentHeader, extHeader}
 use Rattle.header.specs.declared.ExtPresence.{ExtPresence}
 

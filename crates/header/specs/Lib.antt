@@ -2,9 +2,3 @@ pub mod Settings
 pub mod Read
 pub mod Write
 pub mod Begin
-pub mod Machine
-pub mod Represents
-pub mod Known
-pub mod Phase
-pub mod Run
-pub mod Pieces

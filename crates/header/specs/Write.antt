@@ -7,7 +7,7 @@ use Rattle.error.specs.Choice.{if}
 use Rattle.error.specs.Answer.{Answer, gives, refuses, bind, map}
 use Rattle.mbi.specs.Bytes.{mbiBytes}
 use Rattle.ext.specs.Kinds.{Fields, none, bitfield, reserved, pairs, kindNumber}
-use Rattle.ext.specs.Write.{fieldsBytes, lentFields}
+use Rattle.ext_write.specs.Write.{fieldsBytes, lentFields}
 use Rattle.header.specs.declared.ExtPresence.{ExtPresence}
 use Rattle.header.specs.declared.ExtPresence.the-variants.{Absent, Present}
 

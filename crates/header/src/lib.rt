@@ -1,23 +1,14 @@
-// Headers: Type, FixHeader, fields, Width, Height (WAP 4.4.1).
+// Headers, read whole and written: Type, FixHeader, fields, Width, Height (WAP 4.4.1).
 use error::WbmpError;
 use ext::ExtFieldType;
 use ext::ExtFields;
 
-mod faults;
-mod fields;
-mod integers;
-mod phase;
 mod read;
-mod reader;
-mod run;
 mod write;
 
 pub use read::parse_header_ext_inner;
 pub use read::parse_header_inner;
 pub use read::parse_header_mode;
-pub use reader::HeaderReader;
-pub use reader::HeaderRun;
-pub use reader::HeaderStep;
 pub use write::begin_header;
 pub use write::write_header;
 pub use write::write_header_ext;
@@ -39,12 +30,6 @@ pub struct HeaderMode {
 pub enum HeaderFields {
     Absent,
     Fields(ExtFields),
-}
-
-// The fields of a file so far, once their last byte was taken.
-pub enum FieldsSeen {
-    Unread,
-    Seen(HeaderFields),
 }
 
 pub struct ParsedHeader {

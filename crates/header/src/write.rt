@@ -5,9 +5,9 @@ use error::WbmpError;
 use error::Written;
 use error::ZERO_DIMENSION;
 use ext::ExtFieldType;
-use ext::FieldsCheck;
-use ext::PairsBegun;
-use ext::Parameter;
+use ext_write::FieldsCheck;
+use ext_write::PairsBegun;
+use ext_write::Parameter;
 ghost use mathlib.Core.Path.{_≡_};
 ghost use mathlib.Core.List.{_++_};
 ghost use Prim.Native.Nat.{_+_, _*_, _≤_};
@@ -19,7 +19,7 @@ ghost use Rattle.mbi.specs.Bytes.{mbiBytes};
 ghost use Rattle.header.specs.Write.{plainHeader, sizeBytes, extHeader};
 ghost use Rattle.header.specs.Begin.{BeginsLent, BeginsHeader};
 ghost use Rattle.ext.specs.Kinds.{kindNumber};
-ghost use Rattle.ext.specs.Write.{flattened};
+ghost use Rattle.ext_write.specs.Write.{flattened};
 
 // The bytes of both sizes.
 fn sizes_len(width: u32, height: u32) -> usize
@@ -108,7 +108,7 @@ fn begin_fields_header(
 ) -> PairsBegun
     ensures { λ r. ⌜ BeginsLent width height (kindNumber «ext_type») (now (text .entry)) found (now (out .entry)) (now (out .exit)) r ⌝ }
 {
-    match ext::check_fields(ext_type, text, found) {
+    match ext_write::check_fields(ext_type, text, found) {
         FieldsCheck::Length(len) => {
             let around = 2 + sizes_len(width, height);
             if out.len() < around {
@@ -120,7 +120,7 @@ fn begin_fields_header(
             out[0] = 0;
             out[1] = fix_byte(ext_type);
             put_sizes(width, height, out, 2 + len);
-            let begun = ext::begin_fields(ext_type, text, found, &mut out[2..]);
+            let begun = ext_write::begin_fields(ext_type, text, found, &mut out[2..]);
             PairsBegun {
                 to: 2 + begun.to,
                 answer: Written::Bytes(around + len),
@@ -175,9 +175,9 @@ pub fn write_header_ext_lengths(
 ) -> Written
     ensures { λ r. ⌜ Emits (extHeader strict width height ext (now (text .entry)) (now (lengths .entry))) (written r) (now (out .entry)) (now (out .exit)) ⌝ }
 {
-    let found = ext::check_lengths(text, lengths, strict);
+    let found = ext_write::check_lengths(text, lengths, strict);
     let begun = begin_header(width, height, ext, text, found, &mut *out);
-    ext::put_lengths(text, lengths, begun, out)
+    ext_write::put_lengths(text, lengths, begun, out)
 }
 
 // A header whose fields are lent with their pairs as records.
@@ -192,7 +192,7 @@ pub fn write_header_ext(
 ) -> Written
     ensures { λ r. ⌜ Emits (extHeader strict width height ext (now (text .entry)) (flattened (now (parameters .entry)))) (written r) (now (out .entry)) (now (out .exit)) ⌝ }
 {
-    let found = ext::check_parameters(text, parameters, strict);
+    let found = ext_write::check_parameters(text, parameters, strict);
     let begun = begin_header(width, height, ext, text, found, &mut *out);
-    ext::put_parameters(text, parameters, begun, out)
+    ext_write::put_parameters(text, parameters, begun, out)
 }

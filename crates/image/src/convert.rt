@@ -131,3 +131,18 @@ pub fn into_format(
     convert_from(plane, width, height, from, to, &mut out[..n]);
     Written::Bytes(n)
 }
+
+// The inverted bytes of a list, at the front of the lent output; nothing is written where they do not fit.
+pub fn invert_into(bytes: &[u8], out: &mut [u8]) -> Written
+    ensures { λ r. ⌜ Emits (gives (invert (now (bytes .entry)))) (written r) (now (out .entry)) (now (out .exit)) ⌝ }
+{
+    let n = bytes.len();
+    if out.len() < n {
+        return Written::Refused(WbmpError {
+            code: OUTPUT_TOO_SHORT,
+            offset: 0,
+        });
+    }
+    invert_from(bytes, &mut out[..n]);
+    Written::Bytes(n)
+}

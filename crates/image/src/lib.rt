@@ -12,6 +12,7 @@ mod wire;
 
 pub use convert::convert_format;
 pub use convert::into_format;
+pub use convert::invert_into;
 pub use dots::is_white;
 pub use geometry::check_geometry;
 pub use geometry::row_stride;

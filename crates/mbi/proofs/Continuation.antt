@@ -7,8 +7,7 @@ use mathlib.Core.Bool.{Bool, false}
 use lib.ListN.{length, drop, getD, drop-of-length-le}
 use Rattle.error.specs.Answer.{Answer, gives, refuses, bind}
 use Rattle.laws.proofs.Lists.{drop-at, tail-drop}
-use Rattle.mbi.specs.Read.{ByteRead, goes, ends, wrong, readByte, readRest, readMbi, integer, upon, meaning}
-use Rattle.mbi.specs.declared.MbiRead.{MbiRead}
+use Rattle.mbi.specs.Read.{ByteRead, goes, ends, wrong, readByte, readRest, readMbi, integer, upon}
 
 -- an integer alone: its value and the offset after it
 abbrev pub found : ℕ → ℕ → List ℕ → Answer (ℕ × ℕ)
@@ -79,26 +78,8 @@ module _ {A : Type 0} (strict : Bool) (b : ℕ) (τ : List ℕ) (at v n w : ℕ)
   unfolding integer
   integer-ends e = ap (λ (x : ByteRead). upon x (λ u. integer strict τ (at + 1) u (n + 1) k) (λ u. k u (at + 1) τ)) e
 
--- go on from what `read_mbi_u32` answered, x being its case
-pub integer-on : {A : Type 0} (strict : Bool) (s : List ℕ) (at : ℕ) (k : ℕ → ℕ → List ℕ → Answer A) (r x : MbiRead)
-    → meaning r ≡ readMbi strict s at → r ≡ x
-    → integer strict (drop at s) at 0 0 k ≡ bind (meaning x) (λ r. k (r .0) (r .1) (drop (r .1) s))
-integer-on strict s at k r x p e =
-    integer-mbi strict s at k ∙ ap (λ (a : Answer (ℕ × ℕ)). bind a (λ r. k (r .0) (r .1) (drop (r .1) s))) (sym p ∙ ap meaning e)
-
 -- the byte at an offset, and the end of the file
 module _ (strict : Bool) (s : List ℕ) (at v n : ℕ) where
-  pub integer-at : {A : Type 0} (k : ℕ → ℕ → List ℕ → Answer A) → at < length s
-      → integer strict (drop at s) at v n k
-      ≡ upon (readByte strict at v n (getD s at 0)) (λ w. integer strict (drop (at + 1) s) (at + 1) w (n + 1) k)
-      (λ w. k w (at + 1) (drop (at + 1) s))
-  unfolding integer
-  integer-at k h = ap (λ (l : List ℕ). integer strict l at v n k) (drop-at s at h)
-
-  pub integer-end : {A : Type 0} (k : ℕ → ℕ → List ℕ → Answer A) → length s ≤ at → integer strict (drop at s) at v n k ≡ refuses 1 at
-  unfolding integer
-  integer-end k h = rw (drop-of-length-le s h)
-
   pub rest-at : at < length s
       → readRest strict (drop at s) at v n
       ≡ upon (readByte strict at v n (getD s at 0)) (λ w. readRest strict (drop (at + 1) s) (at + 1) w (n + 1)) (λ w. gives (w, at + 1))

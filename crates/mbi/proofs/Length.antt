@@ -1,13 +1,12 @@
--- How many bytes an integer has, and that they are bytes.
+-- How many bytes an integer has.
 use Prim.Native.Nat.{ℕ, zero, suc, _+_, _/_, _%_, _^_, _<_, _≤_}
-use mathlib.Core.Path.{_≡_, _∙_, refl, sym, ap, subst}
-use mathlib.Core.List.{List, [], _∷_}
+use mathlib.Core.Path.{_≡_, _∙_, refl, ap}
+use mathlib.Core.List.{[], _∷_}
 use native.Mathlib.Omega.{arith}
 use lib.ListN.{length}
 use Rattle.laws.proofs.Digits.{div-below}
-use Rattle.laws.proofs.Octets.{Octets, octets-nil, octets-cons}
 use Rattle.mbi.specs.Bytes.{groups, mbiBytes}
-use Rattle.mbi.proofs.Groups.{count, groups-suc, count-zero, count-group, length-above, bytes-above}
+use Rattle.mbi.proofs.Groups.{count, count-zero, count-group, length-above, bytes-above}
 
 -- a number below 128 ^ k has at most k groups
 pub count-le : (k n : ℕ) → n < 128 ^ k → count n ≤ k
@@ -38,16 +37,3 @@ bytes-five n h = omega (arith, length-bytes n, count-le 4 (n / 128) (omega arith
 five : length (mbiBytes 4294967295) ≡ 5
 unfolding mbiBytes groups
 five = refl
-
--- every element is a byte
-pub groups-octets : (m n : ℕ) (last : List ℕ) → Octets last → Octets (groups m n last)
-unfolding groups
-groups-octets zero n last o = o
-groups-octets (suc m) zero last o = o
-groups-octets (suc m) (suc n) last o =
-    subst Octets (sym (groups-suc m (suc n) last (omega arith)))
-    (groups-octets m (suc n / 128) ((128 + suc n % 128) ∷ last) (octets-cons (128 + suc n % 128) last (omega arith) o))
-
-pub bytes-octets : (n : ℕ) → Octets (mbiBytes n)
-unfolding mbiBytes
-bytes-octets n = groups-octets n (n / 128) (n % 128 ∷ []) (octets-cons (n % 128) [] (omega arith) octets-nil)

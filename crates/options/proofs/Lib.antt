@@ -1,4 +1,4 @@
 pub mod LimitTests
-pub mod LimitsSet
+pub mod SettingsSame
 pub mod Ceilings
 pub mod Examples

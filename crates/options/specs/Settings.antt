@@ -1,6 +1,6 @@
 -- The defaults, and what each setting changes (document 01, options.rs and limits.rs): "each with_ setting takes the limits and hands
 -- back changed limits".
-use Prim.Native.Nat.{_-_, _^_}
+use Prim.Native.Nat.{ℕ, _-_, _^_}
 use mathlib.Core.Bool.{Bool}
 use Rattle.image.specs.declared.PixelFormat.{PixelFormat}
 use Rattle.image.specs.declared.PixelFormat.the-variants.{MonoBlack}
@@ -70,3 +70,7 @@ fromLimits l =
       mode = lenient;
       format = MonoBlack;
     }
+
+-- the most frames that are written or made: "21, 0: 0 frames or over 16", "none past 16 frames"
+abbrev pub madeFrames : ℕ
+madeFrames = 16

@@ -15,6 +15,9 @@ ghost use Rattle.options.specs.Settings;
 
 pub mod limits;
 
+// The most frames of a card that is written or made: the main image and at most 15 that follow it.
+pub const MAX_MADE_FRAMES: u32 = 16;
+
 // A limit is absent, or the largest number that it admits. `set` is 0 or 1, a whole word: so no copy of the settings carries padding.
 pub struct Limit {
     set: u64,

@@ -9,10 +9,10 @@ use native.Mathlib.Omega.{arith}
 use borrow.Author.Tests.{le-leb, lt-leb}
 use lib.Dec.{leb}
 use Rattle.options.specs.declared.Quantize.{Quantize}
-use Rattle.quantize.specs.Asked.{meaning, knownRule, roomy, Served}
-use Rattle.quantize.specs.Steps.{Sound, Able}
-use Rattle.quantize.proofs.Differences.{lt-or-le}
-use Rattle.quantize.proofs.Signed.{never}
+use Rattle.rules.specs.Rule.{meaning, knownRule, roomy}
+use Rattle.quantize.specs.Turn.{Served, Sound, Able}
+use Rattle.rules.proofs.Differences.{lt-or-le}
+use Rattle.rules.proofs.Signed.{never}
 
 -- w numbers twice
 pub half-leb : (w n : ℕ) → leb w (n / 2) ≡ leb (2 * w) n

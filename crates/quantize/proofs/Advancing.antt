@@ -8,8 +8,8 @@ use native.Mathlib.Omega.{arith}
 use lib.Pow.{pow-pos}
 use Rattle.quantize.specs.declared.turn.Next.{Next}
 use Rattle.quantize.specs.Finished.{Setting}
-use Rattle.quantize.specs.Steps.{Advancing, Advances}
-use Rattle.quantize.proofs.Signed.{never}
+use Rattle.quantize.specs.Turn.{Advancing, Advances}
+use Rattle.rules.proofs.Signed.{never}
 use Rattle.quantize.proofs.Places.{at-inside, at-row, at-frame}
 
 module _ (w h frames row column m digits byte : ℕ) (p : Advancing w h frames row column m digits) (b : byte ≡ digits * 2 ^ (8 - (column % 8 + m))) where

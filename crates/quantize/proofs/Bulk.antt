@@ -12,13 +12,14 @@ use Rattle.quantize.specs.declared.engine.Quantizer.{Quantizer}
 use Rattle.quantize.specs.declared.turn.Part.{Part}
 use Rattle.quantize.specs.declared.turn.Next.{Next}
 use Rattle.quantize.specs.declared.turn.Place.{Place}
-use Rattle.quantize.specs.Rule.{Rule}
+use Rattle.rules.specs.Rule.{Rule}
 use Rattle.quantize.specs.Finished.{Bytewise}
-use Rattle.quantize.specs.Steps.{Dots, ruleOf, Wholes, Dotted, Advances}
-use Rattle.quantize.specs.Row.{Bytes}
+use Rattle.rules.specs.Kernels.{Dots}
+use Rattle.quantize.specs.Turn.{ruleOf, Wholes, Dotted, Advances}
+use Rattle.rules.specs.Row.{Bytes}
 use Rattle.quantize.proofs.Advancing.{advances-byte}
-use Rattle.quantize.proofs.Pieces.{piece, piece-length}
-use Rattle.quantize.proofs.Rowing.{dots-small}
+use Rattle.rules.proofs.Pieces.{piece, piece-length}
+use Rattle.rules.proofs.Rowing.{dots-small}
 use Rattle.quantize.proofs.Turning.{turn-byte}
 use Rattle.quantize.proofs.Running.{Loop, loop-byte}
 use Rattle.quantize.proofs.Taking.{piece-same}

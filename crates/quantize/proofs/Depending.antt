@@ -9,14 +9,14 @@ use native.Mathlib.Omega.{arith}
 use lib.Dec.{leb}
 use lib.ListN.{length, List·getD-append}
 use Rattle.image.specs.Geometry.{rowBytes}
-use Rattle.quantize.specs.Bits.{bit}
-use Rattle.quantize.specs.Diffusion.{Direction, toRight, visited, white, residual, residualAt, valueAt}
-use Rattle.quantize.specs.Ordered.{bound, cell}
-use Rattle.quantize.specs.Rule.{Rule, threshold, dither, ordered, rightwards, dot}
+use Rattle.rules.specs.Bits.{bit}
+use Rattle.rules.specs.Diffusion.{Direction, toRight, visited, white, residual, residualAt, valueAt}
+use Rattle.rules.specs.Ordered.{bound, cell}
+use Rattle.rules.specs.Rule.{Rule, threshold, dither, ordered, rightwards, dot}
 use Rattle.quantize.specs.Finished.{Setting, begunBytes, Bytewise, count, frame, dotOf, bitAt, byteAt}
-use Rattle.quantize.proofs.Differences.{lt-or-le}
-use Rattle.quantize.proofs.Appending.{appended-ext}
-use Rattle.quantize.proofs.Causes.{valueAt-ext, residual-is}
+use Rattle.rules.proofs.Differences.{lt-or-le}
+use Rattle.rules.proofs.Appending.{appended-ext}
+use Rattle.rules.proofs.Causes.{valueAt-ext, residual-is}
 use Rattle.quantize.proofs.Packing.{bit-in, bit-past}
 use Rattle.quantize.proofs.Places.{div-at, mod-at, bytewise, begun-within}
 

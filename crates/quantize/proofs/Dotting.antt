@@ -11,15 +11,15 @@ use lib.ListN.{length, getD, take}
 use Rattle.error.specs.Choice.{if}
 use Rattle.options.specs.declared.Quantize.{Quantize}
 use Rattle.options.specs.declared.Quantize.the-variants.{Threshold, Dither, Ordered}
-use Rattle.quantize.specs.declared.dither.Dithered.{Dithered}
-use Rattle.quantize.specs.Bits.{bit, appended}
-use Rattle.quantize.specs.Ordered.{bound}
-use Rattle.quantize.specs.Rule.{threshold, ordered}
-use Rattle.quantize.specs.Machine.{Carry, machineDot, next}
-use Rattle.quantize.specs.Steps.{rowCarry, rowBit, thresholdBit, orderedBit, ruleOf, carryOf, Diffuses, Dotted}
-use Rattle.quantize.specs.Asked.{meaning, knownSide, knownRule, carries, roomy, Served}
-use Rattle.quantize.proofs.Appending.{appended-ext}
-use Rattle.quantize.proofs.Cells.{known-small, cell-front}
+use Rattle.rules.specs.declared.dither.Dithered.{Dithered}
+use Rattle.rules.specs.Bits.{bit, appended}
+use Rattle.rules.specs.Ordered.{bound, knownSide}
+use Rattle.rules.specs.Rule.{threshold, ordered, meaning, knownRule, carries, roomy}
+use Rattle.rules.specs.Carry.{Carry, machineDot, next}
+use Rattle.rules.specs.Kernels.{rowCarry, rowBit, thresholdBit, orderedBit, carryOf, Diffuses}
+use Rattle.quantize.specs.Turn.{ruleOf, Dotted, Served}
+use Rattle.rules.proofs.Appending.{appended-ext}
+use Rattle.rules.proofs.Cells.{known-small, cell-front}
 
 module _ (w y x : ℕ) (gray : List ℕ) (c : Carry) where
   pub threshold-carry : (t i : ℕ) → rowCarry (threshold t) w y x gray c i ≡ c

@@ -11,16 +11,16 @@ use borrow.Author.Tests.{leb-true}
 use lib.Dec.{leb}
 use lib.ListN.{length, getD, take, length-append}
 use lib.Seq.{take-suc, length-take-le}
-use Rattle.quantize.specs.Bits.{upto, bit}
-use Rattle.quantize.specs.Diffusion.{white}
-use Rattle.quantize.specs.Ordered.{bound, cell}
-use Rattle.quantize.specs.Rule.{Rule, threshold, dither, ordered, rightwards, dot}
+use Rattle.rules.specs.Bits.{upto, bit}
+use Rattle.rules.specs.Diffusion.{white}
+use Rattle.rules.specs.Ordered.{bound, cell}
+use Rattle.rules.specs.Rule.{Rule, threshold, dither, ordered, rightwards, dot, roomy}
 use Rattle.quantize.specs.Finished.{Setting, Bytewise, count, frame, dotOf, byteAt, finished}
-use Rattle.quantize.specs.Machine.{State, Step, machineDot, next, byteStep, stepOf, carried, emitted}
-use Rattle.quantize.specs.Asked.{roomy}
+use Rattle.quantize.specs.Machine.{State, Step, byteStep, stepOf, carried, emitted}
+use Rattle.rules.specs.Carry.{machineDot, next}
 use Rattle.quantize.specs.Place.{begunBy, Begun}
 use Rattle.quantize.specs.Engine.{Begins, Keeps}
-use Rattle.quantize.proofs.Range.{Held}
+use Rattle.rules.proofs.Range.{Held}
 use Rattle.quantize.proofs.Places.{bytewise, on-column, end-column, count-last, count-open}
 use Rattle.quantize.proofs.Packing.{begun-none, begun-ext, begun-more, byte-last, begun-on}
 use Rattle.quantize.proofs.Tracing.{last-or, byte-shut, byte-open, carry-after, carried-long}

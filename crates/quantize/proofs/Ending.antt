@@ -15,14 +15,13 @@ use Rattle.options.specs.declared.Quantize.{Quantize}
 use Rattle.quantize.specs.declared.engine.Quantizer.{Quantizer}
 use Rattle.quantize.specs.declared.engine.Ran.{Ran}
 use Rattle.quantize.specs.declared.turn.Place.{Place}
-use Rattle.quantize.specs.Rule.{Rule}
+use Rattle.rules.specs.Rule.{Rule, meaning, knownRule, roomy}
 use Rattle.quantize.specs.Finished.{Setting, Bytewise, count, finished, takes}
 use Rattle.quantize.specs.Machine.{State, carried, emitted}
-use Rattle.quantize.specs.Steps.{stateOf, ruleOf, Sound, Shares}
-use Rattle.quantize.specs.Asked.{meaning, knownRule, roomy, Served}
+use Rattle.quantize.specs.Turn.{stateOf, ruleOf, Sound, Shares, Served}
 use Rattle.quantize.specs.Engine.{Stands, Keeps, Holds, Counts, Machines, Defined, Ready, Runs}
-use Rattle.quantize.proofs.Differences.{lt-or-le}
-use Rattle.quantize.proofs.Range.{Held}
+use Rattle.rules.proofs.Differences.{lt-or-le}
+use Rattle.rules.proofs.Range.{Held}
 use Rattle.quantize.proofs.Dotting.{roomy-same}
 use Rattle.quantize.proofs.Counting.{takes-all, next-byte}
 use Rattle.quantize.proofs.Tracing.{emitted-count}

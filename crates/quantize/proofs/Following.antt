@@ -11,13 +11,13 @@ use borrow.Author.Tests.{lt-ltb, le-ltb}
 use lib.IntN.{ℤ, pos}
 use lib.ListN.{length, getD}
 use lib.Seq.{getD-set-same, getD-set-other}
-use Rattle.quantize.specs.Diffusion.{Scan, Direction, toRight, toLeft, value, residual, onLeft, onRight, before, after, above, valueAt, residualAt}
-use Rattle.quantize.specs.Machine.{Carry, clamp, leftOf, cornerOf, overOf, valueOf, diffused}
+use Rattle.rules.specs.Diffusion.{Scan, Direction, toRight, toLeft, value, residual, onLeft, onRight, before, after, above, valueAt, residualAt}
+use Rattle.rules.specs.Carry.{Carry, clamp, leftOf, cornerOf, overOf, valueOf, diffused}
 use Rattle.quantize.specs.Engine.{Diffusion}
-use Rattle.quantize.proofs.Differences.{lt-or-le}
-use Rattle.quantize.proofs.Range.{Held, within, held, clamp-same, clamp-held, residual-held}
-use Rattle.quantize.proofs.Reading.{over-in, over-past, over-top}
-use Rattle.quantize.proofs.Causes.{above-ext, residual-is, value-is, above-top}
+use Rattle.rules.proofs.Differences.{lt-or-le}
+use Rattle.rules.proofs.Range.{Held, within, held, clamp-same, clamp-held, residual-held}
+use Rattle.rules.proofs.Reading.{over-in, over-past, over-top}
+use Rattle.rules.proofs.Causes.{above-ext, residual-is, value-is, above-top}
 
 held-zero : Held (pos 0)
 held-zero = held (pos 0) (omega arith)

@@ -9,10 +9,10 @@ use borrow.Author.Tests.{eq-eqb, ne-eqb, lt-ltb, le-ltb, ltb-true, ltb-false}
 use lib.Dec.{ltb, eqb}
 use Rattle.quantize.specs.declared.engine.Quantizer.{Quantizer}
 use Rattle.quantize.specs.declared.engine.Spot.{Spot}
-use Rattle.quantize.specs.Rule.{Rule}
+use Rattle.rules.specs.Rule.{Rule, roomy}
 use Rattle.quantize.specs.Finished.{Setting, wholeFrames}
 use Rattle.quantize.specs.Place.{At}
-use Rattle.quantize.specs.Engine.{roomy, Stands, spotOf, roomFor, behindFrames}
+use Rattle.quantize.specs.Engine.{Stands, spotOf, roomFor, behindFrames}
 use Rattle.quantize.proofs.Dotting.{roomy-same}
 use Rattle.quantize.proofs.Places.{mod-at, div-at}
 

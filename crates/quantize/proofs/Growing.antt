@@ -11,11 +11,11 @@ use lib.ListN.{length, take, drop, length-append, take-append-drop}
 use lib.Seq.{length-take-le, take-at}
 use Rattle.error.specs.Choice.{if}
 use Rattle.image.specs.Geometry.{rowBytes}
-use Rattle.quantize.specs.Bits.{upto}
+use Rattle.rules.specs.Bits.{upto}
 use Rattle.quantize.specs.Finished.{Setting, count, dotOf, byteAt, finished, newly, most, takes}
 use Rattle.quantize.proofs.Places.{count-rows}
 use Rattle.quantize.proofs.Counting.{count-mono}
-use Rattle.quantize.proofs.Grown.{length-upto, upto-ext, upto-add}
+use Rattle.rules.proofs.Grown.{length-upto, upto-ext, upto-add}
 use Rattle.quantize.proofs.Depending.{byte-counted}
 
 -- ---- how many are taken

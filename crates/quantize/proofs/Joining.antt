@@ -13,12 +13,11 @@ use Rattle.error.specs.Choice.{if}
 use Rattle.image.specs.Geometry.{rowBytes, planeBytes}
 use Rattle.options.specs.declared.Quantize.{Quantize}
 use Rattle.options.specs.declared.Quantize.the-variants.{Dither}
-use Rattle.quantize.specs.Bits.{upto}
-use Rattle.quantize.specs.Finished.{Setting, count, frame, dotOf, bitAt, byteAt, finished}
-use Rattle.quantize.specs.Engine.{setting}
-use Rattle.quantize.proofs.Appending.{appended-ext}
+use Rattle.rules.specs.Bits.{upto}
+use Rattle.quantize.specs.Finished.{Setting, count, frame, dotOf, bitAt, byteAt, finished, setting}
+use Rattle.rules.proofs.Appending.{appended-ext}
 use Rattle.quantize.proofs.Places.{count-rows}
-use Rattle.quantize.proofs.Grown.{length-upto, upto-ext, upto-add}
+use Rattle.rules.proofs.Grown.{length-upto, upto-ext, upto-add}
 use Rattle.quantize.proofs.Depending.{byte-counted}
 
 -- ---- the bytes of rows

@@ -8,11 +8,11 @@ use native.Mathlib.Nat.{mod-lt, eq-or-lt-of-le, add-assoc}
 use native.Mathlib.Omega.{arith}
 use lib.ListN.{length, length-append}
 use lib.Seq.{getD-append-seam}
-use Rattle.quantize.specs.Diffusion.{Scan, Direction, toRight, residualAt, valueAt}
+use Rattle.rules.specs.Diffusion.{Scan, Direction, toRight, residualAt, valueAt}
 use Rattle.quantize.specs.Finished.{frame}
-use Rattle.quantize.specs.Machine.{Carry, valueOf, diffused}
+use Rattle.rules.specs.Carry.{Carry, valueOf, diffused}
 use Rattle.quantize.specs.Engine.{Diffusion}
-use Rattle.quantize.proofs.Range.{Held}
+use Rattle.rules.proofs.Range.{Held}
 use Rattle.quantize.proofs.Places.{div-at, mod-at, next-row}
 use Rattle.quantize.proofs.Depending.{place-of, earlier, residual-same}
 use Rattle.quantize.proofs.Following.{follows, corner-small, diffusion-on, diffusion-row, diffusion-frame}

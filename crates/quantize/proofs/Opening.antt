@@ -12,14 +12,14 @@ use lib.Seq.{take-length}
 use lib.Pow.{pow-pos}
 use Rattle.options.specs.declared.Quantize.{Quantize}
 use Rattle.options.specs.declared.Quantize.the-variants.{Threshold, Dither, Ordered}
-use Rattle.quantize.specs.Rule.{Rule, threshold, dither, ordered, rightwards}
-use Rattle.quantize.specs.Finished.{Setting, frame, dotOf, finished}
-use Rattle.quantize.specs.Machine.{Carry, emitted}
-use Rattle.quantize.specs.Asked.{meaning, roomy}
-use Rattle.quantize.specs.Steps.{Table, carryOf}
-use Rattle.quantize.specs.Engine.{setting, Begins, Keeps, Holds, Tabled, Opens}
+use Rattle.rules.specs.Rule.{Rule, threshold, dither, ordered, rightwards, meaning, roomy}
+use Rattle.quantize.specs.Finished.{Setting, frame, dotOf, finished, setting}
+use Rattle.rules.specs.Carry.{Carry}
+use Rattle.quantize.specs.Machine.{emitted}
+use Rattle.rules.specs.Kernels.{Table, carryOf}
+use Rattle.quantize.specs.Engine.{Begins, Keeps, Holds, Tabled, Opens}
 use Rattle.laws.proofs.Octets.{octets-by}
-use Rattle.quantize.proofs.Range.{Held}
+use Rattle.rules.proofs.Range.{Held}
 use Rattle.quantize.proofs.Packing.{begun-none}
 use Rattle.quantize.proofs.Growing.{finished-none}
 use Rattle.quantize.proofs.Emitting.{kept}

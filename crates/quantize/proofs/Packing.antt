@@ -8,10 +8,10 @@ use native.Mathlib.Numerals.{add-one}
 use native.Mathlib.Omega.{arith}
 use borrow.Author.Tests.{lt-ltb, le-ltb}
 use Rattle.image.specs.Geometry.{rowBytes}
-use Rattle.quantize.specs.Bits.{appended, digits}
+use Rattle.rules.specs.Bits.{appended, digits}
 use Rattle.quantize.specs.Finished.{Setting, Bytewise, count, bitAt, byteAt}
 use Rattle.quantize.specs.Place.{begunBy, Begun}
-use Rattle.quantize.proofs.Appending.{appended-ext, digits-tail}
+use Rattle.rules.proofs.Appending.{appended-ext, digits-tail}
 use Rattle.quantize.proofs.Places.{div-at, mod-at, col-row, on-row, on-column, count-now}
 
 pub bit-in : (w : ℕ) (d : ℕ → ℕ) (r c : ℕ) → c < w → bitAt w d r c ≡ d (r * w + c)

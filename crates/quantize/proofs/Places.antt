@@ -6,7 +6,7 @@ use mathlib.Core.Logic.{_⊎_, ⊎-elim}
 use native.Mathlib.Nat.{mul-add-div-right, mul-add-mod-self-right, mod-eq-of-lt, mod-lt, div-eq-of-lt, div-add-mod', eq-or-lt-of-le, add-zero, add-mul, one-mul, add-assoc}
 use native.Mathlib.Omega.{arith}
 use Rattle.image.specs.Geometry.{rowBytes}
-use Rattle.quantize.specs.Rule.{Rule, threshold, dither, ordered}
+use Rattle.rules.specs.Rule.{Rule, threshold, dither, ordered}
 use Rattle.quantize.specs.Finished.{Setting, begunBytes, Bytewise, count}
 use Rattle.quantize.specs.Place.{At}
 

@@ -15,9 +15,9 @@ use Rattle.quantize.specs.declared.turn.Part.{Part}
 use Rattle.quantize.specs.declared.turn.Place.{Place}
 use Rattle.quantize.specs.declared.turn.Taken.{Taken}
 use Rattle.quantize.specs.Finished.{Bytewise}
-use Rattle.quantize.specs.Steps.{ruleOf, Shares, Advances, Taking, Takes}
-use Rattle.quantize.proofs.Differences.{lt-or-le}
-use Rattle.quantize.proofs.Pieces.{piece, piece-at, piece-length}
+use Rattle.quantize.specs.Turn.{ruleOf, Shares, Advances, Taking, Takes}
+use Rattle.rules.proofs.Differences.{lt-or-le}
+use Rattle.rules.proofs.Pieces.{piece, piece-at, piece-length}
 use Rattle.quantize.proofs.Turning.{turn-on, turn-byte}
 use Rattle.quantize.proofs.Running.{Loop, begun-small, loop-on, loop-byte}
 

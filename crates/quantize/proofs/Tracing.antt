@@ -9,61 +9,23 @@ use native.Mathlib.Nat.{add-zero, add-suc, add-assoc}
 use native.Mathlib.Omega.{arith}
 use borrow.Author.Tests.{le-leb, lt-leb}
 use lib.Dec.{leb}
-use lib.ListN.{length, getD, drop, length-set, length-append}
-use lib.Seq.{drop-set-lt, getD-drop}
+use lib.ListN.{length, getD, drop, length-append}
+use lib.Seq.{getD-drop}
 use Rattle.laws.proofs.Tests.{if-true, if-false}
-use Rattle.quantize.specs.Bits.{bit, appended}
-use Rattle.quantize.specs.Diffusion.{toRight, residual}
-use Rattle.quantize.specs.Rule.{Rule, threshold, dither, ordered}
-use Rattle.quantize.specs.Asked.{carries}
+use Rattle.rules.specs.Bits.{bit, appended}
+use Rattle.rules.specs.Rule.{Rule, threshold, dither, ordered}
 use Rattle.quantize.specs.Finished.{Setting, Bytewise, count}
-use Rattle.quantize.specs.Machine.{Carry, State, Step, valueOf, diffused, machineDot, next, lastOf, byteStep, stepOf, carried, emitted}
+use Rattle.rules.specs.Carry.{Carry, machineDot, next}
+use Rattle.quantize.specs.Machine.{State, Step, lastOf, byteStep, stepOf, carried, emitted}
 use Rattle.quantize.specs.Place.{At}
-use Rattle.quantize.specs.Steps.{rowCarry, rowBit}
-use Rattle.quantize.proofs.Signed.{never}
-use Rattle.quantize.proofs.Differences.{lt-or-le}
+use Rattle.rules.specs.Kernels.{rowCarry, rowBit}
+use Rattle.rules.proofs.Differences.{lt-or-le}
 use Rattle.quantize.proofs.Places.{bytewise, count-last, count-open, column-is, frame-row-is, at-inside}
+use Rattle.rules.proofs.RowKept.{next-long}
 
 or-true : (a : Bool) → (a || true) ≡ true
 or-true true = refl
 or-true false = refl
-
--- ---- numbers that a row's part leaves alone
-
-next-beyond : (rule : Rule) (w y x g : ℕ) (c : Carry) (k : ℕ) → x < k → drop k (next rule w y x g c .kept) ≡ drop k (c .kept)
-unfolding next diffused
-next-beyond (threshold t) w y x g c k h = refl
-next-beyond dither w y x g c k h = drop-set-lt k (c .kept) x (residual (valueOf toRight w y x g c)) h
-next-beyond (ordered side table) w y x g c k h = refl
-
-pub next-long : (rule : Rule) (w y x g : ℕ) (c : Carry) → length (next rule w y x g c .kept) ≡ length (c .kept)
-unfolding next diffused
-next-long (threshold t) w y x g c = refl
-next-long dither w y x g c = length-set (c .kept) x (residual (valueOf toRight w y x g c))
-next-long (ordered side table) w y x g c = refl
-
-module _ (rule : Rule) (w y x : ℕ) (gray : List ℕ) (c : Carry) where
-  pub row-beyond : (k i : ℕ) → x + i ≤ k → drop k (rowCarry rule w y x gray c i .kept) ≡ drop k (c .kept)
-  unfolding rowCarry
-  row-beyond k zero h = refl
-  row-beyond k (suc i) h = next-beyond rule w y (x + i) (getD gray i 0) (rowCarry rule w y x gray c i) k (omega arith) ∙ row-beyond k i (omega arith)
-
-  pub row-long : (i : ℕ) → length (rowCarry rule w y x gray c i .kept) ≡ length (c .kept)
-  unfolding rowCarry
-  row-long zero = refl
-  row-long (suc i) = next-long rule w y (x + i) (getD gray i 0) (rowCarry rule w y x gray c i) ∙ row-long i
-
--- a rule without carries leaves them all
-next-spared : (rule : Rule) (w y x g : ℕ) (c : Carry) → carries rule ≡ false → next rule w y x g c .kept ≡ c .kept
-unfolding next
-next-spared (threshold t) w y x g c h = refl
-next-spared dither w y x g c h = never (sym h)
-next-spared (ordered side table) w y x g c h = refl
-
-pub row-spared : (rule : Rule) (w y x : ℕ) (gray : List ℕ) (c : Carry) → carries rule ≡ false → (i : ℕ) → rowCarry rule w y x gray c i .kept ≡ c .kept
-unfolding rowCarry
-row-spared rule w y x gray c h zero = refl
-row-spared rule w y x gray c h (suc i) = next-spared rule w y (x + i) (getD gray i 0) (rowCarry rule w y x gray c i) h ∙ row-spared rule w y x gray c h i
 
 -- ---- a sample of a row that is finished byte after byte
 

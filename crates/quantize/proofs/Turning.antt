@@ -12,15 +12,17 @@ use Rattle.quantize.specs.declared.engine.Quantizer.{Quantizer}
 use Rattle.quantize.specs.declared.turn.Next.{Next}
 use Rattle.quantize.specs.declared.turn.Part.{Part}
 use Rattle.quantize.specs.declared.turn.Place.{Place}
-use Rattle.quantize.specs.Bits.{appended}
-use Rattle.quantize.specs.Rule.{Rule}
-use Rattle.quantize.specs.Asked.{meaning, carries, Served}
+use Rattle.rules.specs.Bits.{appended}
+use Rattle.rules.specs.Rule.{Rule, meaning, carries}
+use Rattle.quantize.specs.Turn.{Served, stateOf, ruleOf, Sound, Dotted, Advances}
 use Rattle.quantize.specs.Finished.{Setting, Bytewise}
-use Rattle.quantize.specs.Machine.{Carry, State, carried, emitted}
+use Rattle.rules.specs.Carry.{Carry}
+use Rattle.quantize.specs.Machine.{State, carried, emitted}
 use Rattle.quantize.specs.Place.{At}
-use Rattle.quantize.specs.Steps.{rowCarry, rowBit, carryOf, stateOf, ruleOf, Sound, Dotted, Advances}
+use Rattle.rules.specs.Kernels.{rowCarry, rowBit, carryOf}
 use Rattle.quantize.proofs.Dotting.{carries-same}
-use Rattle.quantize.proofs.Tracing.{row-beyond, row-long, row-spared, carried-add, emitted-add, part-on, part-last}
+use Rattle.rules.proofs.RowKept.{row-beyond, row-long, row-spared}
+use Rattle.quantize.proofs.Tracing.{carried-add, emitted-add, part-on, part-last}
 
 -- a quantizer's setting, wherever it stands
 pub record Suits (q : Quantizer) (s : Setting) : Type 0 where
@@ -37,7 +39,7 @@ pub record Moved (s : Setting) (n : ℕ) (p : Place) (xs : List ℕ) (work : Lis
 pub record Turn (q : Quantizer) (p : Place) (xs : List ℕ) (work : List ℤ) (m : ℕ) (bytes : List ℕ) (p′ : Place) (work′ : List ℤ) : Type 0 where
   pub sound : Sound (q .rule) (q .width) (q .height) (p′ .row) (p′ .column) (p′ .begun) (p′ .corner) (length work′)
   pub long : length work′ ≡ length work
-  pub beyond : drop (2 * q .width) work′ ≡ drop (2 * q .width) work
+  pub beyond : drop (q .width) work′ ≡ drop (q .width) work
   pub spared : carries (meaning (q .rule)) ≡ false → work′ ≡ work
   pub moves : (s : Setting) (n : ℕ) → Suits q s → At s n (p .frames) (p .row) (p .column) → Moved s n p xs work m bytes p′ work′
 
@@ -96,7 +98,7 @@ module _ (q : Quantizer) (p : Place) (xs gray : List ℕ) (work : List ℤ) (so 
           served = subst (λ (k : ℕ). Served (q .rule) (q .width) k) (sym long-is) (so .served);
         };
         long = long-is;
-        beyond = sym (ap (drop (2 * q .width)) kept-is) ∙ row-beyond rule (q .width) (p .row) (p .column) gray (carryOf (p .corner) work) (2 * q .width) (length gray) (omega arith);
+        beyond = sym (ap (drop (q .width)) kept-is) ∙ row-beyond rule (q .width) (p .row) (p .column) gray (carryOf (p .corner) work) (q .width) (length gray) (omega arith);
         spared = λ h. sym kept-is ∙ row-spared rule (q .width) (p .row) (p .column) gray (carryOf (p .corner) work) (carries-same (q .rule) (q .table) ∙ h) (length gray);
         moves = moves;
       }

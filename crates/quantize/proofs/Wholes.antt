@@ -20,13 +20,13 @@ use Rattle.options.specs.declared.Quantize.{Quantize}
 use Rattle.image.specs.Geometry.{rowBytes}
 use Rattle.quantize.specs.declared.engine.Quantizer.{Quantizer}
 use Rattle.quantize.specs.declared.engine.Ran.{Ran}
-use Rattle.quantize.specs.Finished.{Setting, count, byteAt, dotOf, finished, takes}
-use Rattle.quantize.specs.Asked.{meaning, knownRule, roomy}
-use Rattle.quantize.specs.Engine.{setting, Opens, Holds, Runs}
+use Rattle.quantize.specs.Finished.{Setting, count, byteAt, dotOf, finished, takes, setting}
+use Rattle.rules.specs.Rule.{meaning, knownRule, roomy}
+use Rattle.quantize.specs.Engine.{Opens, Holds, Runs}
 use Rattle.quantize.specs.Whole.{refusedBy, quantized, Quantizes}
 use Rattle.quantize.proofs.Places.{count-rows}
 use Rattle.quantize.proofs.Counting.{most-is}
-use Rattle.quantize.proofs.Grown.{length-upto}
+use Rattle.rules.proofs.Grown.{length-upto}
 
 -- ---- the refusals
 
@@ -174,7 +174,7 @@ module _ (rule : Quantize) (w h : ℕ) (gray out : List ℕ) (work : List ℤ) (
           record {
             emits = subst (λ (a : Answer (List ℕ)). Emits a (gives (r .written)) out out′) (sym (given-is z))
                 (emits-all _ out out′ (r .written) (omega (arith, long, fits)) (written-is ∙ sym long) bytes-are);
-            beyond = subst (λ (n : ℕ). drop (2 * n) work′ ≡ drop (2 * n) work) (sym (H .stands .width)) (R .beyond);
+            beyond = subst (λ (n : ℕ). drop n work′ ≡ drop n work) (sym (H .stands .width)) (R .beyond);
             spared = λ n. R .spared (rw (o .ruleIs) n);
             refused = λ code place f. zero-one (cc);
           }

@@ -11,17 +11,13 @@ use Rattle.options.specs.declared.Quantize.{Quantize}
 use Rattle.quantize.specs.declared.engine.Quantizer.{Quantizer}
 use Rattle.quantize.specs.declared.engine.Ran.{Ran}
 use Rattle.quantize.specs.declared.engine.Spot.{Spot}
-use Rattle.quantize.specs.Diffusion.{Direction, Scan, onLeft, above, residualAt}
-use Rattle.quantize.specs.Rule.{Rule, threshold, dither, ordered, rightwards}
-use Rattle.quantize.specs.Asked.{meaning, knownRule, carries, roomy, Served}
-use Rattle.quantize.specs.Finished.{Setting, count, frame, dotOf, newly, takes}
-use Rattle.quantize.specs.Machine.{Carry, State, clamp, carried, emitted}
+use Rattle.rules.specs.Diffusion.{Direction, Scan, onLeft, above, residualAt}
+use Rattle.rules.specs.Rule.{Rule, threshold, dither, ordered, rightwards, meaning, knownRule, carries, roomy}
+use Rattle.quantize.specs.Turn.{Served, stateOf, ruleOf}
+use Rattle.quantize.specs.Finished.{Setting, count, frame, dotOf, newly, takes, setting}
+use Rattle.rules.specs.Carry.{Carry, clamp}
+use Rattle.quantize.specs.Machine.{State, carried, emitted}
 use Rattle.quantize.specs.Place.{At, Begun}
-use Rattle.quantize.specs.Steps.{stateOf, ruleOf}
-pub use Rattle.quantize.specs.Asked.{meaning, roomy}
-
-abbrev pub setting : Quantize → ℕ → ℕ → ℕ → Setting
-setting rule w h frames = record { rule = meaning rule; width = w; height = h; frames = frames }
 
 -- ---- what a quantizer stands for
 
@@ -108,7 +104,7 @@ pub record Runs (q : Quantizer) (samples out : List ℕ) (work : List ℤ) (r : 
   pub taken : r .taken ≤ length samples
   pub written : r .written ≤ length out
   pub past : drop (r .written) out′ ≡ drop (r .written) out
-  pub beyond : drop (2 * q .width) work′ ≡ drop (2 * q .width) work
+  pub beyond : drop (q .width) work′ ≡ drop (q .width) work
   pub spared : carries (meaning (q .rule)) ≡ false → work′ ≡ work
   pub idle : (Ready (q .rule) (q .width) (q .height) (length work) → ⊥) → Idles q out work r out′ work′
   pub counts : (s : Setting) (n : ℕ) → Stands q s n → Counts q s n (length samples) (length out) (length work) r

@@ -6,12 +6,11 @@ use mathlib.Core.List.{List, [], _∷_}
 use lib.IntN.{pos, negsuc}
 use lib.ListN.{replicate}
 use Rattle.options.specs.declared.Quantize.the-variants.{Threshold, Dither}
-use Rattle.quantize.specs.Bits.{upto, appended}
-use Rattle.quantize.specs.Diffusion.{part, value, white, residual, valueFrom, handed, rowValue, above, valueAt, residualAt}
-use Rattle.quantize.specs.Ordered.{number, numbers}
-use Rattle.quantize.specs.Rule.{dither, rightwards, dot}
-use Rattle.quantize.specs.Finished.{begunBytes, count, frame, dotOf, bitAt, byteAt, finished, most, takes}
-use Rattle.quantize.specs.Engine.{setting}
+use Rattle.rules.specs.Bits.{upto, appended}
+use Rattle.rules.specs.Diffusion.{part, value, white, residual, valueFrom, handed, rowValue, above, valueAt, residualAt}
+use Rattle.rules.specs.Ordered.{number, numbers}
+use Rattle.rules.specs.Rule.{dither, rightwards, dot}
+use Rattle.quantize.specs.Finished.{begunBytes, count, frame, dotOf, bitAt, byteAt, finished, most, takes, setting}
 
 -- a begun row has finished its whole bytes only, and a full row all of them
 begun : finished (setting (Threshold 128) 9 2 1) (replicate 8 255) ≡ 0xff ∷ []

@@ -7,9 +7,10 @@ use lib.Dec.{ltb, leb, eqb}
 use lib.ListN.{length, getD, drop}
 use Rattle.error.specs.Choice.{if}
 use Rattle.image.specs.Geometry.{rowBytes}
-use Rattle.quantize.specs.Bits.{upto, bit, digits}
-use Rattle.quantize.specs.Diffusion.{Scan}
-use Rattle.quantize.specs.Rule.{Rule, threshold, dither, ordered, dot}
+use Rattle.rules.specs.Bits.{upto, bit, digits}
+use Rattle.rules.specs.Diffusion.{Scan}
+use Rattle.rules.specs.Rule.{Rule, threshold, dither, ordered, dot, meaning}
+use Rattle.options.specs.declared.Quantize.{Quantize}
 
 -- what samples are quantised for: at most so many frames of width × height
 pub record Setting : Type 0 where
@@ -17,6 +18,9 @@ pub record Setting : Type 0 where
   pub width : ℕ
   pub height : ℕ
   pub frames : ℕ
+
+abbrev pub setting : Quantize → ℕ → ℕ → ℕ → Setting
+setting rule w h frames = record { rule = meaning rule; width = w; height = h; frames = frames }
 
 -- how many bytes c samples of a begun row have finished, where the row is row y of its frame: the rule's say
 unfoldable pub begunBytes : Rule → ℕ → ℕ → ℕ

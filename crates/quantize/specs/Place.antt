@@ -1,7 +1,7 @@
 -- Where the next sample goes, and what the begun byte holds.
 use Prim.Native.Nat.{ℕ, _+_, _-_, _*_, _/_, _%_, _≤_, _<_}
 use mathlib.Core.Path.{_≡_}
-use Rattle.quantize.specs.Bits.{digits}
+use Rattle.rules.specs.Bits.{digits}
 use Rattle.quantize.specs.Finished.{Setting, bitAt}
 
 -- after n samples so many frames are not full, and the next sample goes to this row and column

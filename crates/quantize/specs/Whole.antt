@@ -10,10 +10,8 @@ use Rattle.error.specs.Choice.{if}
 use Rattle.error.specs.Answer.{Answer, gives, refuses}
 use Rattle.error.specs.Emits.{Emits}
 use Rattle.options.specs.declared.Quantize.{Quantize}
-use Rattle.quantize.specs.Finished.{finished}
-use Rattle.quantize.specs.Asked.{meaning, knownRule, carries, roomy}
-use Rattle.quantize.specs.Engine.{setting}
-pub use Rattle.quantize.specs.Asked.{knownRule}
+use Rattle.quantize.specs.Finished.{finished, setting}
+use Rattle.rules.specs.Rule.{meaning, knownRule, carries, roomy}
 
 -- the refusal of so many samples and numbers of work, 0 where there is none
 abbrev pub refusedBy : Quantize → ℕ → ℕ → ℕ → ℕ → ℕ
@@ -32,9 +30,9 @@ quantized rule w h gray work =
     (gives (finished (setting rule w h 1) (take (w * h) gray)))
     (refuses (refusedBy rule w h (length gray) work) 0)
 
--- the plane or the refusal; a work buffer is altered by a rule that keeps carries alone, where it is not refused, in its first 2 × width numbers
+-- the plane or the refusal; a work buffer is altered by a rule that keeps carries alone, where it is not refused, in its first `width` numbers
 pub record Quantizes (rule : Quantize) (w h : ℕ) (gray out : List ℕ) (work : List ℤ) (r : Answer ℕ) (out′ : List ℕ) (work′ : List ℤ) : Type 0 where
   pub emits : Emits (quantized rule w h gray (length work)) r out out′
-  pub beyond : drop (2 * w) work′ ≡ drop (2 * w) work
+  pub beyond : drop w work′ ≡ drop w work
   pub spared : carries (meaning rule) ≡ false → work′ ≡ work
   pub refused : (code place : ℕ) → r ≡ refuses code place → work′ ≡ work

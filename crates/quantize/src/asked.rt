@@ -1,8 +1,9 @@
 // What a setting asks for: a known side, and a work buffer where the rule keeps carries.
 use options::Quantize;
 ghost use mathlib.Core.Path.{_≡_};
-ghost use Rattle.quantize.specs.Asked.{meaning, knownSide, knownRule};
-ghost use Rattle.quantize.specs.Asked;
+ghost use Rattle.rules.specs.Rule.{meaning, knownRule};
+ghost use Rattle.rules.specs.Ordered.{knownSide};
+ghost use Rattle.rules.specs.Rule;
 
 fn known(side: u8) -> bool
     ensures { λ r. ⌜ r ≡ knownSide side ⌝ }
@@ -29,7 +30,7 @@ pub fn known_rule(rule: Quantize) -> bool
 
 // Whether a work buffer of so many numbers is long enough.
 pub(crate) fn enough(rule: Quantize, width: usize, work: usize) -> bool
-    ensures { λ r. ⌜ r ≡ Asked.roomy (meaning rule) width work ⌝ }
+    ensures { λ r. ⌜ r ≡ Rule.roomy (meaning rule) width work ⌝ }
 {
     match rule {
         Quantize::Threshold(_) => true,
@@ -39,7 +40,7 @@ pub(crate) fn enough(rule: Quantize, width: usize, work: usize) -> bool
 }
 
 pub fn roomy(rule: Quantize, width: u32, work: usize) -> bool
-    ensures { λ r. ⌜ r ≡ Asked.roomy (meaning rule) width work ⌝ }
+    ensures { λ r. ⌜ r ≡ Rule.roomy (meaning rule) width work ⌝ }
 {
     enough(rule, width as usize, work)
 }

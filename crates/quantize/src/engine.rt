@@ -1,15 +1,15 @@
 // The quantising engine, which whole planes and making sessions run.
 use crate::asked::enough;
 use crate::asked::known_rule;
-use crate::ordered::numbers;
 use crate::turn::Place;
 use crate::turn::fill_row;
 use crate::turn::share;
 use crate::turn::take;
 use options::Quantize;
+use rules::numbers;
 ghost use mathlib.Core.Path.{_≡_};
 ghost use Rattle.quantize.specs.Engine.{Opens, Runs, Tabled, spotOf, roomFor, behindFrames};
-ghost use Rattle.quantize.specs.Steps.{Able};
+ghost use Rattle.quantize.specs.Turn.{Able};
 
 // Samples of at most so many frames on their way to bytes.
 pub struct Quantizer {

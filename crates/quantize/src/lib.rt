@@ -1,10 +1,6 @@
-// 8-bit gray to packed bits: the rules threshold, dither and ordered, whole planes and the engine below them.
+// 8-bit gray to packed bits under a rule: the engine, and whole planes over it.
 mod asked;
-mod dither;
 mod engine;
-mod ordered;
-mod row;
-mod threshold;
 mod turn;
 mod whole;
 

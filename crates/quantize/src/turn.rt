@@ -1,16 +1,15 @@
 // A turn of the engine: whole bytes at once, then the samples of one byte.
-use crate::dither::dither_dots;
-use crate::ordered::ordered_dots;
-use crate::row::dither_bytes;
-use crate::threshold::threshold_bytes;
-use crate::threshold::threshold_dots;
 use options::Quantize;
+use rules::dither_bytes;
+use rules::dither_dots;
+use rules::ordered_dots;
+use rules::threshold_bytes;
+use rules::threshold_dots;
 ghost use mathlib.Core.Path.{_≡_};
 ghost use Prim.Native.Nat.{_+_, _-_, _*_, _^_, _≤_, _<_};
 ghost use lib.ListN.{length};
-ghost use Rattle.quantize.specs.Asked.{Served};
-ghost use Rattle.quantize.specs.Steps.{Wholes, AtOnce, Shares, Dotting, Dotted, Advancing, Advances, Taking, Takes};
-ghost use Rattle.quantize.specs.Row.{Filling, Fills, RowFilling, RowFilled};
+ghost use Rattle.quantize.specs.Turn.{Served, Wholes, AtOnce, Shares, Dotting, Dotted, Advancing, Advances, Taking, Takes, Fills, RowFilling, RowFilled};
+ghost use Rattle.rules.specs.Row.{Filling};
 
 // Where the next sample goes, and what is kept for it.
 pub struct Place {

@@ -57,9 +57,9 @@ Within n [] = Unit {0}
 Within n (c ∷ cs) = (lentOf c ≤ n) × Within n cs
 
 -- what is told of each, joined
-unfoldable pub joined : {A : Type 0} → (A → List ℕ) → List A → List ℕ
-joined f [] = []
-joined f (a ∷ rest) = f a ++ joined f rest
+unfoldable pub concatMap : {A : Type 0} → (A → List ℕ) → List A → List ℕ
+concatMap f [] = []
+concatMap f (a ∷ rest) = f a ++ concatMap f rest
 
 -- a list in front of what stands behind it in another
 abbrev pub over : List ℕ → List ℕ → List ℕ

@@ -13,7 +13,7 @@ use Rattle.replay.specs.declared.call.Named.{Named}
 use Rattle.replay.specs.declared.call.Named.the-variants.{Close, Feed}
 use Rattle.replay.specs.declared.call.Part.{Part}
 use Rattle.replay.specs.declared.decode.Called.{Called}
-use Rattle.replay.specs.Calls.{named, roomOf, lentOf, joined, over, Spares, threeOf, replaced}
+use Rattle.replay.specs.Calls.{named, roomOf, lentOf, concatMap, over, Spares, threeOf, replaced}
 
 -- the three numbers that tell an answer
 abbrev pub numbersOf : Answer Told → List ℕ
@@ -47,22 +47,23 @@ callsOf m (c ∷ cs) file out ext =
 -- ---- the contract
 
 -- what the replies of the machine say, and the session after them
-pub record Shows (m : Model) (cs : List Call) (out ext answers : List ℕ) (r : DecodeReplayed) (out′ ext′ answers′ : List ℕ) : Type 0 where
+pub record RepliesAs (m : Model) (cs : List Call) (out ext answers : List ℕ) (r : DecodeReplayed)
+    (out′ ext′ answers′ : List ℕ) : Type 0 where
   pub calls : r .calls ≡ length (replies m cs)
-  pub outputs : out′ ≡ over (joined output (replies m cs)) out
+  pub outputs : out′ ≡ over (concatMap output (replies m cs)) out
   pub extension : ext′ ≡ left (replies m cs) ext
-  pub answered : answers′ ≡ over (joined told (replies m cs)) answers
+  pub answered : answers′ ≡ over (concatMap told (replies m cs)) answers
   pub stands : Stands (r .session) (finally m cs)
 
 -- a run of the named calls on a session that stands for a model, and on any
-pub record Runs (s : DecodeSession) (cs : List Named) (file out ext answers : List ℕ) (r : DecodeReplayed)
+pub record RunsCalls (s : DecodeSession) (cs : List Named) (file out ext answers : List ℕ) (r : DecodeReplayed)
     (out′ ext′ answers′ : List ℕ) : Type 0 where
-  pub does : (m : Model) → Stands s m → Shows m (callsOf m cs file out ext) out ext answers r out′ ext′ answers′
+  pub does : (m : Model) → Stands s m → RepliesAs m (callsOf m cs file out ext) out ext answers r out′ ext′ answers′
   pub spares : Spares cs (r .calls) out answers ext out′ answers′ ext′
 
 abbrev pub Replays : DecodeSession → List ℕ → List ℕ → List ℕ → List ℕ → List ℕ → DecodeReplayed → List ℕ → List ℕ → List ℕ → Type 0
 Replays s numbers file out ext answers r out′ ext′ answers′ =
-    Runs s (named numbers (length file) (length out) (length ext) (length answers)) file out ext answers r out′ ext′ answers′
+    RunsCalls s (named numbers (length file) (length out) (length ext) (length answers)) file out ext answers r out′ ext′ answers′
 
 -- ---- one call
 
@@ -78,17 +79,17 @@ pub record FeedsPart (s : DecodeSession) (p : Part) (file out ext : List ℕ) (a
   pub extIs : ext′ ≡ front ++ drop (p .lent) ext
 
 -- what the model says of a call: its numbers, its output, the extension buffer's front, and the model after it
-pub record Calls (m : Model) (call : Call) (r : Called) (part front : List ℕ) : Type 0 where
+pub record CallsAs (m : Model) (call : Call) (r : Called) (part front : List ℕ) : Type 0 where
   pub answer : numbersOf (outcome m call .reply .answer) ≡ threeOf (r .answer)
   pub output : outcome m call .reply .output ≡ part
   pub extension : outcome m call .reply .extension ≡ front
   pub stands : Stands (r .session) (outcome m call .next)
 
 -- one call, named
-pub record Makes (s : DecodeSession) (c : Named) (file out ext : List ℕ) (at : ℕ) (r : Called) (out′ ext′ : List ℕ) : Type 0 where
+pub record MakesCall (s : DecodeSession) (c : Named) (file out ext : List ℕ) (at : ℕ) (r : Called) (out′ ext′ : List ℕ) : Type 0 where
   pub part : List ℕ
   pub front : List ℕ
-  pub does : (m : Model) → Stands s m → Calls m (callOf c file (drop at out) ext) r part front
+  pub does : (m : Model) → Stands s m → CallsAs m (callOf c file (drop at out) ext) r part front
   pub partLong : length part ≡ roomOf c
   pub frontLong : length front ≡ lentOf c
   pub outIs : out′ ≡ replaced out at part

@@ -17,7 +17,7 @@ ghost use mathlib.Core.Path.{_≡_};
 ghost use lib.ListN.{length};
 ghost use Rattle.decode_session.specs.Session.{fedMeaning, closedMeaning};
 ghost use Rattle.replay.specs.Calls.{Fits, There, threeOf};
-ghost use Rattle.replay.specs.Decode.{numbersOf, FeedsPart, Makes, Replays};
+ghost use Rattle.replay.specs.Decode.{numbersOf, FeedsPart, MakesCall, Replays};
 
 // The session after a call, and the call's answer.
 struct Called {
@@ -82,7 +82,7 @@ fn make_call(
 ) -> Called
     requires { ⌜ at ≤ length (now out) ⌝ }
     requires { ⌜ There call (length (now file)) (length (now out) - at) (length (now ext)) ⌝ }
-    ensures { λ r. ⌜ Makes session call (now (file .entry)) (now (out .entry)) (now (ext .entry)) at
+    ensures { λ r. ⌜ MakesCall session call (now (file .entry)) (now (out .entry)) (now (ext .entry)) at
         r (now (out .exit)) (now (ext .exit)) ⌝ }
 {
     match call {
@@ -107,7 +107,7 @@ fn make_call(
     }
 }
 
-// Runs the calls on a session.
+// RunsCalls the calls on a session.
 pub fn replay_decode(
     session: DecodeSession,
     calls: &[usize],

@@ -17,7 +17,7 @@ ghost use mathlib.Core.Path.{_≡_};
 ghost use lib.ListN.{length};
 ghost use Rattle.encode_session.specs.Session.{fedMeaning, closedMeaning};
 ghost use Rattle.replay.specs.Calls.{Fits, There, threeOf};
-ghost use Rattle.replay.specs.Encode.{numbersOf, FeedsPart, Makes, Replays};
+ghost use Rattle.replay.specs.Encode.{numbersOf, FeedsPart, MakesCall, Replays};
 
 // The session after a call, and the call's answer.
 struct Called {
@@ -86,7 +86,7 @@ fn make_call(
 ) -> Called
     requires { ⌜ at ≤ length (now out) ⌝ }
     requires { ⌜ There call (length (now samples)) (length (now out) - at) (length (now work)) ⌝ }
-    ensures { λ r. ⌜ Makes session call (now (samples .entry)) (now (work .entry)) (now (out .entry)) at
+    ensures { λ r. ⌜ MakesCall session call (now (samples .entry)) (now (work .entry)) (now (out .entry)) at
         r (now (work .exit)) (now (out .exit)) ⌝ }
 {
     match call {
@@ -111,7 +111,7 @@ fn make_call(
     }
 }
 
-// Runs the calls on a session.
+// RunsCalls the calls on a session.
 pub fn replay_encode(
     session: EncodeSession,
     calls: &[usize],

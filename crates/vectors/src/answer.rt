@@ -1,40 +1,41 @@
 // Answers as numbers: a refusal is its number and place, an acceptance 0 and the values given.
-use crate::list::number;
-use crate::list::number_if;
+use crate::list::count;
+use crate::list::numbers;
+use crate::same::same_numbers;
 use error::Checked;
 use error::WbmpError;
 use error::Written;
 
 // Whether an answer is as the list has it, and where the list's ends.
-pub struct Match {
+pub(crate) struct Match {
     pub same: bool,
     pub next: usize,
 }
 
 // An answer of few numbers.
-pub fn few(a: usize, b: usize, c: usize, d: usize) -> [usize; 11] {
+pub(crate) fn few(a: usize, b: usize, c: usize, d: usize) -> [usize; 11] {
     [a, b, c, d, 0, 0, 0, 0, 0, 0, 0]
 }
 
-pub fn refused(e: WbmpError) -> [usize; 11] {
+pub(crate) fn refused(e: WbmpError) -> [usize; 11] {
     few(e.code as usize, e.offset, 0, 0)
 }
 
-pub fn checked(c: Checked) -> [usize; 11] {
+pub(crate) fn checked(c: Checked) -> [usize; 11] {
     match c {
         Checked::Accepted => [0; 11],
         Checked::Refused(e) => refused(e),
     }
 }
 
-pub fn written(w: Written) -> [usize; 11] {
+pub(crate) fn written(w: Written) -> [usize; 11] {
     match w {
         Written::Bytes(n) => few(0, n, 0, 0),
         Written::Refused(e) => refused(e),
     }
 }
 
-pub fn both(a: bool, b: bool) -> bool {
+pub(crate) fn both(a: bool, b: bool) -> bool {
     a && b
 }
 
@@ -43,8 +44,8 @@ fn either(a: bool, b: bool) -> bool {
 }
 
 // Whether `got` is one of the answers that the list accepts.
-pub fn accepted(list: &[u8], start: usize, got: &[usize; 11]) -> Match {
-    let head = number(list, start);
+pub(crate) fn accepted(list: &[u8], start: usize, got: &[usize; 11]) -> Match {
+    let head = count(list, start);
     let choices = head.value;
     let mut next = head.next;
     let mut same = false;
@@ -58,17 +59,12 @@ pub fn accepted(list: &[u8], start: usize, got: &[usize; 11]) -> Match {
     Match { same, next }
 }
 
+// Whether `got` is the answer there, whose last zeros are left out.
 fn equals(list: &[u8], start: usize, got: &[usize; 11]) -> Match {
-    let head = number(list, start);
-    let size = head.value;
-    let mut next = head.next;
-    let mut same = true;
-    let mut i = 0;
-    while i < 11 {
-        let n = number_if(i < size, list, next);
-        same = both(same, n.value == got[i]);
-        next = n.next;
-        i += 1;
+    let mut want = [0usize; 11];
+    let next = numbers(list, start, &mut want);
+    Match {
+        same: same_numbers(&want, got),
+        next,
     }
-    Match { same, next }
 }

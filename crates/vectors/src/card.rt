@@ -4,9 +4,7 @@
 use crate::answer::Match;
 use crate::answer::both;
 use crate::case::Replayed;
-use crate::input::behind;
 use crate::input::byte;
-use crate::input::front;
 use crate::input::long;
 use crate::input::short;
 use crate::list::TEXT;
@@ -14,13 +12,18 @@ use crate::list::byte_at;
 use crate::list::number;
 use crate::list::text;
 use crate::making;
+use crate::parts::behind;
+use crate::parts::front;
+use crate::parts::least;
+use crate::parts::put_byte;
 use crate::planes::format_of;
 use crate::reading;
+use crate::same::same_bytes;
 use crate::stages::Progress;
 use image::PixelFormat;
 
 // A list on a making session, on a reading session, or a card.
-pub fn replay_lists(list: &[u8], start: usize, operation: usize, input: &[u8]) -> Replayed {
+pub(crate) fn replay_lists(list: &[u8], start: usize, operation: usize, input: &[u8]) -> Replayed {
     match operation {
         96 => made(list, start, input),
         97 => read(list, start, input),
@@ -118,33 +121,34 @@ fn dots(list: &[u8], start: usize, making: &[u8], format: PixelFormat, out: &[u8
     let plane = number(list, row.next);
     let bits = text(list, plane.next, &mut want);
     let shape = Shape {
-        dots: dots.value,
+        dots: least(dots.value, 8 * TEXT),
         width: long(making, 2),
         height: long(making, 6),
         row: row.value,
         plane: plane.value,
     };
+    let mut shown = [0u8; TEXT];
+    put_dots(shape, format, out, &mut shown);
     Match {
-        same: dots_as(shape, format, out, &want),
+        same: same_bytes(&shown, &want),
         next: number(list, bits.next).next,
     }
 }
 
-fn dots_as(shape: Shape, format: PixelFormat, out: &[u8], want: &[u8]) -> bool {
+// Puts the dots that the output shows to the front of `shown`, a bit each.
+fn put_dots(shape: Shape, format: PixelFormat, out: &[u8], shown: &mut [u8]) {
     let end = shape.dots;
     let mut spot = Spot {
         x: 0,
         y: 0,
         frame: 0,
     };
-    let mut same = true;
     let mut i = 0;
     while i < end {
-        same = both(same, white(shape, format, out, spot) == bit_at(want, i));
+        put_bit(shown, i, white(shape, format, out, spot));
         spot = shape.after(spot);
         i += 1;
     }
-    same
 }
 
 fn white(shape: Shape, format: PixelFormat, out: &[u8], spot: Spot) -> bool {
@@ -160,8 +164,10 @@ fn white(shape: Shape, format: PixelFormat, out: &[u8], spot: Spot) -> bool {
     )
 }
 
-fn bit_at(bits: &[u8], i: usize) -> bool {
-    byte_at(bits, i / 8) & mask(i % 8) != 0
+fn put_bit(bits: &mut [u8], i: usize, white: bool) {
+    if white {
+        put_byte(bits, i / 8, byte_at(bits, i / 8) | mask(i % 8));
+    }
 }
 
 fn mask(bit: usize) -> u8 {

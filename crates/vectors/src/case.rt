@@ -2,27 +2,32 @@
 // that it has to leave alone; a plane that is changed in place.
 use crate::answer::accepted;
 use crate::answer::both;
+use crate::answer::few;
 use crate::card::replay_lists;
-use crate::input::least;
 use crate::list::TEXT;
 use crate::list::number;
 use crate::list::text;
+use crate::parts::front;
+use crate::parts::least;
 use crate::planes::convert;
 use crate::readers::answer;
+use crate::same::same_bytes;
+use crate::same::same_numbers;
+use crate::stages::BEHIND;
 use crate::writers::write_within;
 
-// What the output holds before each call.
+// What the output holds before each call; `want` holds it behind what is written.
 const MARK: u8 = 165;
 
 // How many comparisons a case took, whether all were right, and where its answer ends.
-pub struct Replayed {
+pub(crate) struct Replayed {
     pub comparisons: usize,
     pub same: bool,
     pub next: usize,
 }
 
 // Operations from 32 on are writers; 64 works in place; from 96 on they are lists of calls.
-pub fn replay(list: &[u8], start: usize, operation: usize, input: &[u8]) -> Replayed {
+pub(crate) fn replay(list: &[u8], start: usize, operation: usize, input: &[u8]) -> Replayed {
     if operation >= 96 {
         return replay_lists(list, start, operation, input);
     }
@@ -45,7 +50,7 @@ pub fn replay(list: &[u8], start: usize, operation: usize, input: &[u8]) -> Repl
 // A case that is accepted gets an output exactly long enough, one longer and one too short; a
 // refused one gets none and some.
 fn replay_writer(list: &[u8], start: usize, operation: usize, input: &[u8]) -> Replayed {
-    let mut want = [0u8; TEXT];
+    let mut want = [MARK; TEXT];
     let answers = accepted(list, start, &[0; 11]);
     let output = text(list, answers.next, &mut want);
     let n = least(output.len, TEXT - 1);
@@ -68,18 +73,16 @@ fn replay_writer(list: &[u8], start: usize, operation: usize, input: &[u8]) -> R
     }
 }
 
-// The whole plane is compared, and the bytes after it are unaltered.
+// The plane is changed in place, and the bytes behind it stay.
 fn replay_in_place(list: &[u8], start: usize, input: &[u8]) -> Replayed {
-    let mut want = [0u8; TEXT];
+    let mut want = [MARK; TEXT];
     let mut plane = [MARK; TEXT];
     let got = convert(input, &mut plane);
     let right = accepted(list, start, &got);
     let output = text(list, right.next, &mut want);
-    let n = least(output.len, TEXT - 64);
-    let bytes = both(written_as(&plane, &want, n), unaltered(&plane, n, n + 64));
     Replayed {
         comparisons: 1,
-        same: both(right.same, bytes),
+        same: both(right.same, same_bytes(&plane, &want)),
         next: output.next,
     }
 }
@@ -97,36 +100,15 @@ fn tried(
     let mut out = [MARK; TEXT];
     let got = write_within(operation, input, &mut out, size);
     if size < n {
-        return both(is_short(got), unaltered(&out, 0, size));
+        let short = same_numbers(&got, &few(25, 0, 0, 0));
+        return both(short, same_front(&out, &[MARK; TEXT], size));
     }
     let right = accepted(list, start, &got);
-    let bytes = both(written_as(&out, want, n), unaltered(&out, n, size));
-    both(right.same, bytes)
+    both(right.same, same_front(&out, want, size))
 }
 
-// The refusal of an output that is too short.
-fn is_short(got: [usize; 11]) -> bool {
-    both(got[0] == 25, got[1] == 0)
-}
-
-fn written_as(out: &[u8; TEXT], want: &[u8; TEXT], n: usize) -> bool {
-    let end = least(n, TEXT);
-    let mut same = true;
-    let mut i = 0;
-    while i < end {
-        same = both(same, out[i] == want[i]);
-        i += 1;
-    }
-    same
-}
-
-fn unaltered(out: &[u8; TEXT], start: usize, size: usize) -> bool {
-    let end = least(size, TEXT);
-    let mut same = true;
-    let mut i = start;
-    while i < end {
-        same = both(same, out[i] == MARK);
-        i += 1;
-    }
-    same
+// Of an output and what it has to hold, the bytes lent and some behind them.
+fn same_front(out: &[u8; TEXT], want: &[u8; TEXT], size: usize) -> bool {
+    let end = std::num::wrapping_add_usize(size, BEHIND);
+    same_bytes(front(out, end), front(want, end))
 }

@@ -1,20 +1,20 @@
 // Whole writing and making. A case's input is 1 for strict, the format or the kind of rule, width,
 // height and count in four bytes each, the stride in eight or the rule's number, the length of the
 // work buffer and six bytes, the length of the planes or the gray in two, these, and fields.
-use crate::input::behind;
 use crate::input::byte;
-use crate::input::front;
-use crate::input::least;
-use crate::input::lengths;
 use crate::input::long;
 use crate::input::longest;
 use crate::input::put_lengths;
 use crate::input::short;
 use crate::list::byte_at;
+use crate::parts::behind;
+use crate::parts::front;
+use crate::parts::front_numbers;
+use crate::parts::least;
 use crate::planes::format_of;
-use crate::scans::DIRT;
-use crate::scans::WORK;
 use crate::scans::judged;
+use crate::work::DIRT;
+use crate::work::WORK;
 use crate::writers::presence_of;
 use error::Written;
 use options::EncodeOptions;
@@ -34,7 +34,7 @@ fn fields_of(input: &[u8]) -> &[u8] {
     behind(behind(input, BODY), short(input, 22))
 }
 
-pub fn rule_of(kind: usize, number: u8) -> Quantize {
+pub(crate) fn rule_of(kind: usize, number: u8) -> Quantize {
     match kind {
         0 => Quantize::Threshold(number),
         1 => Quantize::Dither,
@@ -50,7 +50,7 @@ fn options_of(input: &[u8], ext: usize) -> EncodeOptions {
         .with_strict(byte(input, 0) == 1)
 }
 
-pub fn images(input: &[u8], out: &mut [u8]) -> Written {
+pub(crate) fn images(input: &[u8], out: &mut [u8]) -> Written {
     let mut space = [0usize; LENGTHS];
     images_in(&mut space, input, out)
 }
@@ -60,7 +60,7 @@ fn images_in(space: &mut [usize], input: &[u8], out: &mut [u8]) -> Written {
     let rest = behind(fields, 3);
     let n = put_lengths(front(rest, short(fields, 1)), space);
     let options = options_of(input, byte(fields, 0));
-    write_images(input, options, behind(rest, n), lengths(space, n), out)
+    write_images(input, options, behind(rest, n), front_numbers(space, n), out)
 }
 
 fn write_images(
@@ -90,7 +90,7 @@ fn write_images(
     )
 }
 
-pub fn gray(input: &[u8], out: &mut [u8]) -> [usize; 11] {
+pub(crate) fn gray(input: &[u8], out: &mut [u8]) -> [usize; 11] {
     let mut work = [DIRT; WORK];
     let answer = gray_with(&mut work, input, out);
     judged(answer, &work, used(input))
@@ -120,7 +120,7 @@ fn gray_in(space: &mut [usize], input: &[u8], work: &mut [i16], out: &mut [u8]) 
         input,
         options,
         behind(rest, n),
-        lengths(space, n),
+        front_numbers(space, n),
         work,
         out,
     )

@@ -2,7 +2,7 @@
 // that of the others is the file.
 use crate::answer::few;
 use crate::answer::refused;
-use crate::input::behind;
+use crate::parts::behind;
 use crate::readers::fields_of;
 use crate::settings::reading;
 use api::ImageInfo;
@@ -16,7 +16,7 @@ use options::DecodeOptions;
 const FILE: usize = 23;
 
 // The main image, or all frames.
-pub fn decode(input: &[u8], all: bool, out: &mut [u8]) -> [usize; 11] {
+pub(crate) fn decode(input: &[u8], all: bool, out: &mut [u8]) -> [usize; 11] {
     let file = behind(input, FILE);
     let options = reading(input);
     match decoded(file, options, all, out) {
@@ -50,7 +50,7 @@ fn image(i: DecodedImage) -> [usize; 11] {
     ]
 }
 
-pub fn info(file: &[u8]) -> [usize; 11] {
+pub(crate) fn info(file: &[u8]) -> [usize; 11] {
     match api::info(file) {
         InfoRead::Info(i) => told(i),
         InfoRead::Refused(e) => refused(e),
@@ -75,7 +75,7 @@ fn told(i: ImageInfo) -> [usize; 11] {
     ]
 }
 
-pub fn sniff(file: &[u8]) -> [usize; 11] {
+pub(crate) fn sniff(file: &[u8]) -> [usize; 11] {
     match api::sniff(file) {
         Sniffed::Neither => few(0, 0, 0, 0),
         Sniffed::Exact => few(0, 0, 1, 0),
@@ -83,6 +83,6 @@ pub fn sniff(file: &[u8]) -> [usize; 11] {
     }
 }
 
-pub fn probe(file: &[u8]) -> [usize; 11] {
+pub(crate) fn probe(file: &[u8]) -> [usize; 11] {
     few(0, 0, api::probe(file) as usize, 0)
 }

@@ -1,16 +1,17 @@
 // Replaying the parts of groups that a block holds.
-use crate::input::behind;
-use crate::input::front;
 use crate::list::after_line;
 use crate::list::byte_at;
+use crate::list::count;
 use crate::list::number;
 use crate::list::skip;
+use crate::parts::behind;
+use crate::parts::front;
 use crate::report;
 use crate::sweep::replay_sweep;
 use crate::tally::Tally;
 
 // Every part in the block, after its first line.
-pub fn replay_all(list: &[u8], before: Tally) -> Tally {
+pub(crate) fn replay_all(list: &[u8], before: Tally) -> Tally {
     let mut tally = before.with_next(after_line(list));
     let mut parts: usize = 0;
     while parts < 256 && byte_at(list, tally.next) != 0 {
@@ -26,11 +27,11 @@ fn replay_part(list: &[u8], before: Tally) -> Tally {
     let name = front(behind(list, size.next), size.value);
     let operation = number(list, skip(list, size.next, size.value));
     let last = number(list, operation.next);
-    let count = number(list, last.next);
+    let count = count(list, last.next);
     let sweeps = count.value;
     let mut tally = before.with_next(count.next);
     let mut i = 0;
-    while i < sweeps {
+    while i < sweeps && tally.next < list.len() {
         tally = replay_sweep(list, name, operation.value, tally);
         i += 1;
     }

@@ -1,5 +1,5 @@
 // Replays the list on standard input, made by tools/oracle, and prints for each group how many
-// comparisons it made; a wrong answer prints its case.
+// comparisons it made; a wrong answer prints its case, and the last line how many were wrong.
 mod answer;
 mod card;
 mod case;
@@ -9,10 +9,12 @@ mod group;
 mod input;
 mod list;
 mod making;
+mod parts;
 mod planes;
 mod readers;
 mod reading;
 mod report;
+mod same;
 mod scans;
 mod settings;
 mod stages;
@@ -30,7 +32,9 @@ fn main() {
         tally = block(tally);
         turns -= 1;
     }
-    report::count(b"all", tally.all);
+    let ended = tally.with_group();
+    report::count(b"all", ended.all);
+    report::count(b"wrong", ended.all_wrong);
 }
 
 // Reads a block and replays it; after the last one `next` is 0.

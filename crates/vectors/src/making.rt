@@ -7,17 +7,16 @@ use crate::answer::accepted;
 use crate::answer::both;
 use crate::answer::written;
 use crate::encoders::rule_of;
-use crate::input::behind;
 use crate::input::byte;
-use crate::input::front;
-use crate::input::least;
-use crate::input::lengths;
 use crate::input::long;
 use crate::input::put_lengths;
 use crate::input::short;
 use crate::list::byte_at;
-use crate::list::number;
-use crate::scans::WORK;
+use crate::list::count;
+use crate::parts::behind;
+use crate::parts::front;
+use crate::parts::front_numbers;
+use crate::parts::least;
 use crate::stages::ANSWERS;
 use crate::stages::NUMBERS;
 use crate::stages::Progress;
@@ -29,6 +28,7 @@ use crate::stages::only_if;
 use crate::stages::out_at;
 use crate::stages::put_calls;
 use crate::stages::then;
+use crate::work::WORK;
 use crate::work;
 use crate::writers::presence_of;
 use encode_session::EncodeOpened;
@@ -43,20 +43,17 @@ const FIELDS: usize = 20;
 // The most lengths of pairs in one input.
 const LENGTHS: usize = 4096;
 
-// How many bytes behind an output are compared.
-const BEHIND: usize = 64;
-
 // A list under way.
 struct Making {
     session: EncodeSession,
     progress: Progress,
 }
 
-pub fn fields_of(input: &[u8]) -> &[u8] {
+pub(crate) fn fields_of(input: &[u8]) -> &[u8] {
     front(behind(input, FIELDS), short(input, 16))
 }
 
-pub fn samples_of(input: &[u8]) -> &[u8] {
+pub(crate) fn samples_of(input: &[u8]) -> &[u8] {
     front(
         behind(behind(input, FIELDS), short(input, 16)),
         short(input, 18),
@@ -69,7 +66,7 @@ fn stages_of(input: &[u8]) -> usize {
 }
 
 // Replays a list, its outputs one behind the other in `out`.
-pub fn run_list(list: &[u8], start: usize, input: &[u8], out: &mut [u8]) -> Progress {
+pub(crate) fn run_list(list: &[u8], start: usize, input: &[u8], out: &mut [u8]) -> Progress {
     let mut numbers = [work::DIRT; WORK];
     let opened = opened(list, start, input, &mut numbers, out);
     stages(list, input, &mut numbers, out, opened)
@@ -84,7 +81,7 @@ fn opened(list: &[u8], start: usize, input: &[u8], work: &mut [i16], out: &mut [
     let right = accepted(list, start, &written(answer));
     let size = short(input, 14);
     let bytes = bytes_as(list, right.next, front(out, size));
-    let rest = marked(front(behind(out, size), BEHIND), byte_at(input, 11));
+    let rest = marked(behind(out, size), byte_at(input, 11));
     Making {
         session,
         progress: Progress {
@@ -113,7 +110,7 @@ fn open(input: &[u8], space: &mut [usize], work: &mut [i16], out: &mut [u8]) -> 
         input,
         options,
         behind(rest, n),
-        lengths(space, n),
+        front_numbers(space, n),
         work,
         out,
     )
@@ -145,7 +142,7 @@ fn open_with(
 
 fn stages(list: &[u8], input: &[u8], work: &mut [i16], out: &mut [u8], opened: Making) -> Progress {
     let progress = opened.progress;
-    let head = number(list, progress.next);
+    let head = count(list, progress.next);
     let count = head.value;
     let mut making = from_stages(opened, head.next);
     let mut i = 0;
@@ -211,10 +208,9 @@ fn run_stage(
     let mut numbers = [0usize; NUMBERS];
     let mut answers = [0usize; ANSWERS];
     let progress = before.progress;
-    let session = before.session;
     let n = put_calls(input, progress.at, &mut numbers);
-    let calls = lengths(&numbers, n);
-    let ran = run(session, input, progress, calls, work, out, &mut answers);
+    let calls = front_numbers(&numbers, n);
+    let ran = run(before, input, calls, work, out, &mut answers);
     let next = ran.session;
     let all = ran.calls == calls_at(input, progress.at);
     let right = only_if(all, stage_as(list, input, progress, &answers, out));
@@ -226,14 +222,15 @@ fn run_stage(
 
 // The session after the stage's calls, and how many were made.
 fn run(
-    session: EncodeSession,
+    before: Making,
     input: &[u8],
-    progress: Progress,
     calls: &[usize],
     work: &mut [i16],
     out: &mut [u8],
     answers: &mut [usize],
 ) -> EncodeReplayed {
+    let session = before.session;
+    let progress = before.progress;
     let samples = samples_of(input);
     let start = least(progress.from, out.len());
     let rest = &mut out[start..];
@@ -251,13 +248,13 @@ fn run(
 
 // Whether the answers are as the block has them, each byte of the stage's output unless its letter
 // leaves the dots open, and those behind it.
-fn stage_as(list: &[u8], input: &[u8], progress: Progress, answers: &[usize], out: &[u8]) -> Match {
+fn stage_as(list: &[u8], input: &[u8], progress: Progress, answers: &[usize; ANSWERS], out: &[u8]) -> Match {
     let size = out_at(input, progress.at);
     let lent = behind(out, progress.from);
     let told = answers_as(list, progress.next, answers);
     let bytes = bytes_as(list, told.next, front(lent, size));
     let buffer = bytes_as(list, bytes.next, b"");
-    let rest = marked(front(behind(lent, size), BEHIND), byte_at(input, 11));
+    let rest = marked(behind(lent, size), byte_at(input, 11));
     let compared = byte(input, progress.at) & 8 == 0;
     let right = only_if(
         rest,

@@ -3,20 +3,20 @@
 // stride in two, and the plane.
 use crate::answer::checked;
 use crate::answer::few;
-use crate::input::behind;
 use crate::input::byte;
-use crate::input::least;
 use crate::input::long;
 use crate::input::longest;
 use crate::input::short;
 use crate::list::copy;
+use crate::parts::behind;
+use crate::parts::least;
 use error::Written;
 use image::PixelFormat;
 
 // Where the plane starts in the input.
 const PLANE: usize = 7;
 
-pub fn format_of(number: usize) -> PixelFormat {
+pub(crate) fn format_of(number: usize) -> PixelFormat {
     if number == 0 {
         PixelFormat::MonoBlack
     } else {
@@ -48,7 +48,7 @@ fn stride(input: &[u8]) -> usize {
     ((n & 255) << 56) | 72057594037927935
 }
 
-pub fn white(input: &[u8]) -> [usize; 11] {
+pub(crate) fn white(input: &[u8]) -> [usize; 11] {
     let plane = behind(input, PLANE);
     let width = size(input, 3);
     let height = size(input, 4);
@@ -59,7 +59,7 @@ pub fn white(input: &[u8]) -> [usize; 11] {
     few(0, 0, white as usize, 0)
 }
 
-pub fn wire(input: &[u8], out: &mut [u8]) -> Written {
+pub(crate) fn wire(input: &[u8], out: &mut [u8]) -> Written {
     let plane = behind(input, PLANE);
     let width = size(input, 3);
     let height = size(input, 4);
@@ -68,7 +68,7 @@ pub fn wire(input: &[u8], out: &mut [u8]) -> Written {
 }
 
 // The plane is copied to the front of the output and changed there.
-pub fn convert(input: &[u8], out: &mut [u8]) -> [usize; 11] {
+pub(crate) fn convert(input: &[u8], out: &mut [u8]) -> [usize; 11] {
     let plane = behind(input, PLANE);
     let n = copy(plane, 0, plane.len(), out, 0);
     let start = 0;
@@ -85,7 +85,7 @@ fn convert_plane(input: &[u8], plane: &mut [u8]) {
 }
 
 // Width and height in four bytes each, the stride in eight, the plane's length in one.
-pub fn geometry(input: &[u8]) -> [usize; 11] {
+pub(crate) fn geometry(input: &[u8]) -> [usize; 11] {
     let width = long(input, 0);
     let height = long(input, 4);
     let stride = longest(input, 8) as usize;

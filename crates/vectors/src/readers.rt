@@ -3,12 +3,12 @@ use crate::answer::checked;
 use crate::answer::few;
 use crate::answer::refused;
 use crate::files;
-use crate::input::behind;
 use crate::input::byte;
-use crate::input::front;
 use crate::input::long;
 use crate::input::short;
 use crate::list::byte_at;
+use crate::parts::behind;
+use crate::parts::front;
 use crate::planes;
 use crate::settings;
 use ext::ExtFieldType;
@@ -16,13 +16,13 @@ use ext::ExtFields;
 use ext::ExtRead;
 use ext::FixHeaderField;
 use ext::Lookup;
-use ext::Parameter;
+use ext_write::Parameter;
 use header::HeaderFields;
 use header::HeaderRead;
 use header::ParsedHeader;
 use mbi::MbiRead;
 
-pub fn answer(operation: usize, input: &[u8]) -> [usize; 11] {
+pub(crate) fn answer(operation: usize, input: &[u8]) -> [usize; 11] {
     match operation {
         0 => integer(input, false),
         1 => integer(input, true),
@@ -117,7 +117,7 @@ fn sizes(h: ParsedHeader) -> [usize; 11] {
 }
 
 // The kind, where the fields start, their length and the number of pairs.
-pub fn fields_of(ext: HeaderFields) -> [usize; 4] {
+pub(crate) fn fields_of(ext: HeaderFields) -> [usize; 4] {
     match ext {
         HeaderFields::Absent => [0; 4],
         HeaderFields::Fields(f) => {

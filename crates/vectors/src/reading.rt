@@ -5,13 +5,14 @@ use crate::answer::Match;
 use crate::answer::accepted;
 use crate::answer::both;
 use crate::answer::checked;
-use crate::input::behind;
-use crate::input::front;
-use crate::input::least;
-use crate::input::lengths;
 use crate::input::short;
 use crate::list::byte_at;
+use crate::list::count;
 use crate::list::number;
+use crate::parts::behind;
+use crate::parts::front;
+use crate::parts::front_numbers;
+use crate::parts::least;
 use crate::readers::fields_of;
 use crate::settings::reading;
 use crate::stages::ANSWERS;
@@ -38,25 +39,22 @@ const FILE: usize = 28;
 // How long the extension buffer is of which the front is lent.
 const BUFFER: usize = 4200;
 
-// How many bytes behind an output are compared.
-const BEHIND: usize = 64;
-
 // A list under way.
 struct Reading {
     session: DecodeSession,
     progress: Progress,
 }
 
-pub fn file_of(input: &[u8]) -> &[u8] {
+pub(crate) fn file_of(input: &[u8]) -> &[u8] {
     front(behind(input, FILE), short(input, 26))
 }
 
-pub fn mark_of(input: &[u8]) -> u8 {
+pub(crate) fn mark_of(input: &[u8]) -> u8 {
     byte_at(input, 23)
 }
 
 // Replays a list over a file, its outputs one behind the other in `out`.
-pub fn run_list(list: &[u8], start: usize, input: &[u8], file: &[u8], out: &mut [u8]) -> Progress {
+pub(crate) fn run_list(list: &[u8], start: usize, input: &[u8], file: &[u8], out: &mut [u8]) -> Progress {
     let mut buffer = [mark_of(input); BUFFER];
     let opened = opened(list, start, input, &buffer);
     let ended = stages(list, input, file, &mut buffer, out, opened);
@@ -138,7 +136,7 @@ fn stages(
     opened: Reading,
 ) -> Reading {
     let progress = opened.progress;
-    let head = number(list, progress.next);
+    let head = count(list, progress.next);
     let count = head.value;
     let mut reading = from_stages(opened, head.next);
     let mut i = 0;
@@ -176,19 +174,9 @@ fn stage(
     let mut numbers = [0usize; NUMBERS];
     let mut answers = [0usize; ANSWERS];
     let progress = before.progress;
-    let session = before.session;
     let n = put_calls(input, progress.at, &mut numbers);
-    let calls = lengths(&numbers, n);
-    let ran = run(
-        session,
-        input,
-        file,
-        progress,
-        calls,
-        buffer,
-        out,
-        &mut answers,
-    );
+    let calls = front_numbers(&numbers, n);
+    let ran = run(before, input, file, calls, buffer, out, &mut answers);
     let next = ran.session;
     let all = ran.calls == calls_at(input, progress.at);
     let right = only_if(all, stage_as(list, input, progress, &answers, buffer, out));
@@ -200,15 +188,16 @@ fn stage(
 
 // The session after the stage's calls, and how many were made.
 fn run(
-    session: DecodeSession,
+    before: Reading,
     input: &[u8],
     file: &[u8],
-    progress: Progress,
     calls: &[usize],
     buffer: &mut [u8],
     out: &mut [u8],
     answers: &mut [usize],
 ) -> DecodeReplayed {
+    let session = before.session;
+    let progress = before.progress;
     let start = least(progress.from, out.len());
     let rest = &mut out[start..];
     let begin = 0;
@@ -222,7 +211,7 @@ fn stage_as(
     list: &[u8],
     input: &[u8],
     progress: Progress,
-    answers: &[usize],
+    answers: &[usize; ANSWERS],
     buffer: &[u8],
     out: &[u8],
 ) -> Match {
@@ -231,6 +220,6 @@ fn stage_as(
     let told = answers_as(list, progress.next, answers);
     let bytes = bytes_as(list, told.next, front(lent, size));
     let left = bytes_as(list, bytes.next, buffer);
-    let rest = marked(front(behind(lent, size), BEHIND), mark_of(input));
+    let rest = marked(behind(lent, size), mark_of(input));
     only_if(rest, then(told, then(bytes, left)))
 }

@@ -1,16 +1,16 @@
 // What the program prints.
 use crate::input::byte;
-use crate::input::front;
+use crate::parts::front;
 
 // A name and a number, on a line.
-pub fn count(name: &[u8], n: usize) {
+pub(crate) fn count(name: &[u8], n: usize) {
     io::write_all(1, name);
     labelled(b" ", n);
     io::write_all(1, b"\n");
 }
 
 // A wrong answer: its group, sweep and case, and its input's length and front.
-pub fn wrong(name: &[u8], sweep: usize, case: usize, input: &[u8]) {
+pub(crate) fn wrong(name: &[u8], sweep: usize, case: usize, input: &[u8]) {
     io::write_all(1, b"WRONG ");
     io::write_all(1, name);
     labelled(b", sweep ", sweep);
@@ -19,6 +19,14 @@ pub fn wrong(name: &[u8], sweep: usize, case: usize, input: &[u8]) {
     io::write_all(1, b", input");
     bytes(front(input, 32));
     io::write_all(1, b"\n");
+}
+
+// Counts in the list that cannot be right.
+pub(crate) fn damaged(name: &[u8], sweep: usize) {
+    io::write_all(1, b"WRONG ");
+    io::write_all(1, name);
+    labelled(b", sweep ", sweep);
+    io::write_all(1, b": the list is damaged\n");
 }
 
 fn labelled(label: &[u8], n: usize) {

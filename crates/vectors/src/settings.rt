@@ -11,7 +11,7 @@ use options::DecodeOptions;
 use options::Limit;
 use options::limits::WbmpLimits;
 
-pub fn check(input: &[u8]) -> [usize; 11] {
+pub(crate) fn check(input: &[u8]) -> [usize; 11] {
     let width = long(input, 1);
     let height = long(input, 5);
     let bytes = longest(input, 9);
@@ -20,7 +20,7 @@ pub fn check(input: &[u8]) -> [usize; 11] {
 }
 
 // The settings of reading a file.
-pub fn reading(input: &[u8]) -> DecodeOptions {
+pub(crate) fn reading(input: &[u8]) -> DecodeOptions {
     let options = options_of(input, long(input, 1), long(input, 5), longest(input, 9));
     options
         .with_format(format_of(byte(input, 17)))

@@ -1,14 +1,20 @@
 // Replaying a sweep, which puts every string over its alphabet over its base text.
+use crate::answer::both;
 use crate::case::replay;
-use crate::input::front;
 use crate::list::TEXT;
 use crate::list::byte_at;
 use crate::list::number;
 use crate::list::skip;
 use crate::list::text;
+use crate::parts::front;
+use crate::parts::least;
+use crate::parts::put_byte;
 use crate::report;
 use crate::tally::Tally;
 ghost use Prim.Native.Nat.{_<_};
+
+// The most cases of a sweep.
+const CASES: usize = 1048576;
 
 // The length of a sweep's inputs, where its digits start and how many there are, where its
 // alphabet stands and how many letters it has, its cases, and where its answers start.
@@ -30,11 +36,12 @@ struct Run {
     tally: Tally,
 }
 
-pub fn replay_sweep(list: &[u8], name: &[u8], operation: usize, before: Tally) -> Tally {
+pub(crate) fn replay_sweep(list: &[u8], name: &[u8], operation: usize, before: Tally) -> Tally {
     let mut input = [0u8; TEXT];
     replay_cases(list, name, operation, before, &mut input)
 }
 
+// The answers to the cases stand one behind the other, up to the next sweep.
 fn replay_cases(
     list: &[u8],
     name: &[u8],
@@ -43,19 +50,30 @@ fn replay_cases(
     input: &mut [u8],
 ) -> Tally {
     let plan = plan_at(list, before.next, input);
-    let cases = plan.cases;
+    let cases = cases_of(plan);
     let mut run = Run {
         record: plan.next,
         left: 0,
         tally: before,
     };
     let mut case = 0;
-    while case < cases {
+    while case < cases && run.record < list.len() {
         run = replay_case(list, name, operation, plan, case, run, input);
         case += 1;
     }
+    ended(list, name, both(case > 0, case == plan.cases), run)
+}
+
+// A sweep whose counts are not those of its cases, or that goes past its block, is damaged: the rest
+// of the block is left out.
+fn ended(list: &[u8], name: &[u8], whole: bool, run: Run) -> Tally {
     let tally = run.tally;
-    tally.with_sweep(run.record)
+    let next = run.record;
+    if whole && run.left == 0 && next < list.len() {
+        return tally.with_sweep(next);
+    }
+    report::damaged(name, tally.sweeps);
+    tally.with_case(0, false).with_sweep(list.len())
 }
 
 fn replay_case(
@@ -85,12 +103,27 @@ fn plan_at(list: &[u8], start: usize, input: &mut [u8]) -> Plan {
     Plan {
         len: base.len,
         at: at.value,
-        digits: digits.value,
+        digits: least(digits.value, TEXT),
         letters: radix.next,
         radix: radix.value,
         cases: cases.value,
         next: cases.next,
     }
+}
+
+// How many cases there are: one for each string, or none where the plan has another number.
+fn cases_of(plan: Plan) -> usize {
+    let radix = radix_of(plan.radix);
+    let digits = plan.digits;
+    let mut strings = plan.cases <= CASES;
+    let mut rest = plan.cases;
+    let mut i = 0;
+    while i < digits {
+        strings = both(strings, rest % radix == 0);
+        rest = rest / radix;
+        i += 1;
+    }
+    if both(strings, rest == 1) { plan.cases } else { 0 }
 }
 
 // Puts the digits of the case over the input, the most significant first.
@@ -101,7 +134,7 @@ fn spell(list: &[u8], plan: Plan, case: usize, input: &mut [u8]) {
     while i > 0 {
         i -= 1;
         let letter = letter_at(list, plan.letters, plan.radix, rest % radix);
-        put(input, std::num::wrapping_add_usize(plan.at, i), letter);
+        put_byte(input, std::num::wrapping_add_usize(plan.at, i), letter);
         rest = rest / radix;
     }
 }
@@ -118,12 +151,6 @@ fn letter_at(list: &[u8], letters: usize, radix: usize, digit: usize) -> u8 {
         return (digit % 256) as u8;
     }
     byte_at(list, std::num::wrapping_add_usize(letters, digit))
-}
-
-fn put(input: &mut [u8], at: usize, b: u8) {
-    if at < input.len() {
-        input[at] = b;
-    }
 }
 
 fn run_at(list: &[u8], run: Run) -> Run {

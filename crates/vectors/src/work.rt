@@ -1,9 +1,11 @@
-// Work buffers of lists: what others leave in them, and what a call has to leave alone.
-use crate::answer::both;
-use crate::scans::WORK;
+// Work buffers: what others leave in them, and what a call has to leave alone.
+use crate::parts::behind_work;
+use crate::same::same_work;
 
-// What a work buffer holds at first.
-pub const DIRT: i16 = 12345;
+// The longest work buffer, and what one holds at first.
+pub(crate) const WORK: usize = 256;
+
+pub(crate) const DIRT: i16 = 12345;
 
 // What somebody else writes to a work buffer, by a letter that is not 0.
 fn foreign(letter: usize) -> i16 {
@@ -18,7 +20,7 @@ fn foreign(letter: usize) -> i16 {
     }
 }
 
-pub fn refill(work: &mut [i16], letter: usize) {
+pub(crate) fn refill(work: &mut [i16], letter: usize) {
     if letter != 0 {
         fill(work, foreign(letter));
     }
@@ -43,7 +45,7 @@ fn at_or(work: &[i16], at: usize) -> i16 {
     if at < work.len() { work[at] } else { 0 }
 }
 
-pub fn keep(work: &[i16], kept: &mut [i16]) {
+pub(crate) fn keep(work: &[i16], kept: &mut [i16]) {
     let end = work.len();
     let mut i = 0;
     while i < end {
@@ -53,12 +55,6 @@ pub fn keep(work: &[i16], kept: &mut [i16]) {
 }
 
 // Whether the numbers from `start` on are as they were.
-pub fn unaltered_from(work: &[i16], kept: &[i16], start: usize) -> bool {
-    let mut same = true;
-    let mut i = start;
-    while i < WORK {
-        same = both(same, at_or(work, i) == at_or(kept, i));
-        i += 1;
-    }
-    same
+pub(crate) fn unaltered_from(work: &[i16], kept: &[i16; WORK], start: usize) -> bool {
+    same_work(behind_work(work, start), behind_work(kept, start))
 }

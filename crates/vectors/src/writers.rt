@@ -2,14 +2,14 @@
 use crate::answer::written;
 use crate::encoders;
 use crate::files;
-use crate::input::behind;
 use crate::input::byte;
-use crate::input::front;
-use crate::input::least;
-use crate::input::lengths;
 use crate::input::long;
 use crate::input::put_lengths;
 use crate::input::short;
+use crate::parts::behind;
+use crate::parts::front;
+use crate::parts::front_numbers;
+use crate::parts::least;
 use crate::planes;
 use crate::scans;
 use error::Written;
@@ -20,7 +20,7 @@ use header::ExtPresence;
 const LENGTHS: usize = 4096;
 
 // The answer where `size` bytes of the output are lent.
-pub fn write_within(operation: usize, input: &[u8], out: &mut [u8], size: usize) -> [usize; 11] {
+pub(crate) fn write_within(operation: usize, input: &[u8], out: &mut [u8], size: usize) -> [usize; 11] {
     let start = 0;
     let end = least(size, out.len());
     write(operation, input, &mut out[start..end])
@@ -54,7 +54,7 @@ fn kind_of(number: usize) -> ExtFieldType {
     }
 }
 
-pub fn presence_of(number: usize) -> ExtPresence {
+pub(crate) fn presence_of(number: usize) -> ExtPresence {
     if number == 4 {
         return ExtPresence::Absent;
     }
@@ -73,9 +73,9 @@ fn fields_in(space: &mut [usize], input: &[u8], strict: bool, out: &mut [u8]) ->
     let text = behind(rest, n);
     let kind = kind_of(byte(input, 0));
     if strict {
-        return ext::write_ext_fields_lengths_strict(kind, text, lengths(space, n), out);
+        return ext_write::write_ext_fields_lengths_strict(kind, text, front_numbers(space, n), out);
     }
-    ext::write_ext_fields_lengths(kind, text, lengths(space, n), out)
+    ext_write::write_ext_fields_lengths(kind, text, front_numbers(space, n), out)
 }
 
 fn with_fields(input: &[u8], strict: bool, out: &mut [u8]) -> Written {
@@ -91,5 +91,5 @@ fn with_fields_in(space: &mut [usize], input: &[u8], strict: bool, out: &mut [u8
     let rest = behind(input, 11);
     let n = put_lengths(front(rest, short(input, 9)), space);
     let text = behind(rest, n);
-    header::write_header_ext_lengths(width, height, ext, text, lengths(space, n), strict, out)
+    header::write_header_ext_lengths(width, height, ext, text, front_numbers(space, n), strict, out)
 }

@@ -134,37 +134,42 @@ pub struct Sweep {
     pub at: usize,
     pub digits: usize,
     pub alphabet: Vec<u8>,
+    /// What is altered of the answers; the replay has to report each case.
+    pub altered: Option<fn(&mut Answer)>,
 }
 
 impl Sweep {
-    pub fn one(base: Vec<u8>) -> Sweep {
+    pub fn over(base: Vec<u8>, at: usize, digits: usize, alphabet: Vec<u8>) -> Sweep {
         Sweep {
             base,
-            at: 0,
-            digits: 0,
-            alphabet: vec![0],
+            at,
+            digits,
+            alphabet,
+            altered: None,
+        }
+    }
+
+    pub fn one(base: Vec<u8>) -> Sweep {
+        Sweep::over(base, 0, 0, vec![0])
+    }
+
+    /// One case, whose answer is altered.
+    pub fn altered(base: Vec<u8>, alteration: fn(&mut Answer)) -> Sweep {
+        Sweep {
+            altered: Some(alteration),
+            ..Sweep::one(base)
         }
     }
 
     /// Every byte at `at`.
     pub fn byte(base: &[u8], at: usize) -> Sweep {
-        Sweep {
-            base: base.to_vec(),
-            at,
-            digits: 1,
-            alphabet: Vec::new(),
-        }
+        Sweep::over(base.to_vec(), at, 1, Vec::new())
     }
 
     /// `front`, every string of `digits` letters, `back`.
     pub fn between(front: &[u8], digits: usize, alphabet: &[u8], back: &[u8]) -> Sweep {
         let base = [front, &vec![0; digits], back].concat();
-        Sweep {
-            base,
-            at: front.len(),
-            digits,
-            alphabet: alphabet.to_vec(),
-        }
+        Sweep::over(base, front.len(), digits, alphabet.to_vec())
     }
 
     /// The same cases as one sweep for each first letter.

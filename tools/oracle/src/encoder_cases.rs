@@ -74,12 +74,7 @@ pub fn fields() -> Vec<Vec<u8>> {
 
 /// Lenient and strict, and both formats.
 fn in_modes(base: Vec<u8>) -> Sweep {
-    Sweep {
-        base,
-        at: 0,
-        digits: 2,
-        alphabet: vec![0, 1],
-    }
+    Sweep::over(base, 0, 2, vec![0, 1])
 }
 
 fn image(width: u32, height: u32, count: u32, stride: u64) -> Front {
@@ -129,12 +124,7 @@ const SIZES: [(u32, u32, u32); 8] = [
 
 /// No frame, some, the most and one more.
 fn in_counts(base: Vec<u8>) -> Sweep {
-    Sweep {
-        base,
-        at: 13,
-        digits: 1,
-        alphabet: vec![0, 1, 2, 16, 17],
-    }
+    Sweep::over(base, 13, 1, vec![0, 1, 2, 16, 17])
 }
 
 /// One bad argument beside the others, good and bad: no width or height, no frame or 17, a stride
@@ -261,12 +251,7 @@ fn gray_fields() -> Vec<Sweep> {
         for rule in [(0, 128, 0), DITHER, (2, 8, 0)] {
             for count in [1, 3] {
                 let base = scan(9, 2, count, rule).input(&noise(54, 54), &fields);
-                sweeps.push(Sweep {
-                    base,
-                    at: 0,
-                    digits: 1,
-                    alphabet: vec![0, 1],
-                });
+                sweeps.push(Sweep::over(base, 0, 1, vec![0, 1]));
             }
         }
     }

@@ -55,12 +55,7 @@ fn modes() -> [Vec<u8>; 4] {
 
 /// A file in both formats, lenient and strict.
 fn in_modes(settings: &[u8], file: &[u8]) -> Sweep {
-    Sweep {
-        base: [settings, file].concat(),
-        at: MODES,
-        digits: 2,
-        alphabet: vec![0, 1],
-    }
+    Sweep::over([settings, file].concat(), MODES, 2, vec![0, 1])
 }
 
 pub fn header(width: u32, height: u32) -> Vec<u8> {
@@ -97,12 +92,12 @@ fn limits() -> Vec<Sweep> {
         for body in [plane * 2 + 1, plane, plane - 1] {
             let dots = noise(width as usize, body as usize);
             let file = [header(width, height), dots].concat();
-            sweeps.push(Sweep {
-                base: [settings(0, width, height), file].concat(),
-                at: LIMITS,
-                digits: 4,
-                alphabet: vec![0, 1, 2, 3],
-            });
+            sweeps.push(Sweep::over(
+                [settings(0, width, height), file].concat(),
+                LIMITS,
+                4,
+                vec![0, 1, 2, 3],
+            ));
         }
     }
     let sides = [1, 16383, 16384, 16385, 1 << 20, u32::MAX];
@@ -116,12 +111,12 @@ fn limits() -> Vec<Sweep> {
             }
             let mut every = settings(0, width, height);
             every[LIMITS..].copy_from_slice(&[2; 4]);
-            sweeps.push(Sweep {
-                base: [every, header(width, height)].concat(),
-                at: LIMITS,
-                digits: 4,
-                alphabet: vec![1, 2],
-            });
+            sweeps.push(Sweep::over(
+                [every, header(width, height)].concat(),
+                LIMITS,
+                4,
+                vec![1, 2],
+            ));
         }
     }
     sweeps

@@ -2,7 +2,7 @@
 //! part being how often it is repeated, its length and its bytes.
 //!
 //! The list stands in blocks of 65,536 bytes, so that a program can hold one at a time. A block
-//! is a line of text, then parts of groups, then zeros. A part is the group's name behind its
+//! is a line of text, then parts of groups, then zeros, one at least. A part is the group's name behind its
 //! length, the operation, 1 if the group ends with it, else 0, the number of sweeps, the sweeps.
 //! A sweep is a base text, where its digits start, how many there are, the alphabet behind its
 //! length (0 stands for all 256 bytes in order), the number of cases and the answers in order.
@@ -20,8 +20,9 @@ use oracle::lists::Left;
 
 /// The size of a block.
 const BLOCK: usize = 65536;
-/// The longest text that the program holds.
+/// The longest text that the program holds, and the most cases of a sweep that it replays.
 const TEXT: usize = 8192;
+const CASES: usize = 1 << 20;
 /// The most bytes that a part's name, operation and counts take.
 const HEAD: usize = 64;
 /// The longest part that is looked for as a repeated one.
@@ -79,6 +80,7 @@ impl List {
     }
 
     fn end_block(&mut self) {
+        assert!(self.block.len() < BLOCK, "a block that ends with no zero");
         self.block.resize(BLOCK, 0);
         self.blocks.append(&mut self.block);
         self.block = self.line.as_bytes().to_vec();
@@ -106,10 +108,16 @@ fn encoded(group: &Group, sweep: &Sweep) -> Vec<Vec<u8>> {
     parts.iter().flat_map(|part| encoded(group, part)).collect()
 }
 
-/// The answers of a group's sweep, in order.
+/// The answers of a group's sweep, in order, as the list has them.
 pub fn answers(group: &Group, sweep: &Sweep) -> Vec<Answer> {
-    let inputs = sweep.inputs();
-    inputs.map(|input| group.operation.answer(&input)).collect()
+    let answer = |input: Vec<u8>| {
+        let mut answer = group.operation.answer(&input);
+        if let Some(alter) = sweep.altered {
+            alter(&mut answer);
+        }
+        answer
+    };
+    sweep.inputs().map(answer).collect()
 }
 
 fn put_sweep(list: &mut Vec<u8>, sweep: &Sweep, answers: &[Answer], calls: bool) {
@@ -118,6 +126,7 @@ fn put_sweep(list: &mut Vec<u8>, sweep: &Sweep, answers: &[Answer], calls: bool)
     put_number(list, sweep.digits as u64);
     put_number(list, sweep.alphabet.len() as u64);
     list.extend_from_slice(&sweep.alphabet);
+    assert!(answers.len() <= CASES, "{} cases", answers.len());
     put_number(list, answers.len() as u64);
     for run in answers.chunk_by(|a, b| a == b) {
         put_number(list, run.len() as u64);

@@ -1,5 +1,6 @@
 //! Writes the list of the Rust's answers, and what the program that replays it has to print.
 
+mod altered_cases;
 mod api_cases;
 mod cases;
 mod cut_lists;
@@ -24,7 +25,7 @@ mod stated_makings;
 mod stated_readings;
 mod writer_cases;
 
-use cases::Group;
+use cases::{Group, Sweep};
 use list::List;
 
 /// The first line of each block.
@@ -73,6 +74,7 @@ fn fixed() -> Vec<Group> {
         cut_lists::groups(false),
         random_lists::groups(1, 250, 50),
         stated_lists::groups(),
+        altered_cases::groups(),
     ]
     .concat()
 }
@@ -86,15 +88,38 @@ fn sessions(seed: u64, lists: usize, cards: usize) -> Vec<Group> {
     }
 }
 
-/// A line for each group, its name and its number of comparisons, and one for all.
+/// For each group its altered cases and a line of its name and its number of comparisons, then a
+/// line for all, and one for what was altered.
 fn counts(groups: &[Group]) -> String {
-    let counted: Vec<(&str, usize)> = groups.iter().map(|g| (g.name, comparisons(g))).collect();
-    let all: usize = counted.iter().map(|(_, count)| count).sum();
-    let lines: String = counted
+    let (mut lines, mut all, mut wrong) = (String::new(), 0, 0);
+    for group in groups {
+        let (count, reports) = (comparisons(group), reports(group));
+        lines += &reports.concat();
+        lines += &format!("{} {count}\n", group.name);
+        all += count;
+        wrong += reports.len();
+    }
+    format!("{lines}all {all}\nwrong {wrong}\n")
+}
+
+/// What is reported of the altered cases: the program shows ten of a group.
+fn reports(group: &Group) -> Vec<String> {
+    let altered = |(sweep, s): (usize, &Sweep)| {
+        let input = s.altered.and(s.inputs().next())?;
+        let front: String = input.iter().take(32).map(|b| format!(" {b:02x}")).collect();
+        let (name, length) = (group.name, input.len());
+        Some(format!(
+            "WRONG {name}, sweep {sweep}, case 0, length {length}, input{front}\n"
+        ))
+    };
+    let reports: Vec<String> = group
+        .sweeps
         .iter()
-        .map(|(name, count)| format!("{name} {count}\n"))
+        .enumerate()
+        .filter_map(altered)
         .collect();
-    format!("{lines}all {all}\n")
+    assert!(reports.len() <= 10, "{} altered cases", reports.len());
+    reports
 }
 
 /// One comparison for a reader's case and for one in place; for a writer's, three where it

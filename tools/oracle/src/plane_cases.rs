@@ -101,12 +101,7 @@ fn dots() -> Vec<Sweep> {
     let sweep = |plane: &[u8], format: u8, alphabet: Vec<u8>| {
         let mut base = plane.to_vec();
         base[0] = format;
-        Sweep {
-            base,
-            at: 1,
-            digits: 2,
-            alphabet,
-        }
+        Sweep::over(base, 1, 2, alphabet)
     };
     let mut sweeps = Vec::new();
     for format in [0, 1] {
@@ -136,12 +131,7 @@ fn conversions() -> Vec<Sweep> {
 }
 
 fn formats(base: Vec<u8>, count: u8) -> Sweep {
-    Sweep {
-        base,
-        at: 0,
-        digits: 1,
-        alphabet: (0..count).collect(),
-    }
+    Sweep::over(base, 0, 1, (0..count).collect())
 }
 
 /// Widths and heights with 0 and the largest among them; strides around the row's bytes and

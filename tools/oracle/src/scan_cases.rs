@@ -61,12 +61,7 @@ fn ruled(numbers: impl Fn(u32) -> Vec<u8>) -> Vec<Sweep> {
 
 fn sweep(width: u32, height: u32, gray: &[u8], numbers: Vec<u8>) -> Sweep {
     let sizes = [width.to_be_bytes(), height.to_be_bytes()].concat();
-    Sweep {
-        base: [&[0], &sizes[..], gray].concat(),
-        at: 0,
-        digits: 1,
-        alphabet: numbers,
-    }
+    Sweep::over([&[0], &sizes[..], gray].concat(), 0, 1, numbers)
 }
 
 /// Flat scans on both sides of the boundaries, a gradient, noise, and line art: a frame with a

@@ -36,12 +36,12 @@ fn given() -> Vec<Sweep> {
     for width in sides {
         for height in sides {
             for &bytes in &bytes {
-                sweeps.push(Sweep {
-                    base: [&front(width, height, bytes, 12)[..], &[0; 4]].concat(),
-                    at: 0,
-                    digits: 1,
-                    alphabet: vec![1, 2, 3, 4],
-                });
+                sweeps.push(Sweep::over(
+                    [&front(width, height, bytes, 12)[..], &[0; 4]].concat(),
+                    0,
+                    1,
+                    vec![1, 2, 3, 4],
+                ));
             }
         }
     }

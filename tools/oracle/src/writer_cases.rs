@@ -150,12 +150,7 @@ fn with_fields() -> Vec<Sweep> {
     let sizes = |fields: &Vec<u8>| {
         let sweep = |w: &[u8], h: &[u8]| {
             let base = [w, h, fields].concat();
-            Sweep {
-                base,
-                at: 6,
-                digits: 2,
-                alphabet: vec![0x00, 0x01, 0x80],
-            }
+            Sweep::over(base, 6, 2, vec![0x00, 0x01, 0x80])
         };
         [
             sweep(&[0, 0, 0, 9], &[0; 4]),

@@ -1,6 +1,6 @@
 -- `conformance::make_card` meets its contract.
 -- Assumes nothing.
-use Rattle.conformance.proofs.Calling.{makes-card}
+use Rattle.conformance.proofs.CardCalls.{makes-card}
 use borrow.Author.Needs.{needs}
 use Rattle.conformance.proofs.make_card.Statement.{statement}
 use Rattle.conformance.proofs.make_card.Tie as tie
@@ -34,7 +34,8 @@ returns c =
     let y = c .before .before .before .before .before in
     let z = y .before .before .before .before .before .before in
     let s = z .before .before .before .before .before .before .before .before in
-    makes-card _ _ _ _ _ _ _ _ _ _ _ (s .fits .width .fits) (s .fits .height .fits) (z .open-lengths .ensures) (y .feed .ensures) (c .close .ensures)
+    makes-card _ _ _ _ _ _ _ _ _ _ _ (s .fits .width .fits) (s .fits .height .fits) (z .open-lengths .ensures) (y .feed .ensures)
+    (c .close .ensures)
 
 pub make-card-spec : {M : Type 1} → statement M
 make-card-spec =

@@ -1,6 +1,6 @@
 -- `conformance::read_card` meets its contract.
 -- Assumes nothing.
-use Rattle.conformance.proofs.Calling.{reads-card}
+use Rattle.conformance.proofs.CardCalls.{reads-card}
 use borrow.Author.Needs.{needs}
 use Rattle.conformance.proofs.read_card.Statement.{statement}
 use Rattle.conformance.proofs.read_card.Tie as tie

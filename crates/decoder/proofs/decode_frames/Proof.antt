@@ -17,7 +17,8 @@ returns : tie.Need-returns
 returns c =
     let w = c .before .before in
     let a = w .before .before .before .before .args in
-    decodes _ (decoding (a .options)) (now (a .bytes)) (now (a .out)) _ _ _ (passes (decoding (a .options))) (sym (sixteen (decoding (a .options)))) (w .decode .ensures)
+    decodes _ (decoding (a .options)) (now (a .bytes)) (now (a .out)) _ _ _ (passes (decoding (a .options)))
+    (sym (sixteen (decoding (a .options)))) (w .decode .ensures)
 
 pub decode-frames-spec : {M : Type 1} → statement M
 decode-frames-spec = tie.close (tie.spec decode-requires same-length returns)

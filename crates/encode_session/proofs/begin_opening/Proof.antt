@@ -7,9 +7,9 @@ use Prim.Native.Nat.{ℕ}
 use borrow.Author.Needs.{needs}
 use borrow.Author.Tests.{not-true, not-false}
 use denote.Ref.{now}
-use Rattle.quantize.specs.Whole.{knownRule}
+use Rattle.rules.specs.Rule.{knownRule}
 use Rattle.encode_session.specs.Model.{Opening, opening}
-use Rattle.encode_session.proofs.Opening.{no-width, no-height, unknown, short, tested, left-no, left-as}
+use Rattle.encode_session.proofs.OpenCorrect.{no-width, no-height, unknown, short, tested, left-no, left-as}
 use Rattle.encode_session.proofs.begin_opening.Statement.{statement}
 use Rattle.encode_session.proofs.begin_opening.Tie as tie
 
@@ -48,7 +48,8 @@ returns-3 c lengths h =
     let k = c .before .before in
     let e = k .before in
     left-no (asked (e .before .before) lengths) _ 29
-    (unknown _ _ (e .before .if1 .left) (e .if2 .left) (sym (k .known-rule .ensures) ∙ not-true _ (c .before .if3 .taken))) _ _ (c .unopened3 .ensures)
+    (unknown _ _ (e .before .if1 .left) (e .if2 .left) (sym (k .known-rule .ensures) ∙ not-true _ (c .before .if3 .taken))) _ _
+    (c .unopened3 .ensures)
 
 roomy-requires : tie.Need-roomy-requires
 roomy-requires c κs = search needs
@@ -62,7 +63,8 @@ returns-4 c lengths h =
     let k = r .before in
     let e = k .before .before in
     left-no (asked (e .before .before) lengths) _ 28
-    (short _ _ (e .before .if1 .left) (e .if2 .left) (known k) (sym (r .roomy .ensures) ∙ not-true _ (c .before .if4 .taken))) _ _ (c .unopened4 .ensures)
+    (short _ _ (e .before .if1 .left) (e .if2 .left) (known k) (sym (r .roomy .ensures) ∙ not-true _ (c .before .if4 .taken))) _ _
+    (c .unopened4 .ensures)
 
 begin-header-requires : tie.Need-begin-header-requires
 begin-header-requires c κs = search needs

@@ -2,7 +2,7 @@
 -- Assumes nothing.
 use borrow.Author.Needs.{needs}
 use Rattle.encode_session.specs.Model.{opening}
-use Rattle.encode_session.proofs.Opening.{opens}
+use Rattle.encode_session.proofs.OpenCorrect.{opens}
 use Rattle.encode_session.proofs.opened.Statement.{statement}
 use Rattle.encode_session.proofs.opened.Tie as tie
 

@@ -1,6 +1,6 @@
 -- `encode_session::work_numbers` meets its contract.
 -- Assumes nothing.
-use Rattle.encode_session.proofs.Opening.{enough-work}
+use Rattle.encode_session.proofs.OpenCorrect.{enough-work}
 use borrow.Author.Needs.{needs}
 use Rattle.encode_session.proofs.work_numbers.Statement.{statement}
 use Rattle.encode_session.proofs.work_numbers.Tie as tie

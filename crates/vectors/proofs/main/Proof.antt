@@ -4,10 +4,10 @@ use Rattle.vectors.proofs.main.Statement.{statement}
 use Rattle.vectors.proofs.main.Tie as tie
 
 abbrev Inv-loop : tie.InvT-loop
-Inv-loop tally₀ turns₀ t3 tally turns = Unit {0}
+Inv-loop tally₀ turns₀ t3 t4 tally turns = Unit {0}
 
 abbrev μ-loop : tie.MeasureT-loop
-μ-loop tally₀ turns₀ t3 tally turns = turns
+μ-loop tally₀ turns₀ t3 t4 tally turns = turns
 
 new-requires : tie.Need-new-requires Inv-loop μ-loop
 new-requires c κs = search needs
@@ -30,11 +30,20 @@ loop-less c = search needs
 loop-again : tie.Need-loop-again Inv-loop μ-loop
 loop-again c = search needs
 
+with-group-requires : tie.Need-with-group-requires Inv-loop μ-loop
+with-group-requires c κs = search needs
+
 slice-aggregate-count : tie.Need-slice-aggregate-count Inv-loop μ-loop
 slice-aggregate-count c = search needs
 
 count-requires : tie.Need-count-requires Inv-loop μ-loop
 count-requires c κs = search needs
+
+slice-aggregate-count-2 : tie.Need-slice-aggregate-count-2 Inv-loop μ-loop
+slice-aggregate-count-2 c = search needs
+
+count-requires-2 : tie.Need-count-requires-2 Inv-loop μ-loop
+count-requires-2 c κs = search needs
 
 returns : tie.Need-returns Inv-loop μ-loop
 returns c = search needs
@@ -52,6 +61,9 @@ main-spec =
     sub-turns
     loop-less
     loop-again
+    with-group-requires
     slice-aggregate-count
     count-requires
+    slice-aggregate-count-2
+    count-requires-2
     returns)

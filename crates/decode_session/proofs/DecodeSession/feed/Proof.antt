@@ -25,7 +25,8 @@ unaltered-requires-2 c κs = search needs
 returns-2 : tie.Need-returns-2
 returns-2 c =
     let t = c .before .before .before .before in
-    short-in-header _ _ _ _ _ _ (c .unaltered2 .ensures) (not-false _ (t .before .before .if1 .left)) _ _ _ (t .stage .given .1) (c .before .refusal2 .ensures)
+    short-in-header _ _ _ _ _ _ (c .unaltered2 .ensures) (not-false _ (t .before .before .if1 .left)) _ _ _ (t .stage .given .1)
+    (c .before .refusal2 .ensures)
     (c .before .before .if2 .taken)
 
 feed-head-requires : tie.Need-feed-head-requires
@@ -43,7 +44,8 @@ unaltered-requires-3 c κs = search needs
 returns-3 : tie.Need-returns-3
 returns-3 c =
     let t = c .before .before .before .before in
-    short-in-body _ _ _ _ _ _ (c .unaltered3 .ensures) (not-false _ (t .before .before .if1 .left)) _ _ _ (t .stage2 .given .1) (c .before .refusal3 .ensures)
+    short-in-body _ _ _ _ _ _ (c .unaltered3 .ensures) (not-false _ (t .before .before .if1 .left)) _ _ _ (t .stage2 .given .1)
+    (c .before .refusal3 .ensures)
     (c .before .before .if3 .taken)
 
 feed-planes-requires : tie.Need-feed-planes-requires
@@ -74,7 +76,8 @@ returns-5 : tie.Need-returns-5
 returns-5 c =
     let v = c .before .before in
     let t = v .before .before .before .before in
-    feed-body _ _ _ _ _ _ (not-false _ (t .before .before .if1 .left)) (v .before .before .if3 .left) _ _ _ (t .stage2 .given .1) (v .feed-planes .ensures)
+    feed-body _ _ _ _ _ _ (not-false _ (t .before .before .if1 .left)) (v .before .before .if3 .left) _ _ _ (t .stage2 .given .1)
+    (v .feed-planes .ensures)
 
 returns-6 : tie.Need-returns-6
 returns-6 c =

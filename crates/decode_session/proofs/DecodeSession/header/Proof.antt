@@ -1,4 +1,4 @@
-use Rattle.decode_session.proofs.Seeing.{sees-none, sees-it, sees-refused}
+use Rattle.decode_session.proofs.HeaderShown.{sees-none, sees-it, sees-refused}
 use borrow.Author.Needs.{needs}
 use Rattle.decode_session.proofs.DecodeSession.header.Statement.{statement}
 use Rattle.decode_session.proofs.DecodeSession.header.Tie as tie

@@ -1,4 +1,4 @@
-use Rattle.decode_session.proofs.Opening.{opens, opens-not}
+use Rattle.decode_session.proofs.OpenCorrect.{opens, opens-not}
 use borrow.Author.Needs.{needs}
 use Rattle.decode_session.proofs.DecodeSession.open.Statement.{statement}
 use Rattle.decode_session.proofs.DecodeSession.open.Tie as tie
@@ -13,7 +13,9 @@ refusal-requires : tie.Need-refusal-requires
 refusal-requires c κs = search needs
 
 returns : tie.Need-returns
-returns c = opens-not _ _ _ _ (c .before .before .new .ensures) (c .before .before .before .image-mode .ensures) (c .before .if1 .taken) _ (c .refusal .ensures)
+returns c =
+    opens-not _ _ _ _ (c .before .before .new .ensures) (c .before .before .before .image-mode .ensures) (c .before .if1 .taken) _
+    (c .refusal .ensures)
 
 returns-2 : tie.Need-returns-2
 returns-2 c = opens _ _ _ _ (c .before .new .ensures) (c .before .before .image-mode .ensures) (c .if1 .left)

@@ -33,7 +33,8 @@ returns-3 : tie.Need-returns-3
 returns-3 c =
     let l = c .before .before in
     let e = l .least .ensures in
-    built (c .fed3 .ensures) (inside _ _ _ _ _ _ _ (e .0) (e .1 .0) (e .1 .1) (l .before .before .if1 .left) (l .before .if2 .left) (c .before .if3 .taken))
+    built (c .fed3 .ensures) (inside _ _ _ _ _ _ _ (e .0) (e .1 .0) (e .1 .1) (l .before .before .if1 .left) (l .before .if2 .left)
+    (c .before .if3 .taken))
 
 div-further : tie.Need-div-further
 div-further c = search needs
@@ -51,7 +52,8 @@ there : (c : tie.Then4)
 there c =
     let l = c .before .before in
     let e = l .least .ensures in
-    all-there _ _ _ _ _ _ _ (e .0) (e .1 .0) (e .1 .1) (l .before .before .if1 .left) (l .before .if2 .left) (c .before .if3 .left) (c .if4 .taken)
+    all-there _ _ _ _ _ _ _ (e .0) (e .1 .0) (e .1 .1) (l .before .before .if1 .left) (l .before .if2 .left) (c .before .if3 .left)
+    (c .if4 .taken)
 
 mul-fed : tie.Need-mul-fed
 mul-fed c = omega (arith, there c)
@@ -67,7 +69,8 @@ returns-4 c =
     let l = c .before .before .before in
     let e = l .least .ensures in
     built (c .fed4 .ensures)
-    (reaches _ _ _ _ _ _ _ (e .0) (e .1 .0) (e .1 .1) (l .before .before .if1 .left) (l .before .if2 .left) (c .before .before .if3 .left) (c .before .if4 .taken))
+    (reaches _ _ _ _ _ _ _ (e .0) (e .1 .0) (e .1 .1) (l .before .before .if1 .left) (l .before .if2 .left) (c .before .before .if3 .left)
+    (c .before .if4 .taken))
 
 add-fed-3 : tie.Need-add-fed-3
 add-fed-3 c = search needs
@@ -86,7 +89,8 @@ returns-5 c =
     let l = c .before .before .before in
     let e = l .least .ensures in
     built (c .fed5 .ensures)
-    (goes-on _ _ _ _ _ _ _ (e .0) (e .1 .0) (e .1 .1) (l .before .before .if1 .left) (l .before .if2 .left) (c .before .before .if3 .left) (c .before .if4 .left))
+    (goes-on _ _ _ _ _ _ _ (e .0) (e .1 .0) (e .1 .1) (l .before .before .if1 .left) (l .before .if2 .left) (c .before .before .if3 .left)
+    (c .before .if4 .left))
 
 pub advance-spec : {M : Type 1} → statement M
 advance-spec =

@@ -33,7 +33,8 @@ slice-aggregate-convert-2 : tie.Need-slice-aggregate-convert-2
 slice-aggregate-convert-2 c = sym (length-take-le _ _ (c .before .before .advance .ensures .fits))
 
 convert-requires : tie.Need-convert-requires
-convert-requires c κs = length-take-le _ _ (given (c .before .before)) ∙ sym (length-take-le _ _ (c .before .before .advance .ensures .fits))
+convert-requires c κs =
+    length-take-le _ _ (given (c .before .before)) ∙ sym (length-take-le _ _ (c .before .before .advance .ensures .fits))
 
 same-length : tie.Need-same-length
 same-length c = search needs
@@ -43,10 +44,12 @@ returns c =
     let v = c .before .before in
     let d = v .before .before .before in
     let a = d .before .before .before .before .args in
-    let plane : d .before .new .result .«total_bytes» ≡ planeBytes (a .width) (a .height) = ap (λ (l : PlaneLayout). l .«total_bytes») (d .before .new .ensures) in
+    let plane : d .before .new .result .«total_bytes» ≡ planeBytes (a .place .width) (a .place .height) =
+    ap (λ (l : PlaneLayout). l .«total_bytes») (d .before .new .ensures) in
     record {
       advances =
-          subst (λ n. Advances (a .ceiling) n (a .whole) (a .begun) (length (now (a .piece))) (length (now (a .out))) (d .advance .result)) plane (d .advance .ensures);
+          subst (λ n. Advances (a .ceiling) n (a .place .whole) (a .place .begun) (length (now (a .piece))) (length (now (a .out)))
+          (d .advance .result)) plane (d .advance .ensures);
       output = ap (λ (l : List _). l ++ drop (d .advance .result .written) (now (a .out))) (v .convert .ensures);
     }
 

@@ -35,7 +35,8 @@ sub-last-2 c = omega (arith, mod-lt (c .before .before .before .args .at) (wide 
 
 loop-holds : tie.Need-loop-holds Inv-loop μ-loop
 loop-holds c =
-    begins _ _ _ _ _ (ap (λ (l : PlaneLayout). l .stride) (c .new .ensures)) (ap (λ (l : PlaneLayout). l .«last_byte_pad_mask») (c .new .ensures)) (wide c)
+    begins _ _ _ _ _ (ap (λ (l : PlaneLayout). l .stride) (c .new .ensures))
+    (ap (λ (l : PlaneLayout). l .«last_byte_pad_mask») (c .new .ensures)) (wide c)
 
 slice-read-bytes : tie.Need-slice-read-bytes Inv-loop μ-loop
 slice-read-bytes c = search needs
@@ -52,7 +53,8 @@ loop-less : tie.Need-loop-less Inv-loop μ-loop
 loop-less c = let l = c .before .before .loop in omega (arith, l .inv .same, l .inv .wide, c .before .loop-test .taken)
 
 loop-again : tie.Need-loop-again Inv-loop μ-loop
-loop-again c = let l = c .before .before .loop in goes-on (l .inv) (c .before .loop-test .taken) (omega (arith, c .slice-known2 .given (l .last)))
+loop-again c =
+    let l = c .before .before .loop in goes-on (l .inv) (c .before .loop-test .taken) (omega (arith, c .slice-known2 .given (l .last)))
 
 same-length : tie.Need-same-length Inv-loop μ-loop
 same-length c = c .before .loop .inv .same

@@ -16,8 +16,8 @@ into-format-requires c κs = search needs
 enum-told-2 : tie.Need-enum-told-2
 enum-told-2 c = search needs
 
-invert-from-requires : tie.Need-invert-from-requires
-invert-from-requires c κs = search needs
+invert-into-requires : tie.Need-invert-into-requires
+invert-into-requires c κs = search needs
 
 clear-ends-requires : tie.Need-clear-ends-requires
 clear-ends-requires c κs = search needs
@@ -42,8 +42,9 @@ returns-2 c =
     let v = c .before .before in
     let i = v .before .before .before .before in
     let t = i .before .before in
-    let a = t .before .before .before .before .args in
-    white-is (a .width) (a .at) (now (a .bytes)) _ _ (i .invert-from .ensures) (v .clear-ends .ensures)
+    let s = t .before .before .before .before in
+    let a = s .args in
+    white-is (a .width) (a .at) (now (a .bytes)) (now (a .out)) _ _ _ (s .pre) (i .invert-into .ensures) (v .clear-ends .ensures)
     ∙ ap (λ (f : PixelFormat). bodyFrom f (a .width) (a .at) (now (a .bytes))) (sym (t .enum-told2 .given .1))
 
 pub convert-spec : {M : Type 1} → statement M
@@ -53,7 +54,7 @@ convert-spec =
     enum-told
     into-format-requires
     enum-told-2
-    invert-from-requires
+    invert-into-requires
     clear-ends-requires
     same-length
     returns

@@ -1,5 +1,5 @@
 use denote.Ref.{now}
-use Rattle.decode_session.proofs.Heading.{more, whole, refused}
+use Rattle.decode_session.proofs.HeaderPiece.{more, whole, refused}
 use borrow.Author.Needs.{needs}
 use Rattle.decode_session.proofs.feeding.feed_head.Statement.{statement}
 use Rattle.decode_session.proofs.feeding.feed_head.Tie as tie

@@ -44,11 +44,13 @@ returns c =
     let f = v .feed-body .result in
     let s = v .before .before .before .before .before in
     let a = s .args in
-    planes (a .options) (a .h) _ (a .whole) (a .begun) (a .from) (now (a .piece)) (now (a .out)) _ _ (v .feed-body .result) _ (sym (sixteen (decoding (a .options)))) (s .pre)
+    planes (a .options) (a .h) _ (a .whole) (a .begun) (a .from) (now (a .piece)) (now (a .out)) _ _ (v .feed-body .result) _
+    (sym (sixteen (decoding (a .options)))) (s .pre)
     (take-all (length (now (a .piece)) - a .from) (drop (a .from) (now (a .piece))) (rw length-drop (omega arith)))
     (v .feed-body .ensures)
     (c .took .ensures
-    ∙ ap (λ (k : ParsedHeader). takenIn (a .options) (Stage.Body k (f .whole) (f .begun)) (a .from + f .taken) (f .written)) (c .before .before .rebuilt .ensures))
+    ∙ ap (λ (k : ParsedHeader). takenIn (a .options) (Stage.Body k (f .whole) (f .begun)) (a .from + f .taken) (f .written))
+    (c .before .before .rebuilt .ensures))
 
 pub feed-planes-spec : {M : Type 1} → statement M
 feed-planes-spec =

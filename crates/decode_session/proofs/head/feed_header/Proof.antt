@@ -8,7 +8,7 @@ use denote.Ref.{now}
 use Rattle.header.specs.Settings.{Settings}
 use Rattle.decode_session.specs.Head.{Reached}
 use Rattle.decode_session.proofs.HeaderLoop.{Going, Turn, turn-more, turn-done, turn-refused, going-first, going-last, ends}
-use Rattle.decode_session.proofs.Running.{going-run}
+use Rattle.decode_session.proofs.RunStored.{going-run}
 use Rattle.decode_session.proofs.head.feed_header.Statement.{statement}
 use Rattle.decode_session.proofs.head.feed_header.Tie as tie
 
@@ -24,7 +24,8 @@ abbrev μ-loop : tie.MeasureT-loop
 turn : (k : tie.After-keep Inv-loop μ-loop)
     → let l = k .before .before .before .before .before .before .before .loop in
     let a = k .before .before .before .before .before .before .before .before .before .before .args in
-    Turn (now (a .piece)) (a .at) (l .taken) (l .reader) (l .kept) (l .ext) (k .before .before .before .step .result) (k .keep .result) (k .keep .last .0)
+    Turn (now (a .piece)) (a .at) (l .taken) (l .reader) (l .kept) (l .ext) (k .before .before .before .step .result) (k .keep .result)
+    (k .keep .last .0)
 turn k =
     let s = k .before .before .before in
     let l = s .before .before .before .before .loop in
@@ -77,7 +78,8 @@ loop-again c =
       u .run-on .ensures .within,
       u .run-on .kept .1 .1 .1 .1 .0 ∙ k .keep .kept .0 ∙ l .inv .1,
       λ o bytes h. going-run o bytes _ _ _ _ _ _ _ _ _ _
-          (turn-more o bytes _ _ _ _ _ _ _ _ _ _ _ (l .inv .2 o bytes h) (turn k) _ (c .before .before .before .before .before .before .step2 .given .1))
+          (turn-more o bytes _ _ _ _ _ _ _ _ _ _ _ (l .inv .2 o bytes h) (turn k) _
+          (c .before .before .before .before .before .before .step2 .given .1))
           (u .run-on .ensures) (omega (arith, turn k .big, k .keep .kept .0)),
     )
 
@@ -93,7 +95,8 @@ returns : tie.Need-returns Inv-loop μ-loop
 returns c =
     let k = c .before .before .before .before .before in
     let l = k .before .before .before .before .before .before .before .loop in
-    ends (omega (arith, turn k .within)) (λ o bytes h. turn-done o bytes _ _ _ _ _ _ _ _ _ _ _ (l .inv .2 o bytes h) (turn k) _ (c .before .step3 .given .1))
+    ends (omega (arith, turn k .within))
+    (λ o bytes h. turn-done o bytes _ _ _ _ _ _ _ _ _ _ _ (l .inv .2 o bytes h) (turn k) _ (c .before .step3 .given .1))
 
 enum-known-step-3 : tie.Need-enum-known-step-3 Inv-loop μ-loop
 enum-known-step-3 c = search needs
@@ -107,7 +110,8 @@ returns-2 : tie.Need-returns-2 Inv-loop μ-loop
 returns-2 c =
     let k = c .before .before .before .before .before in
     let l = k .before .before .before .before .before .before .before .loop in
-    ends (omega (arith, turn k .within)) (λ o bytes h. turn-refused o bytes _ _ _ _ _ _ _ _ _ _ _ (l .inv .2 o bytes h) (turn k) _ (c .before .step4 .given .1))
+    ends (omega (arith, turn k .within))
+    (λ o bytes h. turn-refused o bytes _ _ _ _ _ _ _ _ _ _ _ (l .inv .2 o bytes h) (turn k) _ (c .before .step4 .given .1))
 
 same-length-3 : tie.Need-same-length-3 Inv-loop μ-loop
 same-length-3 c = c .before .loop .inv .1

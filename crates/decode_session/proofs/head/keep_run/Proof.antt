@@ -1,7 +1,7 @@
 use Prim.Native.Nat.{_-_}
 use mathlib.Core.Path.{refl}
 use native.Mathlib.Omega.{arith}
-use Rattle.decode_session.proofs.Running.{KeptSo, kept-first, kept-next, kept-last}
+use Rattle.decode_session.proofs.RunStored.{KeptSo, kept-first, kept-next, kept-last}
 use Rattle.decode_session.proofs.head.keep_run.Statement.{statement}
 use Rattle.decode_session.proofs.head.keep_run.Tie as tie
 

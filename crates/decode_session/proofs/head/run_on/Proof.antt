@@ -1,4 +1,4 @@
-use Rattle.decode_session.proofs.Running.{runs-on}
+use Rattle.decode_session.proofs.RunStored.{runs-on}
 use borrow.Author.Needs.{needs}
 use Rattle.decode_session.proofs.head.run_on.Statement.{statement}
 use Rattle.decode_session.proofs.head.run_on.Tie as tie

@@ -6,6 +6,7 @@ use Rattle.header.specs.Read.{meaning}
 use Rattle.header.specs.declared.HeaderRead.{HeaderRead}
 use Rattle.options.specs.Limits.{decoding}
 use Rattle.decoder.specs.Image.{readImage}
+use Rattle.decoder.proofs.Headed.{tested}
 use Rattle.decoder.proofs.Fitted.{imaged, refused, image-parts}
 use Rattle.decoder.proofs.frames.decode.Statement.{statement}
 use Rattle.decoder.proofs.frames.decode.Tie as tie
@@ -13,7 +14,9 @@ use Rattle.decoder.proofs.frames.decode.Tie as tie
 image-read : (c : tie.After-read-image) (x : HeaderRead) → c .read-image .result ≡ x
     → let a = c .before .before .before .args in
     readImage (decoding (a .options)) (now (a .bytes)) ≡ meaning x
-image-read c x e = sym (c .read-image .ensures) ∙ ap meaning e
+image-read c x e =
+    let a = c .before .before .before .args in
+    sym (tested (decoding (a .options)) (now (a .bytes))) ∙ sym (c .read-image .ensures) ∙ ap meaning e
 
 read-image-requires : tie.Need-read-image-requires
 read-image-requires c κs = search needs
@@ -40,7 +43,8 @@ returns c =
     let h = w .before .before .before in
     let k = h .before .before in
     let a = k .before .before .before .args in
-    imaged (1 + a .most) (decoding (a .options)) (now (a .bytes)) (now (a .out)) _ _ _ (image-read k _ (h .h .given .1)) (w .write-frames .ensures)
+    imaged (1 + a .most) (decoding (a .options)) (now (a .bytes)) (now (a .out)) _ _ _ (image-read k _ (h .h .given .1))
+    (w .write-frames .ensures)
 
 returns-2 : tie.Need-returns-2
 returns-2 c =

@@ -18,7 +18,8 @@ new-requires c κs = search needs
 animated-frame-count-requires : tie.Need-animated-frame-count-requires
 animated-frame-count-requires c κs = search needs
 
-plane-is : (c : tie.After-animated-frame-count) → c .before .new .result .«total_bytes» ≡ planeOf (parsed (c .before .before .before .before .args .h))
+plane-is : (c : tie.After-animated-frame-count)
+    → c .before .new .result .«total_bytes» ≡ planeOf (parsed (c .before .before .before .before .args .h))
 plane-is c = ap (λ (l : PlaneLayout). l .«total_bytes») (c .before .new .ensures)
 
 count-is : (c : tie.After-animated-frame-count)
@@ -26,14 +27,16 @@ count-is : (c : tie.After-animated-frame-count)
     1 + c .animated-frame-count .result ≡ framesIn (1 + a .most) (length (now (a .bytes))) (parsed (a .h))
 count-is c =
     let a = c .before .before .before .before .args in
-    counted (a .most) (length (now (a .bytes))) (a .h) (c .before .new .result) (c .animated-frame-count .result) (c .before .new .ensures) (c .animated-frame-count .ensures)
+    counted (a .most) (length (now (a .bytes))) (a .h) (c .before .new .result) (c .animated-frame-count .result) (c .before .new .ensures)
+    (c .animated-frame-count .ensures)
 
 few : (c : tie.After-animated-frame-count) → c .animated-frame-count .result < 16
 few c =
     let s = c .before .before .before .before in
     let a = s .args in
     let p : c .animated-frame-count .result ≤ a .most =
-    subst (λ (n : ℕ). n ≤ a .most) (sym (c .animated-frame-count .ensures)) (at-most (a .most) (c .before .new .result .«total_bytes») (length (now (a .bytes)) - a .h .«data_offset»)) in
+    subst (λ (n : ℕ). n ≤ a .most) (sym (c .animated-frame-count .ensures))
+    (at-most (a .most) (c .before .new .result .«total_bytes») (length (now (a .bytes)) - a .h .«data_offset»)) in
     omega (arith, s .pre .0)
 
 inside : (c : tie.After-animated-frame-count)
@@ -52,7 +55,8 @@ mul-need c =
     let s = c .before .before .before .before in
     let a = s .args in
     let p : a .h .«data_offset» + (1 + c .animated-frame-count .result) * c .before .new .result .«total_bytes» ≤ length (now (a .bytes)) =
-    subst (λ (n : ℕ). a .h .«data_offset» + (1 + c .animated-frame-count .result) * n ≤ length (now (a .bytes))) (sym (plane-is c)) (inside c) in
+    subst (λ (n : ℕ). a .h .«data_offset» + (1 + c .animated-frame-count .result) * n ≤ length (now (a .bytes))) (sym (plane-is c))
+    (inside c) in
     omega (arith, p, s .good)
 
 returns : tie.Need-returns
@@ -60,7 +64,8 @@ returns c =
     let k = c .before in
     let s = k .before .before .before .before in
     let a = s .args in
-    too-short (a .most) (a .format) (now (a .bytes)) (parsed (a .h)) (1 + k .animated-frame-count .result) (now (a .out)) (count-is k) (s .pre .1)
+    too-short (a .most) (a .format) (now (a .bytes)) (parsed (a .h)) (1 + k .animated-frame-count .result) (now (a .out)) (count-is k)
+    (s .pre .1)
     (subst (λ (n : ℕ). length (now (a .out)) < (1 + k .animated-frame-count .result) * n) (plane-is k) (c .if1 .taken))
 
 room : (c : tie.Else1)
@@ -88,7 +93,8 @@ returns-2 c =
     let k = e .before in
     let s = k .before .before .before .before in
     let a = s .args in
-    long-enough (a .most) (a .format) (now (a .bytes)) (parsed (a .h)) (1 + k .animated-frame-count .result) (now (a .out)) (count-is k) (s .pre .1)
+    long-enough (a .most) (a .format) (now (a .bytes)) (parsed (a .h)) (1 + k .animated-frame-count .result) (now (a .out)) (count-is k)
+    (s .pre .1)
     (room e) _ (w .write-planes .ensures) _ (ap (λ (n : ℕ). (1 + k .animated-frame-count .result) * n) (plane-is k))
 
 pub write-frames-spec : {M : Type 1} → statement M

@@ -7,17 +7,18 @@ use Rattle.header.specs.Settings.{settings}
 use Rattle.header.specs.Read.{meaning}
 use Rattle.header.specs.declared.HeaderRead.{HeaderRead}
 use Rattle.options.specs.Limits.{decoding}
-use Rattle.decoder.specs.Image.{testBody, readImage}
-use Rattle.decoder.proofs.Headed.{on-header}
+use Rattle.decoder.specs.Image.{testBody, imageRead}
+use Rattle.decoder.proofs.Headed.{on-header, tested}
 use Rattle.decoder.proofs.image_header.read_image.Statement.{statement}
 use Rattle.decoder.proofs.image_header.read_image.Tie as tie
 
 header-read : (c : tie.After-parse-header-mode) (x : HeaderRead) → c .parse-header-mode .result ≡ x
     → let a = c .before .before .before .args in
-    readImage (decoding (a .options)) (now (a .bytes)) ≡ bind (meaning x) (testBody (decoding (a .options)) (length (now (a .bytes))))
+    imageRead (decoding (a .options)) (now (a .bytes)) ≡ bind (meaning x) (testBody (decoding (a .options)) (length (now (a .bytes))))
 header-read c x e =
     let a = c .before .before .before .args in
-    on-header (decoding (a .options)) (now (a .bytes)) (settings (c .before .image-mode .result)) (c .parse-header-mode .result) x
+    tested (decoding (a .options)) (now (a .bytes))
+    ∙ on-header (decoding (a .options)) (now (a .bytes)) (settings (c .before .image-mode .result)) (c .parse-header-mode .result) x
     (c .before .image-mode .ensures) (c .parse-header-mode .ensures) e
 
 image-mode-requires : tie.Need-image-mode-requires

@@ -14,7 +14,8 @@ limits-tested : (c : tie.After-check) (x : Checked) → c .check .result ≡ x
     testBody (decoding (a .options)) (a .size) (parsed (a .h)) ≡ bind (checked x) (λ _. afterLimits (a .size) (parsed (a .h)))
 limits-tested c x e =
     let a = c .before .before .args in
-    on-limits (decoding (a .options)) (a .size) (a .h) (c .before .new .result) (c .check .result) (c .before .new .ensures) (c .check .ensures) x e
+    on-limits (decoding (a .options)) (a .size) (a .h) (c .before .new .result) (c .check .result) (c .before .new .ensures)
+    (c .check .ensures) x e
 
 new-requires : tie.Need-new-requires
 new-requires c κs = search needs
@@ -41,7 +42,8 @@ returns-2 c =
     let a = k .before .before .args in
     sym
     (limits-tested k _ (t .enum-told .given .1)
-    ∙ short (a .size) (a .h) (k .before .new .result) (c .before .saturating-sub .result) (k .before .new .ensures) (c .before .saturating-sub .ensures) (c .if1 .taken))
+    ∙ short (a .size) (a .h) (k .before .new .result) (c .before .saturating-sub .result) (k .before .new .ensures)
+    (c .before .saturating-sub .ensures) (c .if1 .taken))
 
 returns-3 : tie.Need-returns-3
 returns-3 c =
@@ -50,7 +52,8 @@ returns-3 c =
     let a = k .before .before .args in
     sym
     (limits-tested k _ (t .enum-told .given .1)
-    ∙ enough (a .size) (a .h) (k .before .new .result) (c .before .saturating-sub .result) (k .before .new .ensures) (c .before .saturating-sub .ensures) (c .if1 .left))
+    ∙ enough (a .size) (a .h) (k .before .new .result) (c .before .saturating-sub .result) (k .before .new .ensures)
+    (c .before .saturating-sub .ensures) (c .if1 .left))
 
 pub test-body-spec : {M : Type 1} → statement M
 test-body-spec =

@@ -28,7 +28,8 @@ returns c =
     let plane = convertFormat MonoBlack (a .format) (a .width) (a .height) (rowBytes (a .width)) (now (a .plane)) in
     let long = format-length MonoBlack (a .format) (a .width) (a .height) (rowBytes (a .width)) (now (a .plane)) in
     v .into-format .ensures .bytes
-    ∙ if-true (leb (length plane) (length (now (a .out)))) (plane ++ drop (length plane) (now (a .out))) (now (a .out)) (le-leb (length plane) (length (now (a .out))) (omega (arith, long, s .pre)))
+    ∙ if-true (leb (length plane) (length (now (a .out)))) (plane ++ drop (length plane) (now (a .out))) (now (a .out))
+    (le-leb (length plane) (length (now (a .out))) (omega (arith, long, s .pre)))
     ∙ ap (λ n. plane ++ drop n (now (a .out))) long
 
 pub write-plane-spec : {M : Type 1} → statement M

@@ -1,7 +1,7 @@
 -- `encode_session::EncodeSession::close` meets its contract.
 -- Assumes nothing.
 use borrow.Author.Needs.{needs}
-use Rattle.encode_session.proofs.Closing.{closes-shut, closes-early, closes-whole}
+use Rattle.encode_session.proofs.CloseCorrect.{closes-shut, closes-early, closes-whole}
 use Rattle.encode_session.proofs.EncodeSession.close.Statement.{statement}
 use Rattle.encode_session.proofs.EncodeSession.close.Tie as tie
 

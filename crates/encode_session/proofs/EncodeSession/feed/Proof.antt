@@ -2,7 +2,7 @@
 -- Assumes nothing.
 use borrow.Author.Needs.{needs}
 use borrow.Author.Tests.{not-true, not-false}
-use Rattle.encode_session.proofs.Feeding.{feeds-shut, feeds-short, feeds-ran}
+use Rattle.encode_session.proofs.FeedCorrect.{feeds-shut, feeds-short, feeds-ran}
 use Rattle.encode_session.proofs.EncodeSession.feed.Statement.{statement}
 use Rattle.encode_session.proofs.EncodeSession.feed.Tie as tie
 

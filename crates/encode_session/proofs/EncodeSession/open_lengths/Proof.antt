@@ -1,7 +1,7 @@
 -- `encode_session::EncodeSession::open_lengths` meets its contract.
 -- Assumes nothing.
 use borrow.Author.Needs.{needs}
-use Rattle.ext.proofs.Begun.{begun-put}
+use Rattle.ext_write.proofs.Begun.{begun-put}
 use Rattle.encode_session.proofs.EncodeSession.open_lengths.Statement.{statement}
 use Rattle.encode_session.proofs.EncodeSession.open_lengths.Tie as tie
 

@@ -6,8 +6,7 @@ use borrow.Author.Tests.{not-true, not-false}
 use borrow.Author.Needs.{needs}
 use Rattle.error.specs.Answer.{checked, gives}
 use Rattle.laws.proofs.Products.{product-below}
-use Rattle.quantize.specs.Engine.{meaning, roomy}
-use Rattle.quantize.specs.Whole.{knownRule}
+use Rattle.rules.specs.Rule.{meaning, roomy, knownRule}
 use Rattle.encoder.specs.File.{checkCount}
 use Rattle.encoder.proofs.CountTests.{counted}
 use Rattle.encoder.proofs.ScanTests.{not-counted, not-known, not-roomy, too-short, long-enough}

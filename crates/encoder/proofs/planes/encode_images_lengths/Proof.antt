@@ -1,4 +1,4 @@
-use Rattle.ext.proofs.Begun.{begun-put}
+use Rattle.ext_write.proofs.Begun.{begun-put}
 use borrow.Author.Needs.{needs}
 use Rattle.encoder.proofs.planes.encode_images_lengths.Statement.{statement}
 use Rattle.encoder.proofs.planes.encode_images_lengths.Tie as tie

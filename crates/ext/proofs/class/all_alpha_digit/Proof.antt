@@ -5,7 +5,7 @@ use borrow.Author.Needs.{needs}
 use borrow.Author.Tests.{not-true, not-false}
 use lib.ListN.{length, drop}
 use Rattle.ext.specs.Classes.{isAlphaDigit, all}
-use Rattle.ext.proofs.Alls.{all-end, all-bad, all-next}
+use Rattle.ext.proofs.ClassAll.{all-end, all-bad, all-next}
 use Rattle.ext.proofs.class.all_alpha_digit.Statement.{statement}
 use Rattle.ext.proofs.class.all_alpha_digit.Tie as tie
 
@@ -27,7 +27,8 @@ is-rfc2234-alpha-digit-requires c κs = search needs
 returns : tie.Need-returns Inv-loop μ-loop
 returns c =
     let l = c .before .before .before .before .loop in
-    sym (l .inv ∙ all-bad isAlphaDigit _ (l .i) (omega arith) (sym (c .before .is-rfc2234-alpha-digit .ensures) ∙ not-true _ (c .if1 .taken)))
+    sym (l .inv ∙ all-bad isAlphaDigit _ (l .i) (omega arith)
+    (sym (c .before .is-rfc2234-alpha-digit .ensures) ∙ not-true _ (c .if1 .taken)))
 
 add-i : tie.Need-add-i Inv-loop μ-loop
 add-i c = search needs

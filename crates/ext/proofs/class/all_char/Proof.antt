@@ -5,7 +5,7 @@ use borrow.Author.Needs.{needs}
 use borrow.Author.Tests.{not-true, not-false}
 use lib.ListN.{length, drop}
 use Rattle.ext.specs.Classes.{isChar, all}
-use Rattle.ext.proofs.Alls.{all-end, all-bad, all-next}
+use Rattle.ext.proofs.ClassAll.{all-end, all-bad, all-next}
 use Rattle.ext.proofs.class.all_char.Statement.{statement}
 use Rattle.ext.proofs.class.all_char.Tie as tie
 

@@ -1,6 +1,6 @@
 use mathlib.Core.Path.{_∙_}
 use borrow.Author.Needs.{needs}
-use Rattle.ext.proofs.Alls.{strict-class}
+use Rattle.ext.proofs.ClassAll.{strict-class}
 use Rattle.ext.proofs.class.identifier_in_class.Statement.{statement}
 use Rattle.ext.proofs.class.identifier_in_class.Tie as tie
 

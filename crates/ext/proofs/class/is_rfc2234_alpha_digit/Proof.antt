@@ -8,7 +8,13 @@ use Rattle.ext.proofs.class.is_rfc2234_alpha_digit.Tie as tie
 returns : tie.Need-returns
 unfolding isAlphaDigit
 returns c = let b = c .before .args .byte in
-    simp (le-leb 48 b (omega arith), lt-leb b 57 (omega arith), le-leb 65 b (omega arith), lt-leb b 90 (omega arith), le-leb 97 b (omega arith))
+    simp (
+      le-leb 48 b (omega arith),
+      lt-leb b 57 (omega arith),
+      le-leb 65 b (omega arith),
+      lt-leb b 90 (omega arith),
+      le-leb 97 b (omega arith),
+    )
 
 returns-2 : tie.Need-returns-2
 unfolding isAlphaDigit

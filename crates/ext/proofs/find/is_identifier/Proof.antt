@@ -6,12 +6,13 @@ use borrow.Author.Count.{below-more}
 use lib.ListN.{length, getD}
 use denote.Ref.{now}
 use Rattle.laws.proofs.Tests.{zero-one}
-use Rattle.ext.proofs.Same.{same-list, same-length, same-get}
+use Rattle.ext.proofs.SliceSame.{same-list, same-length, same-get}
 use Rattle.ext.proofs.find.is_identifier.Statement.{statement}
 use Rattle.ext.proofs.find.is_identifier.Tie as tie
 
 abbrev Inv-loop : tie.InvT-loop
-Inv-loop bytes from to identifier i₀ i = (i ≤ length identifier) × (length identifier ≡ to - from) × ((k : ℕ) → k < i → getD bytes (from + k) 0 ≡ getD identifier k 0)
+Inv-loop bytes from to identifier i₀ i = (i ≤ length identifier) × (length identifier ≡ to - from)
+    × ((k : ℕ) → k < i → getD bytes (from + k) 0 ≡ getD identifier k 0)
 
 abbrev μ-loop : tie.MeasureT-loop
 μ-loop bytes from to identifier i₀ i = length identifier - i
@@ -39,8 +40,11 @@ shared-slice-read-if2-2 c = search needs
 returns-2 : tie.Need-returns-2 Inv-loop μ-loop
 returns-2 c =
     let a = c .before .before .before .before .before .before .args in
-    let i = c .before .before .before .before .loop .i in
-    (λ z. zero-one (cc), λ z e. c .if2 .taken (same-get (now (a .bytes)) (a .from) (a .to) (now (a .identifier)) (omega arith) e i (omega arith)))
+    let i = c .before .before .before .before .loop .i in (
+      λ z. zero-one (cc),
+      λ z e. c .if2 .taken
+          (same-get (now (a .bytes)) (a .from) (a .to) (now (a .identifier)) (omega arith) e i (omega arith)),
+    )
 
 add-i : tie.Need-add-i Inv-loop μ-loop
 add-i c = search needs

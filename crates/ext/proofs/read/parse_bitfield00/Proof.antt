@@ -9,13 +9,14 @@ use Rattle.error.specs.Answer.{map}
 use Rattle.ext.specs.Kinds.{spanOf}
 use Rattle.ext.specs.Read.{readFields}
 use Rattle.ext.specs.Bytewise.{octets, fieldsFrom}
-use Rattle.ext.proofs.Bitfield.{octets-end, octets-over, octets-last, octets-more}
+use Rattle.ext.proofs.OctetsBytewise.{octets-end, octets-over, octets-last, octets-more}
 use Rattle.ext.proofs.Spans.{spanTo, spans}
 use Rattle.ext.proofs.read.parse_bitfield00.Statement.{statement}
 use Rattle.ext.proofs.read.parse_bitfield00.Tie as tie
 
 abbrev Inv-loop : tie.InvT-loop
-Inv-loop bytes offset at₀ at = (offset ≤ at) × (map (spanOf offset) (readFields false true 0 bytes offset) ≡ octets (drop at bytes) offset at (spanTo 0 offset))
+Inv-loop bytes offset at₀ at = (offset ≤ at)
+    × (map (spanOf offset) (readFields false true 0 bytes offset) ≡ octets (drop at bytes) offset at (spanTo 0 offset))
 
 abbrev μ-loop : tie.MeasureT-loop
 μ-loop bytes offset at₀ at = length bytes - at
@@ -34,7 +35,8 @@ returns : tie.Need-returns Inv-loop μ-loop
 returns c =
     let l = c .before .before .before .loop in
     let a = c .before .before .before .before .before .args in
-    c .refused .ensures ∙ sym (l .inv .1 ∙ octets-over (now (a .bytes)) (a .offset) (l .at) _ (c .before .before .loop-test .taken) (omega arith))
+    c .refused .ensures ∙ sym (l .inv .1 ∙ octets-over (now (a .bytes)) (a .offset) (l .at) _ (c .before .before .loop-test .taken)
+    (omega arith))
 
 shared-slice-read-if2 : tie.Need-shared-slice-read-if2 Inv-loop μ-loop
 shared-slice-read-if2 c = search needs
@@ -49,7 +51,8 @@ returns-2 : tie.Need-returns-2 Inv-loop μ-loop
 returns-2 c =
     let l = c .before .before .before .before .before .loop in
     let a = c .before .before .before .before .before .before .before .args in
-    c .found .ensures ∙ sym (l .inv .1 ∙ octets-last (now (a .bytes)) (a .offset) (l .at) _ (omega arith) (omega arith) (c .before .if2 .taken))
+    c .found .ensures ∙ sym (l .inv .1 ∙ octets-last (now (a .bytes)) (a .offset) (l .at) _ (omega arith) (omega arith)
+    (c .before .if2 .taken))
 
 add-at : tie.Need-add-at Inv-loop μ-loop
 add-at c = search needs

@@ -11,14 +11,15 @@ use Rattle.ext.specs.Read.{readFields}
 use Rattle.ext.specs.Pairwise.{pairMeaning}
 use Rattle.ext.specs.Bytewise.{pairsFrom, fieldsFrom}
 use Rattle.ext.specs.declared.PairRead.{PairRead}
-use Rattle.ext.proofs.PairChain.{afterPair, pairs-end, pairs-over, pairs-step}
-use Rattle.ext.proofs.Extent.{step-after}
+use Rattle.ext.proofs.PairsBytewise.{afterPair, pairs-end, pairs-over, pairs-step}
+use Rattle.ext.proofs.PairExtent.{step-after}
 use Rattle.ext.proofs.Spans.{spanTo, spans}
 use Rattle.ext.proofs.read.parse_parameter_pairs.Statement.{statement}
 use Rattle.ext.proofs.read.parse_parameter_pairs.Tie as tie
 
 abbrev Inv-loop : tie.InvT-loop
-Inv-loop bytes offset strict at₀ pairs₀ at pairs = (offset ≤ at) × (pairs ≤ at) × (map (spanOf offset) (readFields strict true 3 bytes offset) ≡ pairsFrom (drop at bytes) strict offset at pairs (spanTo 3 offset))
+Inv-loop bytes offset strict at₀ pairs₀ at pairs = (offset ≤ at) × (pairs ≤ at)
+    × (map (spanOf offset) (readFields strict true 3 bytes offset) ≡ pairsFrom (drop at bytes) strict offset at pairs (spanTo 3 offset))
 
 abbrev μ-loop : tie.MeasureT-loop
 μ-loop bytes offset strict at₀ pairs₀ at pairs = length bytes - at
@@ -46,7 +47,8 @@ past : (c : tie.After-more Inv-loop μ-loop) → c .before .before .before .befo
 past c =
     let p = c .before .before in
     let a = p .before .before .before .before .before .args in
-    step-after (a .strict) (now (a .bytes)) (p .before .before .before .loop .at) _ (sym (ap pairMeaning (c .more .given .1)) ∙ p .parse-pair .ensures)
+    step-after (a .strict) (now (a .bytes)) (p .before .before .before .loop .at) _
+    (sym (ap pairMeaning (c .more .given .1)) ∙ p .parse-pair .ensures)
 
 loop-holds : tie.Need-loop-holds Inv-loop μ-loop
 unfolding fieldsFrom
@@ -65,7 +67,8 @@ returns c =
     let l = c .before .before .before .loop in
     let a = c .before .before .before .before .before .args in
     c .refused .ensures
-    ∙ sym (l .inv .2 ∙ pairs-over (a .strict) (now (a .bytes)) (a .offset) (l .pairs) _ (l .at) (c .before .before .loop-test .taken) (omega arith))
+    ∙ sym (l .inv .2 ∙ pairs-over (a .strict) (now (a .bytes)) (a .offset) (l .pairs) _ (l .at) (c .before .before .loop-test .taken)
+    (omega arith))
 
 parse-pair-requires : tie.Need-parse-pair-requires Inv-loop μ-loop
 parse-pair-requires c κs = search needs
@@ -81,8 +84,12 @@ loop-less c = omega (arith, past (c .before .before))
 
 loop-again : tie.Need-loop-again Inv-loop μ-loop
 loop-again c =
-    let h = past (c .before .before) in
-    (omega arith, omega arith, turned (c .before .before .before .before) _ (c .before .before .more .given .1) ∙ ap (goesOn (c .before .before)) (c .if2 .taken))
+    let h = past (c .before .before) in (
+      omega arith,
+      omega arith,
+      turned (c .before .before .before .before) _ (c .before .before .more .given .1)
+          ∙ ap (goesOn (c .before .before)) (c .if2 .taken),
+    )
 
 add-found : tie.Need-add-found Inv-loop μ-loop
 add-found c = search needs
@@ -93,7 +100,8 @@ found-requires c κs = omega (arith, past (c .before .before))
 returns-2 : tie.Need-returns-2 Inv-loop μ-loop
 returns-2 c =
     c .found .ensures
-    ∙ sym (turned (c .before .before .before .before .before) _ (c .before .before .before .more .given .1) ∙ ap (goesOn (c .before .before .before)) (c .before .if2 .left))
+    ∙ sym (turned (c .before .before .before .before .before) _ (c .before .before .before .more .given .1)
+    ∙ ap (goesOn (c .before .before .before)) (c .before .if2 .left))
 
 enum-known-e : tie.Need-enum-known-e Inv-loop μ-loop
 enum-known-e c = search needs

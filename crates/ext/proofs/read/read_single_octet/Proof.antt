@@ -21,7 +21,13 @@ returns c =
     let kind = kindNumber (a .ext-type) in
     c .refused .ensures
     ∙ sym (spans _ kind (now (a .bytes)) (a .offset)
-    ∙ simp (fieldsFrom, ne-eqb kind 0 (λ z. omega arith), ne-eqb kind 3 (λ z. omega arith), drop-of-length-le (now (a .bytes)) (c .before .if1 .taken)))
+    ∙ simp (
+      fieldsFrom,
+      ne-eqb kind 0 (λ z. omega arith),
+      ne-eqb kind 3 (λ z. omega arith),
+      drop-of-length-le (now (a .bytes))
+          (c .before .if1 .taken),
+    ))
 
 add-found : tie.Need-add-found
 add-found c = search needs
@@ -36,7 +42,13 @@ returns-2 c =
     let kind = kindNumber (a .ext-type) in
     c .found .ensures
     ∙ sym (spans _ kind (now (a .bytes)) (a .offset)
-    ∙ simp (fieldsFrom, ne-eqb kind 0 (λ z. omega arith), ne-eqb kind 3 (λ z. omega arith), drop-at (now (a .bytes)) (a .offset) (c .before .if1 .left)))
+    ∙ simp (
+      fieldsFrom,
+      ne-eqb kind 0 (λ z. omega arith),
+      ne-eqb kind 3 (λ z. omega arith),
+      drop-at (now (a .bytes)) (a .offset)
+          (c .before .if1 .left),
+    ))
 
 pub read-single-octet-spec : {M : Type 1} → statement M
 read-single-octet-spec =

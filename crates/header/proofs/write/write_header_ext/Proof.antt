@@ -47,26 +47,26 @@ use Rattle.error.specs.Emits.{Emits}
 use Rattle.error.specs.declared.Written.{Written}
 use Rattle.error.proofs.Written as Wr
 use Rattle.error.proofs.Written.Laws as Wr′
-use Rattle.ext.specs.Write.{flattened}
-use Rattle.ext.specs.Steps.{putStart, putPairs}
-use Rattle.ext.specs.Left.{ChecksPairs}
-use Rattle.ext.specs.declared.Parameter.{Parameter}
-use Rattle.ext.specs.declared.FieldsCheck.{FieldsCheck}
-use Rattle.ext.specs.declared.PairsBegun.{PairsBegun}
-use Rattle.ext.proofs.Begun.{begun-put}
-use Rattle.ext.proofs.Calls.{GoodFound, GoodBegun, GoodWritten, Check, Put, Ys, Xs, checks, puts}
-use Rattle.ext.proofs.Lend.{OutAt, lends, backs}
-use Rattle.ext.proofs.Parameter as T
-use Rattle.ext.proofs.FieldsCheck as F
-use Rattle.ext.proofs.FieldsCheck.Laws as F′
-use Rattle.ext.proofs.PairsBegun as B
-use Rattle.ext.proofs.PairsBegun.Laws as B′
-use Rattle.ext.proofs.check_parameters.Symbol as check-def
-use Rattle.ext.proofs.check_parameters.Symbol.{name as #check}
-use Rattle.ext.proofs.check_parameters.Met as check-thm
-use Rattle.ext.proofs.put_parameters.Symbol as put-def
-use Rattle.ext.proofs.put_parameters.Symbol.{name as #put}
-use Rattle.ext.proofs.put_parameters.Met as put-thm
+use Rattle.ext_write.specs.Write.{flattened}
+use Rattle.ext_write.specs.Steps.{putStart, putPairs}
+use Rattle.ext_write.specs.Left.{ChecksPairs}
+use Rattle.ext_write.specs.declared.Parameter.{Parameter}
+use Rattle.ext_write.specs.declared.FieldsCheck.{FieldsCheck}
+use Rattle.ext_write.specs.declared.PairsBegun.{PairsBegun}
+use Rattle.ext_write.proofs.Begun.{begun-put}
+use Rattle.ext_write.proofs.Calls.{GoodFound, GoodBegun, GoodWritten, Check, Put, Ys, Xs, checks, puts}
+use Rattle.ext_write.proofs.Lend.{OutAt, lends, backs}
+use Rattle.ext_write.proofs.Parameter as T
+use Rattle.ext_write.proofs.FieldsCheck as F
+use Rattle.ext_write.proofs.FieldsCheck.Laws as F′
+use Rattle.ext_write.proofs.PairsBegun as B
+use Rattle.ext_write.proofs.PairsBegun.Laws as B′
+use Rattle.ext_write.proofs.check_parameters.Symbol as check-def
+use Rattle.ext_write.proofs.check_parameters.Symbol.{name as #check}
+use Rattle.ext_write.proofs.check_parameters.Met as check-thm
+use Rattle.ext_write.proofs.put_parameters.Symbol as put-def
+use Rattle.ext_write.proofs.put_parameters.Symbol.{name as #put}
+use Rattle.ext_write.proofs.put_parameters.Met as put-thm
 use Rattle.header.specs.Write.{extHeader}
 use Rattle.header.specs.Begin.{BeginsHeader}
 use Rattle.header.specs.declared.ExtPresence.{ExtPresence}
@@ -271,6 +271,6 @@ write-header-ext-spec 𝓤 H 𝓜 𝓖 𝓡 =
     entered 𝓤 H (tripleOf 𝓤 H (𝓖 .A) f.signature (f.spec 𝓤 H (𝓖 .A) (𝓜 .mem) (𝓡 .run)))
     (tables 𝓤 H 𝓜 𝓡 code.env .C) (tables 𝓤 H 𝓜 𝓡 code.env .Λ) #f code.function (code.unfolded 𝓤 H 𝓜 𝓡)
     (meets 𝓤 H (𝓖 .A) (givenOf 𝓤 H 𝓜 𝓖) (𝓜 .mem) (𝓡 .run) (tablesOf 𝓤 H 𝓜 (tables 𝓤 H 𝓜 𝓡 code.env))
-    (cited 𝓤 H (Check 𝓤 H (𝓖 .A) (𝓜 .mem) (𝓡 .run)) 𝓜 𝓡 code.env #check check-def.routine code.calls-ext·check-parameters (check-thm.met 𝓤 H 𝓜 𝓖 𝓡))
+    (cited 𝓤 H (Check 𝓤 H (𝓖 .A) (𝓜 .mem) (𝓡 .run)) 𝓜 𝓡 code.env #check check-def.routine code.calls-ext-write·check-parameters (check-thm.met 𝓤 H 𝓜 𝓖 𝓡))
     (cited 𝓤 H (Begin 𝓤 H (𝓖 .A) (𝓜 .mem) (𝓡 .run)) 𝓜 𝓡 code.env #begin begin-def.routine code.calls-header·write·begin-header (begin-thm.met 𝓤 H 𝓜 𝓖 𝓡))
-    (cited 𝓤 H (Put 𝓤 H (𝓖 .A) (𝓜 .mem) (𝓡 .run)) 𝓜 𝓡 code.env #put put-def.routine code.calls-ext·put-parameters (put-thm.met 𝓤 H 𝓜 𝓖 𝓡)))
+    (cited 𝓤 H (Put 𝓤 H (𝓖 .A) (𝓜 .mem) (𝓡 .run)) 𝓜 𝓡 code.env #put put-def.routine code.calls-ext-write·put-parameters (put-thm.met 𝓤 H 𝓜 𝓖 𝓡)))

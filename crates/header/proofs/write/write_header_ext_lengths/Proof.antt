@@ -1,4 +1,4 @@
-use Rattle.ext.proofs.Begun.{begun-put}
+use Rattle.ext_write.proofs.Begun.{begun-put}
 use borrow.Author.Needs.{needs}
 use Rattle.header.proofs.write.write_header_ext_lengths.Statement.{statement}
 use Rattle.header.proofs.write.write_header_ext_lengths.Tie as tie

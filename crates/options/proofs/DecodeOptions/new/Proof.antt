@@ -1,7 +1,7 @@
 use borrow.Author.Needs.{needs}
 use Rattle.image.specs.declared.PixelFormat.the-variants.{MonoBlack}
 use Rattle.options.specs.Limits.{lenient}
-use Rattle.options.proofs.LimitsSet.{settled}
+use Rattle.options.proofs.SettingsSame.{settings-same}
 use Rattle.options.proofs.DecodeOptions.new.Statement.{statement}
 use Rattle.options.proofs.DecodeOptions.new.Tie as tie
 
@@ -19,7 +19,7 @@ at-most-requires c κs = search needs
 
 returns : tie.Need-returns
 returns c =
-    settled lenient MonoBlack (c .before .before .before .absent .ensures) (c .before .before .absent2 .ensures)
+    settings-same lenient MonoBlack (c .before .before .before .absent .ensures) (c .before .before .absent2 .ensures)
     (c .before .absent3 .ensures) (c .at-most .ensures)
 
 pub new-spec : {M : Type 1} → statement M

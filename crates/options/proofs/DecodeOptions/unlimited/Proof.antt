@@ -1,6 +1,6 @@
 use borrow.Author.Needs.{needs}
 use Rattle.options.specs.Limits.{modeOf}
-use Rattle.options.proofs.LimitsSet.{settled}
+use Rattle.options.proofs.SettingsSame.{settings-same}
 use Rattle.options.proofs.DecodeOptions.unlimited.Statement.{statement}
 use Rattle.options.proofs.DecodeOptions.unlimited.Tie as tie
 
@@ -19,7 +19,7 @@ absent-requires-4 c κs = search needs
 returns : tie.Need-returns
 returns c =
     let o = c .before .before .before .before .args .self in
-    settled (modeOf (o .mode)) (o .format) (c .before .before .before .absent .ensures) (c .before .before .absent2 .ensures)
+    settings-same (modeOf (o .mode)) (o .format) (c .before .before .before .absent .ensures) (c .before .before .absent2 .ensures)
     (c .before .absent3 .ensures) (c .absent4 .ensures)
 
 pub unlimited-spec : {M : Type 1} → statement M

@@ -2,8 +2,7 @@
 -- Assumes nothing.
 use mathlib.Core.Path.{_∙_, ap, sym}
 use Rattle.options.specs.declared.Quantize.{Quantize}
-use Rattle.quantize.specs.Asked.{meaning}
-use Rattle.quantize.specs.Asked.{roomy as roomyOf}
+use Rattle.rules.specs.Rule.{meaning, roomy as roomyOf}
 use Rattle.quantize.proofs.Abilities.{half-leb}
 use borrow.Author.Needs.{needs}
 use Rattle.quantize.proofs.asked.enough.Statement.{statement}

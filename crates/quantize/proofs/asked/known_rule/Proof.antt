@@ -1,7 +1,7 @@
 -- `quantize::asked::known_rule` meets its contract.
 -- Assumes nothing.
 use mathlib.Core.Path.{_∙_, ap, sym}
-use Rattle.quantize.specs.Asked.{knownRule}
+use Rattle.rules.specs.Rule.{knownRule}
 use borrow.Author.Needs.{needs}
 use Rattle.quantize.proofs.asked.known_rule.Statement.{statement}
 use Rattle.quantize.proofs.asked.known_rule.Tie as tie

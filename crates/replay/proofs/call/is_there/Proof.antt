@@ -1,5 +1,5 @@
 use native.Mathlib.Omega.{arith}
-use Rattle.replay.proofs.Naming.{no-piece, no-output, buffer-tests}
+use Rattle.replay.proofs.CallNamed.{no-piece, no-output, buffer-tests}
 use Rattle.replay.proofs.call.is_there.Statement.{statement}
 use Rattle.replay.proofs.call.is_there.Tie as tie
 

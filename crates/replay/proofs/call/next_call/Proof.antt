@@ -1,7 +1,7 @@
 use native.Mathlib.Omega.{arith}
 use borrow.Author.Tests.{not-true, not-false}
 use borrow.Author.Needs.{needs}
-use Rattle.replay.proofs.Naming.{too-few, no-room, closes, feeds, no-parts}
+use Rattle.replay.proofs.CallNamed.{too-few, no-room, closes, feeds, no-parts}
 use Rattle.replay.proofs.call.next_call.Statement.{statement}
 use Rattle.replay.proofs.call.next_call.Tie as tie
 

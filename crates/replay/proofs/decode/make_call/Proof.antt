@@ -4,7 +4,7 @@ use borrow.Author.Needs.{needs}
 use lib.ListN.{length}
 use Rattle.replay.specs.declared.call.Named.{Named}
 use Rattle.replay.specs.Calls.{There}
-use Rattle.replay.proofs.Decoding.{closed-makes, fed-makes}
+use Rattle.replay.proofs.DecodeCalled.{closed-makes, fed-makes}
 use Rattle.replay.proofs.decode.make_call.Statement.{statement}
 use Rattle.replay.proofs.decode.make_call.Tie as tie
 

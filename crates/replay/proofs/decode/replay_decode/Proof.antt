@@ -3,8 +3,8 @@ use native.Mathlib.Omega.{arith}
 use borrow.Author.Needs.{needs}
 use lib.ListN.{length, drop}
 use Rattle.replay.specs.Calls.{Goes}
-use Rattle.replay.proofs.Running.{Steps, ends-here, goes-here, steps}
-use Rattle.replay.proofs.Decoding.{Sofar, starts, stops, onward}
+use Rattle.replay.proofs.RunPlace.{Steps, ends-here, goes-here, steps}
+use Rattle.replay.proofs.DecodeLoop.{Sofar, starts, stops, onward}
 use Rattle.replay.proofs.decode.replay_decode.Statement.{statement}
 use Rattle.replay.proofs.decode.replay_decode.Tie as tie
 

@@ -2,7 +2,7 @@ use mathlib.Core.Path.{sym}
 use native.Mathlib.Omega.{arith}
 use borrow.Author.Needs.{needs}
 use lib.Seq.{length-take-le}
-use Rattle.replay.proofs.Encoding.{fed-part}
+use Rattle.replay.proofs.EncodeFed.{fed-part}
 use Rattle.replay.proofs.encode.feed_part.Statement.{statement}
 use Rattle.replay.proofs.encode.feed_part.Tie as tie
 

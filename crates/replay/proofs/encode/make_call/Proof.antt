@@ -4,7 +4,7 @@ use borrow.Author.Needs.{needs}
 use lib.ListN.{length}
 use Rattle.replay.specs.declared.call.Named.{Named}
 use Rattle.replay.specs.Calls.{There}
-use Rattle.replay.proofs.Encoding.{closed-makes, fed-makes}
+use Rattle.replay.proofs.EncodeCalled.{closed-makes, fed-makes}
 use Rattle.replay.proofs.encode.make_call.Statement.{statement}
 use Rattle.replay.proofs.encode.make_call.Tie as tie
 

@@ -3,8 +3,8 @@ use native.Mathlib.Omega.{arith}
 use borrow.Author.Needs.{needs}
 use lib.ListN.{length, drop}
 use Rattle.replay.specs.Calls.{Goes}
-use Rattle.replay.proofs.Running.{Steps, ends-here, goes-here, steps}
-use Rattle.replay.proofs.Encoding.{Sofar, starts, stops, onward}
+use Rattle.replay.proofs.RunPlace.{Steps, ends-here, goes-here, steps}
+use Rattle.replay.proofs.EncodeLoop.{Sofar, starts, stops, onward}
 use Rattle.replay.proofs.encode.replay_encode.Statement.{statement}
 use Rattle.replay.proofs.encode.replay_encode.Tie as tie
 

@@ -10,8 +10,8 @@ Inv-loop list start got choices next₀ same₀ i₀ next same i = Unit {0}
 abbrev μ-loop : tie.MeasureT-loop
 μ-loop list start got choices next₀ same₀ i₀ next same i = choices - i
 
-number-requires : tie.Need-number-requires Inv-loop μ-loop
-number-requires c κs = search needs
+count-requires : tie.Need-count-requires Inv-loop μ-loop
+count-requires c κs = search needs
 
 loop-holds : tie.Need-loop-holds Inv-loop μ-loop
 loop-holds c = search needs
@@ -40,7 +40,7 @@ accepted-spec =
     (tie.spec
     Inv-loop
     μ-loop
-    number-requires
+    count-requires
     loop-holds
     equals-requires
     either-requires

@@ -28,8 +28,8 @@ number-requires-2 c κs = search needs
 number-requires-3 : tie.Need-number-requires-3 Inv-loop μ-loop
 number-requires-3 c κs = search needs
 
-number-requires-4 : tie.Need-number-requires-4 Inv-loop μ-loop
-number-requires-4 c κs = search needs
+count-requires : tie.Need-count-requires Inv-loop μ-loop
+count-requires c κs = search needs
 
 with-next-requires : tie.Need-with-next-requires Inv-loop μ-loop
 with-next-requires c κs = search needs
@@ -67,7 +67,7 @@ replay-part-spec =
     skip-requires
     number-requires-2
     number-requires-3
-    number-requires-4
+    count-requires
     with-next-requires
     loop-holds
     replay-sweep-requires

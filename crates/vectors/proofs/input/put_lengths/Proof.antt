@@ -1,4 +1,4 @@
--- `vectors::input::put_lengths` is safe and ends. The measure is the lengths left; the output keeps its length.
+-- `vectors::input::put_lengths` is safe and ends. The measure is what is left to put; the output keeps its length.
 use borrow.Author.Needs.{needs}
 use Prim.Native.Nat.{_-_}
 use mathlib.Core.Path.{_≡_}
@@ -21,8 +21,8 @@ loop-holds c = search needs
 byte-requires : tie.Need-byte-requires Inv-loop μ-loop
 byte-requires c κs = search needs
 
-put-length-requires : tie.Need-put-length-requires Inv-loop μ-loop
-put-length-requires c κs = search needs
+put-number-requires : tie.Need-put-number-requires Inv-loop μ-loop
+put-number-requires c κs = search needs
 
 add-i : tie.Need-add-i Inv-loop μ-loop
 add-i c = search needs
@@ -48,7 +48,7 @@ put-lengths-spec =
     least-requires
     loop-holds
     byte-requires
-    put-length-requires
+    put-number-requires
     add-i
     loop-less
     loop-again

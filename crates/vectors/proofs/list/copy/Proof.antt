@@ -1,4 +1,4 @@
--- `vectors::list::copy` is safe and ends. The measure is the bytes left to copy; the output keeps its length.
+-- `vectors::list::copy` is safe and ends. The measure is what is left to put; the output keeps its length.
 use borrow.Author.Needs.{needs}
 use Prim.Native.Nat.{_-_}
 use mathlib.Core.Path.{_≡_}
@@ -39,6 +39,12 @@ same-length c = search needs
 returns : tie.Need-returns Inv-loop μ-loop
 returns c = search needs
 
+same-length-2 : tie.Need-same-length-2 Inv-loop μ-loop
+same-length-2 c = search needs
+
+returns-2 : tie.Need-returns-2 Inv-loop μ-loop
+returns-2 c = search needs
+
 pub copy-spec : {M : Type 1} → statement M
 copy-spec =
     tie.close
@@ -53,4 +59,6 @@ copy-spec =
     loop-less
     loop-again
     same-length
-    returns)
+    returns
+    same-length-2
+    returns-2)

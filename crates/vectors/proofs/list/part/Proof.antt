@@ -18,6 +18,9 @@ number-requires c κs = search needs
 number-requires-2 : tie.Need-number-requires-2 Inv-loop μ-loop
 number-requires-2 c κs = search needs
 
+least-requires : tie.Need-least-requires Inv-loop μ-loop
+least-requires c κs = search needs
+
 loop-holds : tie.Need-loop-holds Inv-loop μ-loop
 loop-holds c = search needs
 
@@ -50,6 +53,7 @@ part-spec =
     μ-loop
     number-requires
     number-requires-2
+    least-requires
     loop-holds
     copy-requires
     add-i

@@ -12,8 +12,8 @@ Inv-loop list start out₀ parts next₀ len₀ i₀ out next len i = length out
 abbrev μ-loop : tie.MeasureT-loop
 μ-loop list start out₀ parts next₀ len₀ i₀ out next len i = parts - i
 
-number-requires : tie.Need-number-requires Inv-loop μ-loop
-number-requires c κs = search needs
+count-requires : tie.Need-count-requires Inv-loop μ-loop
+count-requires c κs = search needs
 
 loop-holds : tie.Need-loop-holds Inv-loop μ-loop
 loop-holds c = search needs
@@ -42,7 +42,7 @@ text-spec =
     (tie.spec
     Inv-loop
     μ-loop
-    number-requires
+    count-requires
     loop-holds
     part-requires
     add-i

@@ -12,8 +12,8 @@ Inv-loop list input work₀ out₀ count making₀ i₀ work out making i = (len
 abbrev μ-loop : tie.MeasureT-loop
 μ-loop list input work₀ out₀ count making₀ i₀ work out making i = count - i
 
-number-requires : tie.Need-number-requires Inv-loop μ-loop
-number-requires c κs = search needs
+count-requires : tie.Need-count-requires Inv-loop μ-loop
+count-requires c κs = search needs
 
 from-stages-requires : tie.Need-from-stages-requires Inv-loop μ-loop
 from-stages-requires c κs = search needs
@@ -48,7 +48,7 @@ stages-spec =
     (tie.spec
     Inv-loop
     μ-loop
-    number-requires
+    count-requires
     from-stages-requires
     loop-holds
     stage-requires

@@ -21,8 +21,8 @@ loop-holds c = search needs
 short-requires : tie.Need-short-requires Inv-loop μ-loop
 short-requires c κs = search needs
 
-put-length-requires : tie.Need-put-length-requires Inv-loop μ-loop
-put-length-requires c κs = search needs
+put-number-requires : tie.Need-put-number-requires Inv-loop μ-loop
+put-number-requires c κs = search needs
 
 wrapping-add-usize-requires : tie.Need-wrapping-add-usize-requires Inv-loop μ-loop
 wrapping-add-usize-requires c κs = search needs
@@ -51,7 +51,7 @@ put-numbers-spec =
     least-requires
     loop-holds
     short-requires
-    put-length-requires
+    put-number-requires
     wrapping-add-usize-requires
     add-i
     loop-less

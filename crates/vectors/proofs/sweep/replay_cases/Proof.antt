@@ -15,6 +15,9 @@ abbrev μ-loop : tie.MeasureT-loop
 plan-at-requires : tie.Need-plan-at-requires Inv-loop μ-loop
 plan-at-requires c κs = search needs
 
+cases-of-requires : tie.Need-cases-of-requires Inv-loop μ-loop
+cases-of-requires c κs = search needs
+
 loop-holds : tie.Need-loop-holds Inv-loop μ-loop
 loop-holds c = search needs
 
@@ -30,8 +33,11 @@ loop-less c = search needs
 loop-again : tie.Need-loop-again Inv-loop μ-loop
 loop-again c = search needs
 
-with-sweep-requires : tie.Need-with-sweep-requires Inv-loop μ-loop
-with-sweep-requires c κs = search needs
+both-requires : tie.Need-both-requires Inv-loop μ-loop
+both-requires c κs = search needs
+
+ended-requires : tie.Need-ended-requires Inv-loop μ-loop
+ended-requires c κs = search needs
 
 same-length : tie.Need-same-length Inv-loop μ-loop
 same-length c = search needs
@@ -46,11 +52,13 @@ replay-cases-spec =
     Inv-loop
     μ-loop
     plan-at-requires
+    cases-of-requires
     loop-holds
     replay-case-requires
     add-case
     loop-less
     loop-again
-    with-sweep-requires
+    both-requires
+    ended-requires
     same-length
     returns)

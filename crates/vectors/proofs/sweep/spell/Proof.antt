@@ -29,8 +29,8 @@ letter-at-requires c κs = search needs
 wrapping-add-usize-requires : tie.Need-wrapping-add-usize-requires Inv-loop μ-loop
 wrapping-add-usize-requires c κs = search needs
 
-put-requires : tie.Need-put-requires Inv-loop μ-loop
-put-requires c κs = search needs
+put-byte-requires : tie.Need-put-byte-requires Inv-loop μ-loop
+put-byte-requires c κs = search needs
 
 div-rest : tie.Need-div-rest Inv-loop μ-loop
 div-rest c = search needs
@@ -59,7 +59,7 @@ spell-spec =
     rem-letter-at
     letter-at-requires
     wrapping-add-usize-requires
-    put-requires
+    put-byte-requires
     div-rest
     loop-less
     loop-again

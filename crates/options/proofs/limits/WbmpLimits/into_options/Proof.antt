@@ -1,7 +1,7 @@
 use mathlib.Core.Path.{_∙_}
 use borrow.Author.Needs.{needs}
 use Rattle.options.specs.Settings.{defaults}
-use Rattle.options.proofs.LimitsSet.{settled, in-turn}
+use Rattle.options.proofs.SettingsSame.{settings-same, in-turn}
 use Rattle.options.proofs.limits.WbmpLimits.into_options.Statement.{statement}
 use Rattle.options.proofs.limits.WbmpLimits.into_options.Tie as tie
 
@@ -45,7 +45,7 @@ returns c =
     let width = height .before .before .before in
     in-turn (width .before .before .before .new .ensures) (width .with-max-width .ensures) (height .with-max-height .ensures)
     (pixels .with-max-pixels .ensures) (c .with-max-bytes .ensures)
-    ∙ settled (defaults .mode) (defaults .format) (width .before .at-most .ensures) (height .before .at-most2 .ensures)
+    ∙ settings-same (defaults .mode) (defaults .format) (width .before .at-most .ensures) (height .before .at-most2 .ensures)
     (pixels .before .absent .ensures) (c .before .at-most3 .ensures)
 
 pub into-options-spec : {M : Type 1} → statement M

@@ -2,7 +2,7 @@
 -- Assumes nothing.
 use mathlib.Core.Path.{sym, ap, _∙_}
 use Rattle.options.specs.declared.Quantize.{Quantize}
-use Rattle.quantize.specs.Asked.{meaning, roomy}
+use Rattle.rules.specs.Rule.{meaning, roomy}
 use Rattle.quantize.proofs.Abilities.{half-leb}
 use borrow.Author.Needs.{needs}
 use Rattle.quantize.proofs.engine.Quantizer.serves.Statement.{statement}

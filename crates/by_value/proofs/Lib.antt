@@ -1,0 +1,3 @@
+pub mod LentFront
+pub mod Locals
+pub mod Records

@@ -1,0 +1,4 @@
+pub mod Write
+pub mod Steps
+pub mod Left
+pub mod Ceiling

@@ -1,0 +1,27 @@
+use Rattle.header_reader.specs.Machine.{stepOf}
+use borrow.Author.Tests.{lt-ltb, le-ltb}
+use borrow.Author.Needs.{needs}
+use Rattle.header_reader.proofs.fields.in_identifier.Statement.{statement}
+use Rattle.header_reader.proofs.fields.in_identifier.Tie as tie
+
+identifier-fault-requires : tie.Need-identifier-fault-requires
+identifier-fault-requires c κs = search needs
+
+grown-requires : tie.Need-grown-requires
+grown-requires c κs = search needs
+
+shrunk-requires : tie.Need-shrunk-requires
+shrunk-requires c κs = search needs
+
+returns : tie.Need-returns
+unfolding stepOf
+returns c =
+    simp (lt-ltb _ _ (c .before .if1 .taken), c .before .before .before .before .identifier-fault .ensures, c .before .before .before .grown .ensures, c .shrunk .ensures)
+
+returns-2 : tie.Need-returns-2
+unfolding stepOf
+returns-2 c = simp (le-ltb _ _ (c .if1 .left), c .before .before .before .identifier-fault .ensures, c .before .before .grown .ensures)
+
+pub in-identifier-spec : {M : Type 1} → statement M
+in-identifier-spec =
+    tie.close (tie.spec identifier-fault-requires grown-requires shrunk-requires returns returns-2)

@@ -1,0 +1,54 @@
+use Rattle.header_reader.proofs.IntegerByte.{byte-is}
+use Rattle.header_reader.specs.Machine.{stepOf}
+use native.Mathlib.Omega.{arith}
+use borrow.Author.Needs.{needs}
+use Rattle.header_reader.proofs.integers.in_height.Statement.{statement}
+use Rattle.header_reader.proofs.integers.in_height.Tie as tie
+
+mbi-step-requires : tie.Need-mbi-step-requires
+mbi-step-requires c κs = search needs
+
+enum-known-v : tie.Need-enum-known-v
+enum-known-v c = search needs
+
+grown-requires : tie.Need-grown-requires
+grown-requires c κs = search needs
+
+enum-known-v-2 : tie.Need-enum-known-v-2
+enum-known-v-2 c = search needs
+
+add-sized : tie.Need-add-sized
+add-sized c = search needs
+
+sized-requires : tie.Need-sized-requires
+sized-requires c κs = search needs
+
+enum-known-e : tie.Need-enum-known-e
+enum-known-e c = search needs
+
+returns : tie.Need-returns
+unfolding stepOf
+returns c = simp (byte-is (c .before .before .before .before .mbi-step .ensures) (c .before .before .v .given .1) (omega arith), c .grown .ensures)
+
+returns-2 : tie.Need-returns-2
+unfolding stepOf
+returns-2 c = simp (byte-is (c .before .before .before .before .before .mbi-step .ensures) (c .before .before .before .v2 .given .1) (omega arith)) (c .sized .ensures)
+
+returns-3 : tie.Need-returns-3
+unfolding stepOf
+returns-3 c = simp (byte-is (c .before .before .before .mbi-step .ensures) (c .before .e .given .1) (omega arith))
+
+pub in-height-spec : {M : Type 1} → statement M
+in-height-spec =
+    tie.close
+    (tie.spec
+    mbi-step-requires
+    enum-known-v
+    grown-requires
+    enum-known-v-2
+    add-sized
+    sized-requires
+    enum-known-e
+    returns
+    returns-2
+    returns-3)

@@ -1,0 +1,62 @@
+use Rattle.header_reader.proofs.IntegerByte.{byte-is}
+use Rattle.header_reader.specs.Machine.{stepOf}
+use native.Mathlib.Omega.{arith}
+use borrow.Author.Tests.{eq-eqb, ne-eqb}
+use borrow.Author.Needs.{needs}
+use Rattle.header_reader.proofs.integers.in_type.Statement.{statement}
+use Rattle.header_reader.proofs.integers.in_type.Tie as tie
+
+mbi-step-requires : tie.Need-mbi-step-requires
+mbi-step-requires c κs = search needs
+
+enum-known-v : tie.Need-enum-known-v
+enum-known-v c = search needs
+
+grown-requires : tie.Need-grown-requires
+grown-requires c κs = search needs
+
+enum-known-v-2 : tie.Need-enum-known-v-2
+enum-known-v-2 c = search needs
+
+add-at : tie.Need-add-at
+add-at c = search needs
+
+refuse-requires : tie.Need-refuse-requires
+refuse-requires c κs = search needs
+
+enum-known-e : tie.Need-enum-known-e
+enum-known-e c = search needs
+
+returns : tie.Need-returns
+unfolding stepOf
+returns c = simp (byte-is (c .before .before .before .before .mbi-step .ensures) (c .before .before .v .given .1) (omega arith), c .grown .ensures)
+
+returns-2 : tie.Need-returns-2
+unfolding stepOf
+returns-2 c = simp (byte-is (c .before .before .before .before .before .mbi-step .ensures) (c .before .before .before .v2 .given .1) (omega arith), eq-eqb _ _ (c .if1 .taken))
+
+returns-3 : tie.Need-returns-3
+unfolding stepOf
+returns-3 c =
+    simp
+    (byte-is (c .before .before .before .before .before .before .mbi-step .ensures) (c .before .before .before .before .v2 .given .1) (omega arith), ne-eqb _ _ (c .before .if1 .left), c .refuse .ensures)
+
+returns-4 : tie.Need-returns-4
+unfolding stepOf
+returns-4 c = simp (byte-is (c .before .before .before .mbi-step .ensures) (c .before .e .given .1) (omega arith))
+
+pub in-type-spec : {M : Type 1} → statement M
+in-type-spec =
+    tie.close
+    (tie.spec
+    mbi-step-requires
+    enum-known-v
+    grown-requires
+    enum-known-v-2
+    add-at
+    refuse-requires
+    enum-known-e
+    returns
+    returns-2
+    returns-3
+    returns-4)

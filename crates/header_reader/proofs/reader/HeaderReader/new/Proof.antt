@@ -1,0 +1,14 @@
+use mathlib.Core.Path.{refl}
+use Rattle.header_reader.proofs.Keeps.{sound-start}
+use borrow.Author.Needs.{needs}
+use Rattle.header_reader.proofs.reader.HeaderReader.new.Statement.{statement}
+use Rattle.header_reader.proofs.reader.HeaderReader.new.Tie as tie
+
+start-requires : tie.Need-start-requires
+start-requires c κs = search needs
+
+returns : tie.Need-returns
+returns c = record { mode-is = refl; phase-is = rw (c .start .ensures); sound = sound-start }
+
+pub new-spec : {M : Type 1} → statement M
+new-spec = tie.close (tie.spec start-requires returns)

@@ -1,0 +1,283 @@
+// Where a reading of a header stands between two bytes. `at` is how many bytes were taken.
+use crate::FieldsSeen;
+use error::EXT_TRUNCATED;
+use error::FIX_HEADER_MISSING;
+use error::MBI_TRUNCATED;
+use error::PAIR_TRUNCATED;
+use error::WbmpError;
+use header::HeaderFields;
+use header::ParsedHeader;
+ghost use mathlib.Core.Path.{_≡_};
+ghost use mathlib.Core.List.{[]};
+ghost use Prim.Native.Nat.{_+_, _-_, _<_};
+ghost use Rattle.error.specs.Answer.{refusal};
+ghost use Rattle.header.specs.Settings.{Settings};
+ghost use Rattle.header_reader.specs.Machine.{inFields, resume};
+ghost use Rattle.header_reader.specs.Represents.{state, fieldsState};
+ghost use Rattle.header_reader.specs.Known.{knownIn, knownMeaning};
+ghost use Rattle.header_reader.specs.Phase.{IntegerBound, FieldsBound, Chained, Bounded, Tells};
+
+// An integer so far: the value of its first `count` bytes.
+pub struct PartialInteger {
+    pub at: usize,
+    pub value: u32,
+    pub count: u8,
+}
+
+// Pairs so far: the FixHeader byte before them, where the first one starts, and how many are done.
+pub struct PairChain {
+    pub fix: u8,
+    pub start: usize,
+    pub at: usize,
+    pub pairs: usize,
+}
+
+// A pair's identifier or value: where it begins, how many of its bytes are left, whether one more pair follows, and the class refusal that
+// waits for the pair's end.
+pub struct PairPart {
+    pub begun: usize,
+    pub left: u8,
+    pub more: bool,
+    pub fault: u8,
+}
+
+pub enum FieldsPhase {
+    InOctets {
+        fix: u8,
+        start: usize,
+        at: usize,
+    },
+    AtOctet {
+        fix: u8,
+        at: usize,
+    },
+    AtPair(PairChain),
+    InIdentifier {
+        chain: PairChain,
+        part: PairPart,
+        size: u8,
+    },
+    InValue {
+        chain: PairChain,
+        part: PairPart,
+    },
+}
+
+pub enum Phase {
+    InType(PartialInteger),
+    AtFix {
+        at: usize,
+    },
+    InFields(FieldsPhase),
+    InWidth {
+        fix: u8,
+        fields: HeaderFields,
+        integer: PartialInteger,
+    },
+    InHeight {
+        fix: u8,
+        fields: HeaderFields,
+        width: u32,
+        integer: PartialInteger,
+    },
+}
+
+// What one byte does: the header goes on, ends, or is refused.
+pub enum PhaseStep {
+    More(Phase),
+    Done(ParsedHeader),
+    Refused(WbmpError),
+}
+
+// No reading comes so far.
+const FAR: usize = 8192;
+
+pub(crate) fn refuse(code: u8, offset: usize) -> PhaseStep
+    ensures { λ r. ⌜ r ≡ PhaseStep.Refused (record { code = code; offset = offset }) ⌝ }
+{
+    PhaseStep::Refused(WbmpError { code, offset })
+}
+
+impl PartialInteger {
+    pub(crate) fn start(at: usize) -> PartialInteger
+        ensures { λ r. ⌜ r ≡ record { at = at; value = 0; count = 0 } ⌝ }
+    {
+        PartialInteger {
+            at,
+            value: 0,
+            count: 0,
+        }
+    }
+
+    // One byte more, which brings it to a value.
+    pub(crate) fn grown(self, value: u32) -> PartialInteger
+        requires { ⌜ IntegerBound (self .at) (self .count) ⌝ }
+        ensures { λ r. ⌜ r ≡ record { at = self .at + 1; value = value; count = self .count + 1 } ⌝ }
+    {
+        PartialInteger {
+            at: self.at + 1,
+            value,
+            count: self.count + 1,
+        }
+    }
+
+    fn within(self) -> bool
+        ensures { λ r. ⌜ Tells (IntegerBound (self .at) (self .count)) r ⌝ }
+    {
+        if self.at < FAR { self.count < 8 } else { false }
+    }
+}
+
+fn fields_within(start: usize, at: usize, pairs: usize) -> bool
+    ensures { λ r. ⌜ Tells (FieldsBound start at pairs) r ⌝ }
+{
+    if at < FAR {
+        if pairs < FAR { start <= at } else { false }
+    } else {
+        false
+    }
+}
+
+impl PairChain {
+    // One byte more.
+    pub(crate) fn grown(self) -> PairChain
+        requires { ⌜ Chained self ⌝ }
+        ensures { λ r. ⌜ r ≡ record { fix = self .fix; start = self .start; at = self .at + 1; pairs = self .pairs } ⌝ }
+    {
+        PairChain {
+            fix: self.fix,
+            start: self.start,
+            at: self.at + 1,
+            pairs: self.pairs,
+        }
+    }
+
+    fn within(self) -> bool
+        ensures { λ r. ⌜ Tells (Chained self) r ⌝ }
+    {
+        fields_within(self.start, self.at, self.pairs)
+    }
+}
+
+impl PairPart {
+    // One byte less is left.
+    pub(crate) fn shrunk(self, fault: u8) -> PairPart
+        requires { ⌜ 0 < self .left ⌝ }
+        ensures { λ r. ⌜ r ≡ record { begun = self .begun; left = self .left - 1; more = self .more; fault = fault } ⌝ }
+    {
+        PairPart {
+            begun: self.begun,
+            left: self.left - 1,
+            more: self.more,
+            fault,
+        }
+    }
+}
+
+impl FieldsPhase {
+    pub(crate) fn within(self) -> bool
+        ensures { λ r. ⌜ Tells (Bounded (fieldsState self)) r ⌝ }
+    {
+        match self {
+            FieldsPhase::InOctets { start, at, .. } => fields_within(start, at, 0),
+            FieldsPhase::AtOctet { at, .. } => at < FAR,
+            FieldsPhase::AtPair(chain) => chain.within(),
+            FieldsPhase::InIdentifier { chain, .. } => chain.within(),
+            FieldsPhase::InValue { chain, .. } => chain.within(),
+        }
+    }
+
+    // The input ends inside the fields.
+    fn ended(self) -> WbmpError
+        ensures { λ r. ⌜ ((o : Settings) → refusal r ≡ resume o (fieldsState self) []) ⌝ }
+    {
+        match self {
+            FieldsPhase::InOctets { at, .. } => WbmpError {
+                code: EXT_TRUNCATED,
+                offset: at,
+            },
+            FieldsPhase::AtOctet { at, .. } => WbmpError {
+                code: EXT_TRUNCATED,
+                offset: at,
+            },
+            FieldsPhase::AtPair(chain) => WbmpError {
+                code: EXT_TRUNCATED,
+                offset: chain.at,
+            },
+            FieldsPhase::InIdentifier { part, .. } => WbmpError {
+                code: PAIR_TRUNCATED,
+                offset: part.begun,
+            },
+            FieldsPhase::InValue { part, .. } => WbmpError {
+                code: PAIR_TRUNCATED,
+                offset: part.begun,
+            },
+        }
+    }
+}
+
+impl Phase {
+    // Whether the sums of a step stay in range. They do wherever a reading can stand.
+    pub(crate) fn within(self) -> bool
+        ensures { λ r. ⌜ Tells (Bounded (state self)) r ⌝ }
+    {
+        match self {
+            Phase::InType(integer) => integer.within(),
+            Phase::AtFix { at } => at < FAR,
+            Phase::InFields(phase) => phase.within(),
+            Phase::InWidth { integer, .. } => integer.within(),
+            Phase::InHeight { integer, .. } => integer.within(),
+        }
+    }
+
+    // Whether the next byte is one of the extension fields.
+    pub(crate) fn in_fields(self) -> bool
+        ensures { λ r. ⌜ r ≡ inFields (state self) ⌝ }
+    {
+        match self {
+            Phase::InType(_) => false,
+            Phase::AtFix { .. } => false,
+            Phase::InFields(_) => true,
+            Phase::InWidth { .. } => false,
+            Phase::InHeight { .. } => false,
+        }
+    }
+
+    // The extension fields, once their last byte was taken.
+    pub(crate) fn fields(self) -> FieldsSeen
+        ensures { λ r. ⌜ knownMeaning r ≡ knownIn (state self) ⌝ }
+    {
+        match self {
+            Phase::InType(_) => FieldsSeen::Unread,
+            Phase::AtFix { .. } => FieldsSeen::Unread,
+            Phase::InFields(_) => FieldsSeen::Unread,
+            Phase::InWidth { fields, .. } => FieldsSeen::Seen(fields),
+            Phase::InHeight { fields, .. } => FieldsSeen::Seen(fields),
+        }
+    }
+
+    // The input ends before the header does.
+    pub(crate) fn ended(self) -> WbmpError
+        ensures { λ r. ⌜ ((o : Settings) → refusal r ≡ resume o (state self) []) ⌝ }
+    {
+        match self {
+            Phase::InType(integer) => WbmpError {
+                code: MBI_TRUNCATED,
+                offset: integer.at,
+            },
+            Phase::AtFix { at } => WbmpError {
+                code: FIX_HEADER_MISSING,
+                offset: at,
+            },
+            Phase::InFields(phase) => phase.ended(),
+            Phase::InWidth { integer, .. } => WbmpError {
+                code: MBI_TRUNCATED,
+                offset: integer.at,
+            },
+            Phase::InHeight { integer, .. } => WbmpError {
+                code: MBI_TRUNCATED,
+                offset: integer.at,
+            },
+        }
+    }
+}

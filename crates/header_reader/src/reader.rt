@@ -1,0 +1,109 @@
+// A header reader that takes one byte at a time.
+use crate::FieldsSeen;
+use crate::phase::PartialInteger;
+use crate::phase::Phase;
+use crate::phase::PhaseStep;
+use crate::run::run_fields;
+use crate::step::step_phase;
+use error::WbmpError;
+use header::HeaderMode;
+use header::ParsedHeader;
+ghost use mathlib.Core.Path.{_≡_};
+ghost use Rattle.header.specs.Settings.{Settings, settings};
+ghost use Rattle.header_reader.specs.Machine.{State, start, inFields};
+ghost use Rattle.header_reader.specs.Represents.{Represents, Stepped, Ended};
+ghost use Rattle.header_reader.specs.Known.{Knows};
+ghost use Rattle.header_reader.specs.Run.{Runs};
+
+pub struct HeaderReader {
+    mode: HeaderMode,
+    phase: Phase,
+}
+
+// What one byte does: the header goes on, ends, or is refused.
+pub enum HeaderStep {
+    More(HeaderReader),
+    Done(ParsedHeader),
+    Refused(WbmpError),
+}
+
+// How many bytes of a piece were taken at once, and the reader behind them.
+pub struct HeaderRun {
+    pub taken: usize,
+    pub reader: HeaderReader,
+}
+
+impl HeaderReader {
+    pub fn new(mode: HeaderMode) -> HeaderReader
+        ensures { λ r. ⌜ Represents r (settings mode) start ⌝ }
+    {
+        let phase = Phase::InType(PartialInteger::start(0));
+        HeaderReader { mode, phase }
+    }
+
+    // One byte more. A reader that no reading comes to stays as it is.
+    pub fn step(self, byte: u8) -> HeaderStep
+        ensures { λ r. ⌜ Stepped self byte r ⌝ }
+    {
+        let mode = self.mode;
+        let phase = self.phase;
+        if phase.within() {
+            match step_phase(phase, mode, byte) {
+                PhaseStep::More(next) => HeaderStep::More(HeaderReader { mode, phase: next }),
+                PhaseStep::Done(header) => HeaderStep::Done(header),
+                PhaseStep::Refused(e) => HeaderStep::Refused(e),
+            }
+        } else {
+            HeaderStep::More(self)
+        }
+    }
+
+    // Many bytes of extension fields at once, if the fields go on behind them: octets, or whole pairs where no classes are tested. It may
+    // take none; `step` then goes on.
+    pub fn run(self, piece: &[u8]) -> HeaderRun
+        ensures { λ r. ⌜ Runs self (now (piece .entry)) r ⌝ }
+    {
+        let mode = self.mode;
+        let phase = self.phase;
+        if let Phase::InFields(fields) = phase {
+            if fields.within() {
+                let run = run_fields(fields, mode, piece);
+                let next = run.phase;
+                let phase = Phase::InFields(next);
+                let reader = HeaderReader { mode, phase };
+                return HeaderRun {
+                    taken: run.taken,
+                    reader,
+                };
+            }
+        }
+        HeaderRun {
+            taken: 0,
+            reader: self,
+        }
+    }
+
+    // Whether the next byte is one of the extension fields.
+    pub fn in_fields(self) -> bool
+        ensures { λ r. ⌜ ((o : Settings) (st : State) → Represents self o st → r ≡ inFields st) ⌝ }
+    {
+        let phase = self.phase;
+        phase.in_fields()
+    }
+
+    // The extension fields, once their last byte was taken.
+    pub fn fields(self) -> FieldsSeen
+        ensures { λ r. ⌜ Knows self r ⌝ }
+    {
+        let phase = self.phase;
+        phase.fields()
+    }
+
+    // The input ends before the header does.
+    pub fn ended(self) -> WbmpError
+        ensures { λ r. ⌜ Ended self r ⌝ }
+    {
+        let phase = self.phase;
+        phase.ended()
+    }
+}

@@ -1,0 +1,143 @@
+-- What the functions of a turn and the tests at the entry of `run` ask and promise.
+use Prim.Native.Nat.{ℕ, _+_, _-_, _*_, _%_, _^_, _≤_, _<_}
+use mathlib.Core.Path.{_≡_}
+use mathlib.Core.Bool.{Bool, true, false}
+use mathlib.Core.Logic.{_⊎_}
+use mathlib.Core.List.{List}
+use lib.IntN.{ℤ}
+use lib.ListN.{length, take}
+use Rattle.options.specs.declared.Quantize.{Quantize}
+use Rattle.options.specs.declared.Quantize.the-variants.{Threshold, Dither, Ordered}
+use Rattle.quantize.specs.declared.turn.Part.{Part}
+use Rattle.quantize.specs.declared.turn.Next.{Next}
+use Rattle.quantize.specs.declared.turn.Place.{Place}
+use Rattle.quantize.specs.declared.turn.Taken.{Taken}
+use Rattle.rules.specs.Bits.{digits}
+use Rattle.rules.specs.Rule.{Rule, threshold, dither, ordered, meaning, knownRule, roomy}
+use Rattle.quantize.specs.Finished.{Setting}
+use Rattle.quantize.specs.Machine.{State}
+use Rattle.quantize.specs.Place.{At}
+use Rattle.quantize.specs.declared.turn.Filled.{Filled}
+use Rattle.rules.specs.Kernels.{Dots, carryOf, Packs}
+use Rattle.rules.specs.Row.{Bytes}
+
+-- samples can be taken: the rule is known, and the work buffer long enough
+pub record Served (rule : Quantize) (w work : ℕ) : Type 0 where
+  pub known : knownRule rule ≡ true
+  pub room : roomy (meaning rule) w work ≡ true
+
+-- the machine's state, from the numbers that the code keeps
+abbrev pub stateOf : Place → List ℤ → State
+stateOf p work = record { begun = p .begun; carry = carryOf (p .corner) work }
+
+-- the rule that the code's values stand for
+abbrev pub ruleOf : Quantize → List ℕ → Rule
+ruleOf (Threshold t) table = threshold t
+ruleOf Dither table = dither
+ruleOf (Ordered side) table = ordered side (take (side * side) table)
+
+-- the rules whose bytes are written at once
+abbrev pub AtOnce : Quantize → Type 0
+AtOnce (Threshold t) = Unit {0}
+AtOnce Dither = Unit {0}
+AtOnce (Ordered side) = ⊥
+
+pub record Sound (rule : Quantize) (w h row column begun corner work : ℕ) : Type 0 where
+  pub inRow : column < w
+  pub inFrame : row < h
+  pub cornerSmall : corner ≤ 256
+  pub begunSmall : begun < 2 ^ (column % 8)
+  pub served : Served rule w work
+
+pub record Able (rule : Quantize) (w h row column begun corner work : ℕ) (r : Bool) : Type 0 where
+  pub yes : r ≡ true → Sound rule w h row column begun corner work
+  pub no : r ≡ false → Sound rule w h row column begun corner work → ⊥
+
+-- r whole bytes of the row, not its last, are written at once
+pub record Wholes (w column samples room r : ℕ) : Type 0 where
+  pub there : 8 * r ≤ samples
+  pub fits : r ≤ room
+  pub inRow : column + 8 * r < w
+  pub aligned : 0 < r → column % 8 ≡ 0
+
+-- r samples go into the begun byte
+pub record Shares (w column samples room r : ℕ) : Type 0 where
+  pub there : r ≤ samples
+  pub inRow : column + r ≤ w
+  pub inByte : column % 8 + r ≤ 8
+  pub fits : room ≡ 0 → (column + r < w) × (column % 8 + r < 8)
+  pub all : r ≡ 0 → (samples ≡ 0) ⊎ ((room ≡ 0) × ((column + 1 ≡ w) ⊎ (column % 8 ≡ 7)))
+
+pub record Dotting (rule : Quantize) (w column n begun corner work : ℕ) : Type 0 where
+  pub some : 0 < n
+  pub within : column + n ≤ w
+  pub packs : Packs begun n
+  pub small : corner ≤ 256
+  pub fits : w < 2 ^ 64
+  pub served : Served rule w work
+
+abbrev pub Dotted : Quantize → List ℕ → ℕ → ℕ → ℕ → List ℕ → ℕ → ℕ → List ℤ → Part → List ℤ → Type 0
+Dotted rule table w y x gray begun corner work r work′ = Dots (ruleOf rule table) w y x gray begun corner work (r .digits) (r .corner) work′
+
+-- m samples more, after which the begun byte has these digits
+pub record Advancing (w h frames row column m digits : ℕ) : Type 0 where
+  pub some : 0 < m
+  pub left : 0 < frames
+  pub inRow : column + m ≤ w
+  pub inByte : column % 8 + m ≤ 8
+  pub inFrame : row < h
+  pub high : h < 2 ^ 64
+  pub digitsSmall : digits < 2 ^ (column % 8 + m)
+
+-- they end the row or the byte: it is written, its digits first, and none is begun
+pub record Ended (w column m digits : ℕ) (r : Next) : Type 0 where
+  pub ends : (w ≤ column + m) ⊎ (8 ≤ column % 8 + m)
+  pub byteIs : r .byte ≡ digits * 2 ^ (8 - (column % 8 + m))
+  pub begunIs : r .begun ≡ 0
+
+-- the byte goes on
+pub record Goes (w column m digits : ℕ) (r : Next) : Type 0 where
+  pub inRow : column + m < w
+  pub inByte : column % 8 + m < 8
+  pub begunIs : r .begun ≡ digits
+
+-- the place after them, where n were taken before, and the byte
+pub record Advances (w h frames row column m digits : ℕ) (r : Next) : Type 0 where
+  pub inRow : r .column < w
+  pub inFrame : r .row < h
+  pub begunSmall : r .begun < 2 ^ (r .column % 8)
+  pub ended : r .whole ≡ true → Ended w column m digits r
+  pub goes : r .whole ≡ false → Goes w column m digits r
+  pub moves : (s : Setting) (n : ℕ) → s .width ≡ w → s .height ≡ h → At s n frames row column → At s (n + m) (r .frames) (r .row) (r .column)
+
+-- n samples, which end no later than the begun byte
+pub record Taking (rule : Quantize) (w h : ℕ) (p : Place) (n work : ℕ) : Type 0 where
+  pub dotting : Dotting rule w (p .column) n (p .begun) (p .corner) work
+  pub left : 0 < p .frames
+  pub inByte : p .column % 8 + n ≤ 8
+  pub inFrame : p .row < h
+  pub high : h < 2 ^ 64
+  pub begunSmall : p .begun < 2 ^ (p .column % 8)
+
+pub record Takes (rule : Quantize) (table : List ℕ) (w h : ℕ) (p : Place) (gray : List ℕ) (work : List ℤ) (r : Taken) (work′ : List ℤ) : Type 0 where
+  -- the digits of the begun byte after them
+  pub digits : ℕ
+  pub dotted : Dotted rule table w (p .row) (p .column) gray (p .begun) (p .corner) work (record { digits = digits; corner = r .place .corner }) work′
+  pub advances : Advances w h (p .frames) (p .row) (p .column) (length gray) digits
+      (record { frames = r .place .frames; row = r .place .row; column = r .place .column; begun = r .place .begun; byte = r .byte; whole = r .whole })
+
+-- the same for the rule that the code's values stand for, with any table
+abbrev pub Fills : Quantize → ℕ → ℕ → ℕ → List ℕ → ℕ → List ℕ → ℕ → ℕ → List ℤ → ℕ → List ℕ → ℕ → List ℤ → Type 0
+Fills rule w y x samples at out to corner work k out′ corner′ work′ = (table : List ℕ) → Bytes (ruleOf rule table) w y x samples at out to corner work k out′ corner′ work′
+
+-- the row goes on, and no more was taken or written than there is
+pub record RowFilling (rule : Quantize) (w : ℕ) (p : Place) (samples at out to work : ℕ) : Type 0 where
+  pub inRow : p .column < w
+  pub takenFits : at ≤ samples
+  pub writtenFits : to ≤ out
+  pub small : p .corner ≤ 256
+  pub served : Served rule w work
+
+pub record RowFilled (rule : Quantize) (w : ℕ) (p : Place) (samples : List ℕ) (at : ℕ) (out : List ℕ) (to : ℕ) (work : List ℤ) (r : Filled) (out′ : List ℕ) (work′ : List ℤ) : Type 0 where
+  pub wholes : Wholes w (p .column) (length samples - at) (length out - to) (r .bytes)
+  pub fills : Fills rule w (p .row) (p .column) samples at out to (p .corner) work (r .bytes) out′ (r .corner) work′

@@ -1,0 +1,100 @@
+-- Black and white samples to which nothing is handed: dithering's bytes are those of the threshold 128, and it keeps what it found.
+-- Assumes nothing.
+use Prim.Native.Nat.{ℕ, zero, suc, _+_, _*_, _/_, _%_, _≤_, _<_}
+use mathlib.Core.Path.{_≡_, refl, sym, ap, _∙_, subst}
+use mathlib.Core.List.{List}
+use mathlib.Core.Logic.{⊎-elim}
+use native.Mathlib.Nat.{add-zero}
+use native.Mathlib.Numerals.{add-one}
+use native.Mathlib.Omega.{arith}
+use borrow.Author.Tests.{le-leb, lt-leb}
+use lib.Dec.{leb}
+use lib.IntN.{ℤ, subℕ}
+use lib.ListN.{length, getD}
+use Rattle.rules.specs.Bits.{bit, digits, appended}
+use Rattle.rules.specs.Rule.{dither}
+use Rattle.rules.specs.Carry.{leftOf, cornerOf, overOf}
+use Rattle.rules.specs.Kernels.{Biased, Dots, thresholdFrom, stored}
+use Rattle.rules.specs.Row.{Near, Calm, Bytes}
+use Rattle.rules.proofs.Differences.{lt-or-le}
+use Rattle.rules.proofs.Pieces.{piece, piece-length, piece-at}
+use Rattle.rules.proofs.Reading.{left-at, over-in}
+use Rattle.rules.proofs.Rowing.{Inv, biased-zero, corner-on, inv-start, inv-calm, inv-end}
+
+-- the dot of a byte at 128
+half : (g : ℕ) → g < 256 → g / 128 ≡ bit (leb 128 g)
+half g h = ⊎-elim (λ l. rw (lt-leb 128 g l) (omega arith)) (λ l. rw (le-leb 128 g l) (omega arith)) (lt-or-le g 128)
+
+-- one byte
+module _ (w y x corner : ℕ) (samples : List ℕ) (from : ℕ) (work : List ℤ) (there : from + 8 ≤ length samples) (below : 0 < y) (inRow : x + 8 < w) (room : w ≤ length work)
+    (octets : (i : ℕ) → getD samples i 0 < 256) (plain : (i : ℕ) → i < 8 → getD samples (from + i) 0 % 255 ≡ 0)
+    (near : Near w y x corner work 128 128 128) (over : (i : ℕ) → i ≤ 8 → Biased (overOf w y work (x + i)) 128) where
+  abbrev eight : List ℕ
+  eight = piece samples from 8
+
+  turns : (i : ℕ) → i ≤ 8 → Inv w y x eight 0 corner work work 128 (appended 0 (thresholdFrom 128 samples from) i) 128 128 i
+  unfolding appended
+  turns zero h = inv-start w y x eight 0 corner work 128 128 128 (near .leftIs) (near .cornerIs) (near .aboveIs)
+  turns (suc i) h =
+      let e = piece-at samples from 8 i (omega arith) in
+      let g : getD eight i 0 < 256 = subst (λ (n : ℕ). n < 256) e (octets (from + i)) in
+      let p : getD eight i 0 % 255 ≡ 0 = subst (λ (n : ℕ). n % 255 ≡ 0) e (plain i (omega arith)) in
+      let d : getD eight i 0 / 128 ≡ thresholdFrom 128 samples from i = half (getD eight i 0) g ∙ ap (λ (n : ℕ). bit (leb 128 n)) (sym e) in
+      let o : Biased (overOf w y work (x + i + 1)) 128 = subst (λ (n : ℕ). Biased (overOf w y work n) 128) (omega arith) (over (suc i) h) in
+      rw (← add-one i, ← d)
+      (inv-calm w y x eight 0 corner work work (appended 0 (thresholdFrom 128 samples from) i) i (turns i (omega arith)) o below (omega arith) room (omega (arith, piece-length samples from 8 there)) g p)
+
+  pub calm-byte : Dots dither w y x eight 0 corner work (digits (thresholdFrom 128 samples from) 8) 128 work
+  calm-byte =
+      let n = piece-length samples from 8 there in
+      inv-end w y x eight 0 corner work work 128 (appended 0 (thresholdFrom 128 samples from) 8) 128 128 8 (turns 8 (omega arith)) (omega arith) (omega arith)
+
+-- so many bytes
+module _ (w y x corner : ℕ) (samples out : List ℕ) (at to count : ℕ) (work : List ℤ) (left aboveLeft : ℕ) (there : at + 8 * count ≤ length samples) (inRow : x + 8 * count < w) (room : w ≤ length work)
+    (octets : (i : ℕ) → getD samples i 0 < 256) (leftIs : Biased (leftOf work x) left) (cornerIs : Biased (cornerOf (subℕ corner 128) x) aboveLeft) (calm : Calm y x samples at (8 * count) left aboveLeft work) where
+  -- the corner after so many bytes
+  abbrev after : ℕ → ℕ
+  after zero = corner
+  after (suc k) = 128
+
+  over : (i : ℕ) → i ≤ 8 * count → Biased (overOf w y work (x + i)) 128
+  over i h = rw (over-in w work y (x + i) (calm .below) (omega arith), calm .clear i (omega arith)) biased-zero
+
+  near : (k : ℕ) → k < count → Near w y (x + 8 * k) (after k) work 128 128 128
+  near zero h =
+      record {
+        leftIs = rw add-zero (subst (λ (n : ℕ). Biased (leftOf work x) n) (calm .leftIs) leftIs);
+        cornerIs = rw add-zero (subst (λ (n : ℕ). Biased (cornerOf (subℕ corner 128) x) n) (calm .cornerIs) cornerIs);
+        aboveIs = over 0 (omega arith);
+      }
+  near (suc k) h =
+      let i = 8 * k + 7 in
+      let e : x + 8 * suc k ≡ x + i + 1 = omega arith in
+      record {
+        leftIs = rw (left-at work (x + 8 * suc k) (x + i) e, calm .clear i (omega arith)) biased-zero;
+        cornerIs = corner-on 128 (x + 8 * suc k) 128 (omega arith) (omega arith) refl;
+        aboveIs = over (8 * suc k) (omega arith);
+      }
+
+  calm-bytes : (k : ℕ) → k ≤ count → Bytes dither w y x samples at out to corner work k (stored 128 samples at out to k) (after k) work
+  unfolding Bytes stored
+  calm-bytes zero h = (refl, (refl, refl))
+  calm-bytes (suc k) h =
+      record {
+        out = stored 128 samples at out to k;
+        corner = after k;
+        work = work;
+        byte = digits (thresholdFrom 128 samples (at + 8 * k)) 8;
+        before = calm-bytes k (omega arith);
+        dots = calm-byte w y (x + 8 * k) (after k) samples (at + 8 * k) work (omega arith) (calm .below) (omega arith) room octets
+            (λ i l. let e : at + 8 * k + i ≡ at + (8 * k + i) = omega arith in rw e (calm .plain (8 * k + i) (omega arith))) (near k (omega arith))
+            (λ i l. let e : x + 8 * k + i ≡ x + (8 * k + i) = omega arith in rw e (over (8 * k + i) (omega arith)));
+        stored = refl;
+      }
+
+  pub calm-all : 0 < count → Bytes dither w y x samples at out to corner work count (stored 128 samples at out to count) 128 work
+  calm-all h = go count refl
+    where
+      go : (k : ℕ) → k ≡ count → Bytes dither w y x samples at out to corner work count (stored 128 samples at out to count) 128 work
+      go zero e = let z : ⊥ = omega arith in absurd z
+      go (suc k) e = subst (λ (n : ℕ). Bytes dither w y x samples at out to corner work n (stored 128 samples at out to n) 128 work) e (calm-bytes (suc k) (omega arith))

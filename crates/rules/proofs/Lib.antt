@@ -1,0 +1,20 @@
+-- The laws that several proofs cite.
+pub mod Differences
+pub mod Signed
+pub mod Range
+pub mod Appending
+pub mod Pieces
+pub mod Reading
+pub mod Rowing
+pub mod Further
+pub mod Calming
+pub mod Cells
+pub mod Grown
+pub mod RowKept
+pub mod Chaining
+pub mod Causes
+pub mod Stored
+pub mod Residuals
+pub mod Words
+pub mod Comparing
+pub mod Gathering

@@ -1,0 +1,41 @@
+-- The threshold rule's bytes, eight samples each.
+use Prim.Native.Nat.{ℕ, zero, suc, _+_, _*_, _≤_}
+use mathlib.Core.Path.{_≡_, refl, sym, ap}
+use mathlib.Core.List.{List}
+use native.Mathlib.Nat.{zero-add}
+use native.Mathlib.Numerals.{add-one}
+use native.Mathlib.Omega.{arith}
+use lib.Dec.{leb}
+use lib.ListN.{length, set, length-set}
+use Rattle.rules.specs.Bits.{bit, digits, appended}
+use Rattle.rules.specs.Kernels.{thresholdBit, thresholdFrom, stored}
+use Rattle.rules.proofs.Appending.{appended-ext}
+use Rattle.rules.proofs.Pieces.{piece, piece-length, piece-at}
+
+-- eight dots after others
+eight-more : (b : ℕ) (f : ℕ → ℕ) → appended b f 8 ≡ b * 256 + digits f 8
+unfolding appended
+eight-more b f = omega arith
+
+module _ (t : ℕ) (gray : List ℕ) where
+  -- a byte of dots after others
+  pub byte-more : (begun byte n : ℕ) → n ≡ 8 → byte ≡ digits (thresholdFrom t gray 0) 8 → begun * 256 + byte ≡ appended begun (thresholdBit t gray) n
+  byte-more begun byte n e h =
+      let f : digits (thresholdFrom t gray 0) 8 ≡ digits (thresholdBit t gray) 8 = appended-ext 0 (thresholdFrom t gray 0) (thresholdBit t gray) 8 (λ i _. ap (thresholdBit t gray) (zero-add i)) in
+      rw (e, h, f) (sym (eight-more begun (thresholdBit t gray)))
+
+  -- the byte of eight samples from an index on
+  pub byte-piece : (at : ℕ) → at + 8 ≤ length gray → digits (thresholdFrom t gray at) 8 ≡ appended 0 (thresholdBit t (piece gray at 8)) (length (piece gray at 8))
+  byte-piece at h =
+      rw (piece-length gray at 8 h)
+      (appended-ext 0 (thresholdFrom t gray at) (thresholdBit t (piece gray at 8)) 8 (λ i l. ap (λ (g : ℕ). bit (leb t g)) (piece-at gray at 8 i l)))
+
+  pub stored-length : (at : ℕ) (out : List ℕ) (to k : ℕ) → length (stored t gray at out to k) ≡ length out
+  unfolding stored
+  stored-length at out to zero = refl
+  stored-length at out to (suc k) = simp length-set (stored-length at out to k)
+
+  pub stored-next : (at : ℕ) (out : List ℕ) (to k : ℕ)
+      → set (stored t gray at out to k) (to + k) (digits (thresholdFrom t gray (at + 8 * k)) 8) ≡ stored t gray at out to (k + 1)
+  unfolding stored
+  stored-next at out to k = rw (add-one k)

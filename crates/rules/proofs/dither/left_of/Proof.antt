@@ -1,0 +1,43 @@
+-- `quantize::dither::left_of` meets its contract.
+-- Assumes nothing.
+use Prim.Native.Nat.{_-_}
+use mathlib.Core.Path.{subst}
+use native.Mathlib.Omega.{arith}
+use borrow.Author.Needs.{needs}
+use denote.Ref.{now}
+use lib.IntN.{ℤ, pos}
+use lib.ListN.{getD}
+use mir.Syntax.{w16}
+use mir.ValLaws.{toZ-ofZ}
+use Rattle.rules.specs.Carry.{clamp}
+use Rattle.rules.specs.Kernels.{Biased}
+use Rattle.rules.proofs.Reading.{left-at}
+use Rattle.rules.proofs.Rowing.{biased-zero}
+use Rattle.rules.proofs.dither.left_of.Statement.{statement}
+use Rattle.rules.proofs.dither.left_of.Tie as tie
+
+returns : tie.Need-returns
+returns c = rw (c .if1 .taken) biased-zero
+
+sub-i : tie.Need-sub-i
+sub-i c = search needs
+
+mul-lift : tie.Need-mul-lift
+mul-lift c = search needs
+
+shared-slice-copy-out-lift : tie.Need-shared-slice-copy-out-lift
+shared-slice-copy-out-lift c = search needs
+
+lift-requires : tie.Need-lift-requires
+lift-requires c κs = search needs
+
+returns-2 : tie.Need-returns-2
+returns-2 c =
+    let a = c .before .before .before .args in
+    let n = c .before .before .if1 .left in
+    rw (left-at (now (a .work)) (a .x) (a .x - 1) (omega (arith, n)))
+    (subst (λ (z : ℤ). Biased (clamp z) (c .lift .result)) (toZ-ofZ w16 (getD (now (a .work)) (a .x - 1) (pos 0)) (record { sfits = c .before .lift-arg .given })) (c .lift .ensures))
+
+pub left-of-spec : {M : Type 1} → statement M
+left-of-spec =
+    tie.close (tie.spec returns sub-i mul-lift shared-slice-copy-out-lift lift-requires returns-2)

@@ -1,0 +1,31 @@
+-- `quantize::ordered::ordered_dot` meets its contract, by the product form of the rule.
+-- Assumes nothing.
+use Prim.Native.Nat.{_*_}
+use native.Mathlib.Nat.{mul-le-mul}
+use native.Mathlib.Omega.{arith}
+use Rattle.rules.proofs.Appending.{bit-yes, bit-no}
+use Rattle.rules.proofs.Cells.{known-small, area-le, product-white, product-black}
+use borrow.Author.Needs.{needs}
+use Rattle.rules.proofs.ordered.ordered_dot.Statement.{statement}
+use Rattle.rules.proofs.ordered.ordered_dot.Tie as tie
+
+mul-least : tie.Need-mul-least
+mul-least c = search needs
+
+add-least : tie.Need-add-least
+add-least c = search needs
+
+mul-if1 : tie.Need-mul-if1
+mul-if1 c = omega (arith, area-le (c .args .side) (known-small (c .args .side) (c .pre) .1))
+
+mul-if1-2 : tie.Need-mul-if1-2
+mul-if1-2 c = let s = c .args .side in omega (arith, area-le s (known-small s (c .pre) .1), mul-le-mul {n₁ = c .args .gray} {m₁ = s * s} {n₂ = 255} {m₂ = 64} (omega arith) (area-le s (known-small s (c .pre) .1)))
+
+returns : tie.Need-returns
+returns c = let a = c .before .args in bit-yes _ _ (product-white (a .side) (a .n) (a .gray) (c .before .pre) (c .if1 .taken))
+
+returns-2 : tie.Need-returns-2
+returns-2 c = let a = c .before .args in bit-no _ _ (product-black (a .side) (a .n) (a .gray) (c .before .pre) (c .if1 .left))
+
+pub ordered-dot-spec : {M : Type 1} → statement M
+ordered-dot-spec = tie.close (tie.spec mul-least add-least mul-if1 mul-if1-2 returns returns-2)

@@ -1,0 +1,53 @@
+-- `quantize::row::calm` meets its contract.
+-- Assumes nothing.
+use native.Mathlib.Omega.{arith}
+use borrow.Author.Needs.{needs}
+use borrow.Author.Tests.{not-false}
+use Rattle.rules.proofs.Signed.{never}
+use Rattle.rules.proofs.row.calm.Statement.{statement}
+use Rattle.rules.proofs.row.calm.Tie as tie
+
+returns : tie.Need-returns
+returns c = never
+
+returns-2 : tie.Need-returns-2
+returns-2 c = never
+
+returns-3 : tie.Need-returns-3
+returns-3 c = never
+
+add-clear : tie.Need-add-clear
+add-clear c = search needs
+
+clear-requires : tie.Need-clear-requires
+clear-requires c κs = search needs
+
+returns-4 : tie.Need-returns-4
+returns-4 c = never
+
+plain-requires : tie.Need-plain-requires
+plain-requires c κs = search needs
+
+returns-5 : tie.Need-returns-5
+returns-5 c =
+    let n = c .before in
+    λ e. record {
+      below = let z = n .before .before .before .before .if1 .left in omega (arith, z);
+      leftIs = n .before .before .before .if2 .left;
+      cornerIs = n .before .before .if3 .left;
+      clear = n .before .clear .ensures (not-false _ (n .if4 .left));
+      plain = c .plain .ensures e;
+    }
+
+pub calm-spec : {M : Type 1} → statement M
+calm-spec =
+    tie.close
+    (tie.spec
+    returns
+    returns-2
+    returns-3
+    add-clear
+    clear-requires
+    returns-4
+    plain-requires
+    returns-5)

@@ -1,0 +1,41 @@
+-- `quantize::row::inside` meets its contract.
+-- Assumes nothing.
+use mathlib.Core.Path.{subst}
+use native.Mathlib.Omega.{arith}
+use borrow.Author.Needs.{needs}
+use denote.Ref.{now}
+use lib.IntN.{ℤ, pos}
+use lib.ListN.{getD}
+use mir.Syntax.{w16}
+use mir.ValLaws.{toZ-ofZ}
+use Rattle.rules.specs.Carry.{clamp}
+use Rattle.rules.specs.Kernels.{Biased}
+use Rattle.rules.proofs.Reading.{over-in, over-past}
+use Rattle.rules.proofs.Rowing.{biased-zero}
+use Rattle.rules.proofs.row.inside.Statement.{statement}
+use Rattle.rules.proofs.row.inside.Tie as tie
+
+mul-lift : tie.Need-mul-lift
+mul-lift c = let s = c .before in omega (arith, s .pre .0, s .pre .1 (c .if1 .taken), s .good)
+
+shared-slice-copy-out-lift : tie.Need-shared-slice-copy-out-lift
+shared-slice-copy-out-lift c = let s = c .before in omega (arith, s .pre .0, s .pre .1 (c .if1 .taken))
+
+lift-requires : tie.Need-lift-requires
+lift-requires c κs = search needs
+
+returns : tie.Need-returns
+returns c =
+    let s = c .before .before .before in
+    let a = s .args in
+    rw (over-in (a .reach) (now (a .work)) 1 (a .x) (omega arith) (s .pre .1 (c .before .before .if1 .taken)))
+    (subst (λ (z : ℤ). Biased (clamp z) (c .lift .result)) (toZ-ofZ w16 (getD (now (a .work)) (a .x) (pos 0)) (record { sfits = c .before .lift-arg .given })) (c .lift .ensures))
+
+returns-2 : tie.Need-returns-2
+returns-2 c =
+    let a = c .before .args in
+    rw (over-past (a .reach) (now (a .work)) 1 (a .x) (omega arith) (omega (arith, c .if1 .left))) biased-zero
+
+pub inside-spec : {M : Type 1} → statement M
+inside-spec =
+    tie.close (tie.spec mul-lift shared-slice-copy-out-lift lift-requires returns returns-2)

@@ -1,0 +1,31 @@
+use Prim.Native.Nat.{_+_}
+use native.Mathlib.Omega.{arith}
+use denote.Ref.{now}
+use lib.Dec.{leb}
+use lib.ListN.{getD}
+use borrow.Author.Needs.{needs}
+use Rattle.rules.specs.Kernels.{thresholdFrom}
+use Rattle.rules.specs.Words.{samplesFrom}
+use Rattle.rules.proofs.Appending.{bit-le}
+use Rattle.rules.proofs.threshold.byte.Statement.{statement}
+use Rattle.rules.proofs.threshold.byte.Tie as tie
+
+word-requires : tie.Need-word-requires
+word-requires c κs = search needs
+
+compared-requires : tie.Need-compared-requires
+compared-requires c κs = search needs
+
+gathered-requires : tie.Need-gathered-requires
+gathered-requires c κs = search needs
+
+returns : tie.Need-returns
+returns c =
+    let a = c .before .before .before .before .args in
+    let w = c .before .before .word .ensures in
+    c .gathered .ensures (thresholdFrom (a .bound) (now (a .gray)) (a .at))
+    (λ i. let l = bit-le (leb (a .bound) (getD (now (a .gray)) (a .at + i) 0)) in omega arith)
+    (c .before .compared .ensures (samplesFrom (now (a .gray)) (a .at)) (w .1) (w .0))
+
+pub byte-spec : {M : Type 1} → statement M
+byte-spec = tie.close (tie.spec word-requires compared-requires gathered-requires returns)

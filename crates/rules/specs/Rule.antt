@@ -1,0 +1,47 @@
+-- The three rules (document 01: Threshold, Dither, Ordered rule), and the dots of a scan under each.
+use Prim.Native.Nat.{ℕ, _*_}
+use mathlib.Core.Bool.{Bool, true, false}
+use mathlib.Core.List.{List}
+use lib.Dec.{leb}
+use Rattle.rules.specs.Diffusion.{Direction, toRight, Scan, white, valueAt}
+use Rattle.rules.specs.Ordered.{bound, cell, numbers, exponent, knownSide}
+use Rattle.error.specs.Choice.{if}
+use Rattle.options.specs.declared.Quantize.{Quantize}
+use Rattle.options.specs.declared.Quantize.the-variants.{Threshold, Dither, Ordered}
+
+-- a rule; an ordered one has its side and a table of side × side numbers, row by row
+pub data Rule : Type 0 where
+  threshold : ℕ → Rule
+  dither : Rule
+  ordered : ℕ → List ℕ → Rule
+
+-- every row runs to the right
+abbrev pub rightwards : ℕ → Direction
+rightwards y = toRight
+
+-- the dot at column x of row y, in rows of w: true is white
+unfoldable pub dot : Rule → ℕ → Scan → ℕ → ℕ → Bool
+dot (threshold t) w scan x y = leb t (scan x y)
+dot dither w scan x y = white (valueAt rightwards w scan x y)
+dot (ordered side table) w scan x y = leb (bound side (cell side table x y)) (scan x y)
+
+-- the rule that a setting names
+abbrev pub meaning : Quantize → Rule
+meaning (Threshold t) = threshold t
+meaning Dither = dither
+meaning (Ordered side) = ordered side (numbers (exponent side))
+
+abbrev pub knownRule : Quantize → Bool
+knownRule (Threshold t) = true
+knownRule Dither = true
+knownRule (Ordered side) = knownSide side
+
+-- the rule keeps carries in a work buffer
+abbrev pub carries : Rule → Bool
+carries (threshold t) = false
+carries dither = true
+carries (ordered side table) = false
+
+-- a work buffer is long enough: carries need 2 × width numbers
+abbrev pub roomy : Rule → ℕ → ℕ → Bool
+roomy rule w work = if (carries rule) (leb (2 * w) work) true

@@ -1,0 +1,28 @@
+-- Eight samples, or eight dots, as one number with a byte for each.
+use Prim.Native.Nat.{ℕ, zero, suc, _+_, _*_, _<_}
+use mathlib.Core.Path.{_≡_}
+use mathlib.Core.List.{List}
+use lib.Dec.{leb}
+use lib.ListN.{getD}
+use Rattle.rules.specs.Bits.{bit, digits}
+
+-- the number whose digits to the base 256 are n of f's values, the first one the highest
+unfoldable pub bytes : (ℕ → ℕ) → ℕ → ℕ
+bytes f zero = 0
+bytes f (suc n) = bytes f n * 256 + f n
+
+-- f's values are below b
+abbrev pub Below : ℕ → (ℕ → ℕ) → Type 0
+Below b f = (i : ℕ) → f i < b
+
+-- the samples from an index on
+abbrev pub samplesFrom : List ℕ → ℕ → ℕ → ℕ
+samplesFrom gray at i = getD gray (at + i) 0
+
+-- where w's eight bytes are f's values, those of r are their dots
+abbrev pub Compares : ℕ → ℕ → ℕ → Type 0
+Compares t w r = (f : ℕ → ℕ) → Below 256 f → w ≡ bytes f 8 → r ≡ bytes (λ i. bit (leb t (f i))) 8
+
+-- where z's eight bytes are f's values, each a dot, they are r's binary digits
+abbrev pub Gathers : ℕ → ℕ → Type 0
+Gathers z r = (f : ℕ → ℕ) → Below 2 f → z ≡ bytes f 8 → r ≡ digits f 8

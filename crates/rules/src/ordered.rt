@@ -1,0 +1,167 @@
+// The ordered rule.
+ghost use mathlib.Core.Path.{_≡_};
+ghost use Prim.Native.Nat.{ℕ, _+_, _*_, _^_, _≤_, _<_};
+ghost use lib.ListN.{length, take};
+ghost use lib.Dec.{leb};
+ghost use Rattle.rules.specs.Bits.{bit, appended};
+ghost use Rattle.rules.specs.Ordered.{bound, knownSide};
+ghost use Rattle.rules.specs.Ordered;
+ghost use mathlib.Core.Bool.{true};
+ghost use Rattle.rules.specs.Kernels.{Packs, Cell, Filled, Table, orderedBit};
+
+// The numbers for side 8, row by row.
+const TABLE: [u8; 64] = [
+    0,
+    32,
+    8,
+    40,
+    2,
+    34,
+    10,
+    42,
+    48,
+    16,
+    56,
+    24,
+    50,
+    18,
+    58,
+    26,
+    12,
+    44,
+    4,
+    36,
+    14,
+    46,
+    6,
+    38,
+    60,
+    28,
+    52,
+    20,
+    62,
+    30,
+    54,
+    22,
+    3,
+    35,
+    11,
+    43,
+    1,
+    33,
+    9,
+    41,
+    51,
+    19,
+    59,
+    27,
+    49,
+    17,
+    57,
+    25,
+    15,
+    47,
+    7,
+    39,
+    13,
+    45,
+    5,
+    37,
+    63,
+    31,
+    55,
+    23,
+    61,
+    29,
+    53,
+    21,
+];
+
+// The number for a side at column x and row y, from the number for half the side.
+fn cell(side: usize, x: usize, y: usize) -> usize
+    requires { ⌜ (0 < side) × (side ≤ 8) ⌝ }
+    ensures { λ r. ⌜ Cell side x y r ⌝ }
+{
+    if side == 1 {
+        return 0;
+    }
+    let half = side / 2;
+    let n = cell(half, x % half, y % half);
+    if y < half {
+        if x < half { 4 * n } else { 4 * n + 2 }
+    } else {
+        if x < half { 4 * n + 3 } else { 4 * n + 1 }
+    }
+}
+
+// The numbers for a side, row by row, at the front.
+fn filled(side: usize) -> [u8; 64]
+    requires { ⌜ (0 < side) × (side ≤ 8) ⌝ }
+    ensures { λ r. ⌜ Filled side r ⌝ }
+{
+    let mut table = [0u8; 64];
+    let area = side * side;
+    let mut i: usize = 0;
+    while i < area {
+        table[i] = cell(side, i % side, i / side) as u8;
+        i += 1;
+    }
+    table
+}
+
+// The numbers for the side 2, 4 or 8.
+pub fn numbers(side: u8) -> [u8; 64]
+    ensures { λ r. ⌜ Table side r ⌝ }
+{
+    if side == 2 {
+        return filled(2);
+    }
+    if side == 4 {
+        return filled(4);
+    }
+    TABLE
+}
+
+// The number of a table at a column and a row of the image.
+fn cell_at(table: &[u8; 64], side: u8, x: usize, y: usize) -> u8
+    requires { ⌜ knownSide side ≡ true ⌝ }
+    ensures { λ r. ⌜ r ≡ Ordered.cell side (now (table .entry)) x y ⌝ }
+{
+    let s = side as usize;
+    let i = s * (y % s) + x % s;
+    table[i]
+}
+
+// The dot of a sample where n is the number: 1 where gray × side × side is at least 256 n + 128.
+fn ordered_dot(side: u8, n: u8, gray: u8) -> u32
+    requires { ⌜ knownSide side ≡ true ⌝ }
+    ensures { λ r. ⌜ r ≡ bit (leb (bound side n) gray) ⌝ }
+{
+    let s = side as u32;
+    let least = 256 * n as u32 + 128;
+    if least <= gray as u32 * (s * s) { 1 } else { 0 }
+}
+
+// The digits of `begun`, and then a dot for each sample, from a column of row y on.
+pub fn ordered_dots(
+    table: &[u8; 64],
+    side: u8,
+    y: usize,
+    column: usize,
+    gray: &[u8],
+    begun: u32,
+) -> u32
+    requires { ⌜ Packs begun (length (now gray)) ⌝ }
+    requires { ⌜ knownSide side ≡ true ⌝ }
+    requires { ⌜ column + length (now gray) < 2 ^ 64 ⌝ }
+    ensures { λ r. ⌜ r ≡ appended begun (orderedBit side (now (table .entry)) y column (now (gray .entry))) (length (now (gray .entry))) ⌝ }
+{
+    let mut digits = begun;
+    let mut i: usize = 0;
+    while i < gray.len() {
+        let n = cell_at(table, side, column + i, y);
+        digits = digits * 2 + ordered_dot(side, n, gray[i]);
+        i += 1;
+    }
+    digits
+}
