@@ -20,8 +20,10 @@ a & b = (a, b)
 
 -- a line for each card
 pub cards : AllAgree table
-unfolding sniffed sniffBody areClear mbiBytes groups readRest readByte readHeader readFields readPairs readPair convertFormat convertRows convertRow clearPadding
-    part value white residual valueFrom handed rowValue above valueAt number numbers bound dot begunBytes count frame dotOf bitAt byteAt finished upto appended
+unfolding sniffed sniffBody areClear mbiBytes groups readRest readByte readHeader readFields readPairs readPair convertFormat convertRows
+    convertRow clearPadding
+    part value white residual valueFrom handed rowValue above valueAt number numbers bound dot begunBytes count frame dotOf bitAt byteAt
+    finished upto appended
 cards =
     (refl, refl, refl) & (refl, refl, refl) & (refl, refl, refl) & (refl, refl, refl)
     & (refl, refl, refl) & refl

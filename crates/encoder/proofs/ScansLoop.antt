@@ -71,7 +71,8 @@ begun rule w h count gray work out plane p e r =
       spared = λ _. refl;
     }
 
-module _ {rule : Quantize} {w h count : ℕ} {gray : List ℕ} {work₀ : List ℤ} {out₀ : List ℕ} {area plane : ℕ} {work : List ℤ} {out : List ℕ} {k : ℕ}
+module _ {rule : Quantize} {w h count : ℕ} {gray : List ℕ} {work₀ : List ℤ} {out₀ : List ℕ}
+    {area plane : ℕ} {work : List ℤ} {out : List ℕ} {k : ℕ}
     (c : Scanning rule w h count gray work₀ out₀ area plane work out k) where
   abbrev made : List ℕ
   made = scanBytes rule w h gray k

@@ -34,7 +34,8 @@ begin-made-requires c κs =
     let n = k .before in
     let a = n .before .before .before .before .args in
     (laid (n .new .ensures),
-    subst⁻¹ (λ (l : PlaneLayout). checkScans 16 (a .options .quantize) (l .width) (l .height) (a .count) (length (now (a .gray))) (length (now (a .work))) ≡ gives tt)
+    subst⁻¹ (λ (l : PlaneLayout). checkScans 16 (a .options .quantize) (l .width) (l .height) (a .count) (length (now (a .gray)))
+    (length (now (a .work))) ≡ gives tt)
     (n .new .ensures) (tested k _ (t .enum-told .given .1)))
 
 enum-known-e : tie.Need-enum-known-e
@@ -52,7 +53,8 @@ returns c =
     let n = w .before .before .before .before .before .before in
     let a = n .before .before .before .before .args in
     let b = w .begin-made in
-    subst (λ (l : PlaneLayout). BeginsMade (l .width) (l .height) (a .count) (now (a .gray)) (a .options) (now (a .text)) (a .found) (now (a .work))
+    subst (λ (l : PlaneLayout). BeginsMade (l .width) (l .height) (a .count) (now (a .gray)) (a .options) (now (a .text)) (a .found)
+    (now (a .work))
     (b .last .1 .1 .1 .1 .1 .0) (now (a .out)) (b .last .1 .1 .1 .1 .1 .1 .0) (b .result)) (n .new .ensures) (b .ensures)
 
 returns-2 : tie.Need-returns-2

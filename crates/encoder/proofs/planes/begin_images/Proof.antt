@@ -33,7 +33,8 @@ begin-file-requires c κs =
     let n = k .before in
     let a = n .before .before .before .before .args in
     (laid (n .new .ensures),
-    subst⁻¹ (λ (l : PlaneLayout). checkPlanes 16 (l .width) (l .height) (a .count) (a .stride) (length (now (a .planes))) ≡ gives tt) (n .new .ensures)
+    subst⁻¹ (λ (l : PlaneLayout). checkPlanes 16 (l .width) (l .height) (a .count) (a .stride) (length (now (a .planes))) ≡ gives tt)
+    (n .new .ensures)
     (tests-are k _ (t .enum-told .given .1)))
 
 enum-known-e : tie.Need-enum-known-e
@@ -52,7 +53,9 @@ returns c lengths h =
     let b = w .begin-file in
     tested-left (a .options) (a .format) (a .width) (a .height) (a .count) (a .stride) (now (a .planes)) (now (a .text)) lengths
     (now (a .out)) _ _
-    (tests-are k _ (t .enum-told .given .1)) (subst (λ (l : PlaneLayout). BeginsFile (l .width) (l .height) (a .count) (now (a .planes)) (a .stride) (a .format) (a .options) (now (a .text)) (a .found)
+    (tests-are k _ (t .enum-told .given .1))
+    (subst (λ (l : PlaneLayout). BeginsFile (l .width) (l .height) (a .count) (now (a .planes)) (a .stride) (a .format) (a .options)
+    (now (a .text)) (a .found)
     (now (a .out)) (b .last .1 .1 .1 .1 .1 .0) (b .result)) (n .new .ensures) (b .ensures) lengths h)
 
 returns-2 : tie.Need-returns-2
