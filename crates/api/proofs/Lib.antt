@@ -1,5 +1,5 @@
-pub mod Cleared
-pub mod Told
-pub mod Looked
+pub mod RowsClear
+pub mod HeaderTold
+pub mod BodySniffed
 pub mod Examples
-pub mod Fronted
+pub mod ShortHeaders

@@ -1,6 +1,6 @@
-pub mod Near
-pub mod Places
-pub mod Known
-pub mod Told
-pub mod Roomy
+pub mod HeaderPlaces
+pub mod RefusalPlaces
+pub mod SettingsKnown
+pub mod LentNumbers
+pub mod RoomEnough
 pub mod Unpacked

@@ -9,13 +9,13 @@ use Rattle.options.specs.Limits.{ceilingOf}
 use Rattle.api.specs.Info.{readInfo}
 use Rattle.capi.specs.Packed.{packed}
 use Rattle.capi.specs.Asked.{formatOf, strictOf, settingsOf, readAsked}
-use Rattle.capi.proofs.Near.{Told, told}
-use Rattle.capi.proofs.Places.{Numbered, numbered-bind, pick, read-numbered, info-numbered}
+use Rattle.capi.proofs.HeaderPlaces.{Told, told}
+use Rattle.capi.proofs.RefusalPlaces.{Numbered, numbered-bind, pick, read-numbered, info-numbered}
 
 pub record Unpacked (code offset r : ℕ) : Type 0 where
   pub refused : 0 < r
-  pub code-is : r % 256 ≡ code
-  pub offset-is : r / 256 ≡ offset
+  pub codeIs : r % 256 ≡ code
+  pub offsetIs : r / 256 ≡ offset
 
 -- what a returned number says of the answer
 abbrev pub Returned : {A : Type 0} → Answer A → ℕ → Type 0
@@ -25,7 +25,7 @@ Returned (refuses code offset) r = Unpacked code offset r
 returned : {A : Type 0} (a : Answer A) → Numbered a → Returned a (packed a)
 returned (gives a) n = refl
 returned (refuses code offset) n =
-    record { refused = omega (arith, n .some); code-is = omega (arith, n .small); offset-is = omega (arith, n .small) }
+    record { refused = omega (arith, n .some); codeIs = omega (arith, n .small); offsetIs = omega (arith, n .small) }
 
 pub info-returned : (bytes : List ℕ) → Returned (readInfo bytes) (packed (readInfo bytes))
 info-returned bytes = returned (readInfo bytes) (info-numbered bytes)

@@ -9,8 +9,8 @@ use Rattle.image.specs.declared.PixelFormat.{PixelFormat}
 use Rattle.image.specs.declared.PixelFormat.the-variants.{MonoBlack, MonoWhite}
 use Rattle.options.specs.Limits.{Bound, absent, atMost, Mode, lenient, strict, Decoding, ceilingOf, decoding}
 use Rattle.decoder.specs.Frames.{Image, decodedBy, shownBy}
-use Rattle.capi.specs.declared.asked.Settings.{Settings}
-use Rattle.capi.specs.declared.asked.Settings.the-variants.{Unknown}
+use Rattle.capi.specs.declared.asked.DecodeSettings.{DecodeSettings}
+use Rattle.capi.specs.declared.asked.DecodeSettings.the-variants.{Unknown}
 
 -- "Format is 0 (MonoBlack) or 1 (MonoWhite), strict 0 or 1; others are 29"
 abbrev pub formatOf : ℕ → Answer PixelFormat
@@ -46,6 +46,6 @@ abbrev pub outputAsked : Answer Decoding → List ℕ → List ℕ → List ℕ
 outputAsked settings bytes old = output (bind settings (λ d. shownBy (ceilingOf d) d bytes)) old
 
 -- what the code's values mean
-abbrev pub meaning : Settings → Answer Decoding
-meaning (Settings.Known o) = gives (decoding o)
+abbrev pub meaning : DecodeSettings → Answer Decoding
+meaning (DecodeSettings.Known o) = gives (decoding o)
 meaning Unknown = refuses 29 0

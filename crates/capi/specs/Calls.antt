@@ -8,7 +8,7 @@ use Rattle.options.specs.Limits.{Decoding}
 use Rattle.decoder.specs.Frames.{Image}
 use Rattle.api.specs.Info.{Info, readInfo}
 use Rattle.capi.specs.Packed.{packed, held}
-use Rattle.capi.specs.Lent.{kindOf, startOf, lengthOf, pairsOf}
+use Rattle.capi.specs.Lent.{fieldsKind, fieldsStart, fieldsLength, fieldsPairs}
 use Rattle.capi.specs.Asked.{readAsked, outputAsked}
 
 -- a lent number was given what is told of the file, or left alone by a refusal
@@ -18,21 +18,22 @@ Holds a f n = n .1 ≡ held a f (n .0)
 -- `wbmp_info`
 pub record Informs (bytes : List ℕ) (r : ℕ) (width height frames body fix kind start len pairs : ℕ × ℕ) : Type 0 where
   pub answer : r ≡ packed (readInfo bytes)
-  pub width-is : Holds (readInfo bytes) (λ i. i .width) width
-  pub height-is : Holds (readInfo bytes) (λ i. i .height) height
-  pub frames-is : Holds (readInfo bytes) (λ i. i .frames) frames
-  pub body-is : Holds (readInfo bytes) (λ i. i .body) body
-  pub fix-is : Holds (readInfo bytes) (λ i. i .fix) fix
-  pub kind-is : Holds (readInfo bytes) (λ i. kindOf (i .fields)) kind
-  pub start-is : Holds (readInfo bytes) (λ i. startOf (i .fields)) start
-  pub len-is : Holds (readInfo bytes) (λ i. lengthOf (i .fields)) len
-  pub pairs-is : Holds (readInfo bytes) (λ i. pairsOf (i .fields)) pairs
+  pub widthIs : Holds (readInfo bytes) (λ i. i .width) width
+  pub heightIs : Holds (readInfo bytes) (λ i. i .height) height
+  pub framesIs : Holds (readInfo bytes) (λ i. i .frames) frames
+  pub bodyIs : Holds (readInfo bytes) (λ i. i .body) body
+  pub fixIs : Holds (readInfo bytes) (λ i. i .fix) fix
+  pub kindIs : Holds (readInfo bytes) (λ i. fieldsKind (i .fields)) kind
+  pub startIs : Holds (readInfo bytes) (λ i. fieldsStart (i .fields)) start
+  pub lenIs : Holds (readInfo bytes) (λ i. fieldsLength (i .fields)) len
+  pub pairsIs : Holds (readInfo bytes) (λ i. fieldsPairs (i .fields)) pairs
 
 -- `wbmp_read`: `old` and `new` are the lent output before and after the call
-pub record Reads (settings : Answer Decoding) (bytes : List ℕ) (r : ℕ) (old new : List ℕ) (width height frames written : ℕ × ℕ) : Type 0 where
+pub record Reads (settings : Answer Decoding) (bytes : List ℕ) (r : ℕ) (old new : List ℕ)
+    (width height frames written : ℕ × ℕ) : Type 0 where
   pub answer : r ≡ packed (readAsked settings bytes (length old))
-  pub output-is : new ≡ outputAsked settings bytes old
-  pub width-is : Holds (readAsked settings bytes (length old)) (λ i. i .width) width
-  pub height-is : Holds (readAsked settings bytes (length old)) (λ i. i .height) height
-  pub frames-is : Holds (readAsked settings bytes (length old)) (λ i. i .frames) frames
-  pub written-is : Holds (readAsked settings bytes (length old)) (λ i. i .written) written
+  pub outputIs : new ≡ outputAsked settings bytes old
+  pub widthIs : Holds (readAsked settings bytes (length old)) (λ i. i .width) width
+  pub heightIs : Holds (readAsked settings bytes (length old)) (λ i. i .height) height
+  pub framesIs : Holds (readAsked settings bytes (length old)) (λ i. i .frames) frames
+  pub writtenIs : Holds (readAsked settings bytes (length old)) (λ i. i .written) written

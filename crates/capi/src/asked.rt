@@ -6,16 +6,16 @@ use options::Limit;
 ghost use mathlib.Core.Path.{_≡_};
 ghost use Prim.Native.Nat.{_≤_};
 ghost use Rattle.error.specs.Answer.{gives};
-ghost use Rattle.options.specs.Limits.{bound, modeOf};
+ghost use Rattle.options.specs.Limits.{boundOf, modeOf};
 ghost use Rattle.capi.specs.Asked.{formatOf, strictOf, limitOf, settingsOf, meaning};
 
-pub(crate) enum Settings {
+pub(crate) enum DecodeSettings {
     Known(DecodeOptions),
     Unknown,
 }
 
 fn limit(most: u64, largest: u64) -> Limit
-    ensures { λ r. ⌜ bound r ≡ limitOf largest most ⌝ }
+    ensures { λ r. ⌜ boundOf r ≡ limitOf largest most ⌝ }
 {
     if most == largest {
         return Limit::absent();
@@ -50,18 +50,18 @@ pub(crate) fn asked(
     max_height: u32,
     max_pixels: u64,
     max_bytes: u64,
-) -> Settings
+) -> DecodeSettings
     ensures { λ r. ⌜ meaning r ≡ settingsOf format strict «max_width» «max_height» «max_pixels» «max_bytes» ⌝ }
 {
     if format > 1 {
-        return Settings::Unknown;
+        return DecodeSettings::Unknown;
     }
     if strict > 1 {
-        return Settings::Unknown;
+        return DecodeSettings::Unknown;
     }
     let pixels = pixel_format(format);
     let mode = decode_mode(strict);
-    Settings::Known(DecodeOptions {
+    DecodeSettings::Known(DecodeOptions {
         max_width: limit(max_width as u64, u32::MAX as u64),
         max_height: limit(max_height as u64, u32::MAX as u64),
         max_pixels: limit(max_pixels, u64::MAX),

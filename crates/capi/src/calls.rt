@@ -1,5 +1,5 @@
 // The functions that C calls.
-use crate::asked::Settings;
+use crate::asked::DecodeSettings;
 use crate::asked::asked;
 use crate::numbers::field_numbers;
 use crate::numbers::pack;
@@ -79,7 +79,7 @@ pub extern "C" fn wbmp_read(
     ensures { λ r. ⌜ Reads (settingsOf format strict «max_width» «max_height» «max_pixels» «max_bytes») (now (bytes .entry)) r (now (out .entry)) (now (out .exit)) (now (width .entry), now (width .exit)) (now (height .entry), now (height .exit)) (now (frames .entry), now (frames .exit)) (now (written .entry), now (written .exit)) ⌝ }
 {
     match asked(format, strict, max_width, max_height, max_pixels, max_bytes) {
-        Settings::Known(options) => match decoder::decode_frames(bytes, options, out) {
+        DecodeSettings::Known(options) => match decoder::decode_frames(bytes, options, out) {
             Decoded::Image(read) => {
                 *width = read.width;
                 *height = read.height;
@@ -89,6 +89,6 @@ pub extern "C" fn wbmp_read(
             }
             Decoded::Refused(e) => pack(e),
         },
-        Settings::Unknown => UNKNOWN_SETTING as u64,
+        DecodeSettings::Unknown => UNKNOWN_SETTING as u64,
     }
 }

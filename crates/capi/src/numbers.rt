@@ -6,7 +6,7 @@ ghost use mathlib.Core.Path.{_≡_};
 ghost use Prim.Native.Nat.{_+_, _*_, _^_, _<_};
 ghost use Rattle.ext.specs.Kinds.{kindNumber};
 ghost use Rattle.header.specs.Read.{extSpan};
-ghost use Rattle.capi.specs.Lent.{kindOf, startOf, lengthOf, pairsOf};
+ghost use Rattle.capi.specs.Lent.{fieldsKind, fieldsStart, fieldsLength, fieldsPairs};
 
 // A refusal: its number in the low eight bits, and its place above them.
 pub(crate) fn pack(e: WbmpError) -> u64
@@ -36,7 +36,7 @@ fn kind_number(kind: ExtFieldType) -> u8
 }
 
 pub(crate) fn field_numbers(fields: HeaderFields) -> FieldNumbers
-    ensures { λ r. ⌜ r ≡ record { kind = kindOf (extSpan fields); start = startOf (extSpan fields); len = lengthOf (extSpan fields); pairs = pairsOf (extSpan fields) } ⌝ }
+    ensures { λ r. ⌜ r ≡ record { kind = fieldsKind (extSpan fields); start = fieldsStart (extSpan fields); len = fieldsLength (extSpan fields); pairs = fieldsPairs (extSpan fields) } ⌝ }
 {
     match fields {
         HeaderFields::Absent => FieldNumbers {

@@ -16,7 +16,7 @@ use Rattle.options.specs.Limits.{Decoding, ceilingOf}
 use Rattle.quantize.specs.Finished.{setting, finished}
 use Rattle.quantize.proofs.Joining.{finished-frames}
 use Rattle.encoder.specs.Make.{fileOfScans}
-use Rattle.encoder.proofs.Scanned.{passes}
+use Rattle.encoder.proofs.ScanTests.{passes}
 use Rattle.encode_session.specs.Model as Making
 use Rattle.encode_session.specs.Trace as MakingTrace
 use Rattle.encode_session.proofs.OpenCorrect.{enough-work, Passed, passed}

@@ -24,7 +24,7 @@ use Rattle.quantize.proofs.Joining.{scans-long, scans-more}
 use Rattle.quantize.proofs.Wholes.{plane-long}
 use Rattle.encoder.specs.File.{fileOf}
 use Rattle.encoder.specs.Make.{checkScans, scanBytes, fileOfScans}
-use Rattle.encoder.proofs.Scanned.{Passed as Passes, passed as scans-passed}
+use Rattle.encoder.proofs.ScanTests.{Passed as Passes, passed as scans-passed}
 use Rattle.api.specs.Sniff.{isClear, sniffed}
 use Rattle.api.specs.declared.Sniffed.the-variants.{Exact}
 use Rattle.conformance.specs.ReadBack.{Taken, Admitted, planeIn, lentScan, scanWhite, ReadsBack}

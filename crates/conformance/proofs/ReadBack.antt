@@ -22,8 +22,8 @@ use Rattle.image.specs.Dots.{isWhite}
 use Rattle.image.specs.Rows.{convertFormat}
 use Rattle.image.specs.declared.PixelFormat.the-variants.{MonoBlack}
 use Rattle.image.proofs.PlaneSizes.{plane-some}
-use Rattle.image.proofs.Masked.{bytes-source}
-use Rattle.image.proofs.Wiring.{source-there}
+use Rattle.image.proofs.MaskClears.{bytes-source}
+use Rattle.image.proofs.WireRows.{source-there}
 use Rattle.options.specs.Limits.{Decoding, checkLimits}
 use Rattle.decoder.specs.Body.{extraFrames, framesIn, sourcePlane, planeAt, planes}
 use Rattle.decoder.specs.Image.{imageSettings, testBody, readImage}

@@ -13,7 +13,7 @@ use Rattle.image.specs.Geometry.{rowBytes, planeBytes, neededBytes, checkGeomet
 use Rattle.image.specs.Rows.{convertFormat}
 use Rattle.image.specs.declared.PixelFormat.{PixelFormat}
 use Rattle.image.specs.declared.PixelFormat.the-variants.{MonoBlack, MonoWhite}
-use Rattle.image.proofs.Tested.{accepted}
+use Rattle.image.proofs.GeometryTests.{accepted}
 use Rattle.image.proofs.ConvertDots.{converted-dots}
 
 module _ (w h : ℕ) (wide : 0 < w) (high : 0 < h) (wb : w < 4294967296) (hb : h < 4294967296) where

@@ -21,12 +21,12 @@ use Rattle.image.specs.Rows.{clearLow, sourceRow, toNative}
 use Rattle.image.specs.declared.PixelFormat.{PixelFormat}
 use Rattle.image.specs.declared.PixelFormat.the-variants.{MonoWhite}
 use Rattle.image.proofs.PlaneSizes.{plane-some}
-use Rattle.image.proofs.Cleared.{paddingAt}
+use Rattle.image.proofs.PaddingCleared.{paddingAt}
 use Rattle.image.proofs.WireDots.{wire-byte}
 use Rattle.options.specs.declared.EncodeOptions.{EncodeOptions}
 use Rattle.encoder.specs.Write.{lentPlane, wirePlanes, fileOfPlanes}
-use Rattle.encoder.proofs.Counted.{Counted}
-use Rattle.encoder.proofs.Planed.{planes-length}
+use Rattle.encoder.proofs.CountTests.{Counted}
+use Rattle.encoder.proofs.PlanesLoop.{planes-length}
 use Rattle.api.specs.Sniff.{isClear, areClear, sniffLength, sniffBody, sniffHeader, sniffed}
 use Rattle.api.specs.declared.Sniffed.the-variants.{Exact}
 use Rattle.conformance.proofs.Files.{Filed, filed, header-read, behind}

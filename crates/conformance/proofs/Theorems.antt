@@ -64,15 +64,15 @@ use Rattle.decoder.proofs.After.{refusal-kept}
 use Rattle.decoder.proofs.Rest.{past-ceiling, no-plane-more}
 use Rattle.encoder.specs.Make.{checkScans, fileOfScans}
 use Rattle.encoder.specs.Write.{lentPlane, checkPlanes, fileOfPlanes}
-use Rattle.encoder.proofs.Makings as Scans
-use Rattle.encoder.proofs.Surplus as Planes
+use Rattle.encoder.proofs.ScansSurplus as Scans
+use Rattle.encoder.proofs.PlanesSurplus as Planes
 use Rattle.api.specs.Sniff.{sniffed}
 use Rattle.api.specs.declared.Sniffed.the-variants.{Exact}
 use Rattle.decode_session.specs.Model as Reading
 use Rattle.decode_session.specs.Session as ReadingSession
 use Rattle.decode_session.specs.declared.DecodeSession.{DecodeSession}
 use Rattle.decode_session.proofs.Asked.{counted}
-use Rattle.conformance.specs.Check.{allPass}
+use Rattle.conformance.specs.Check.{AllAgree}
 use Rattle.conformance.specs.Lists.{Condition3}
 use Rattle.conformance.specs.ReadBack.{Taken, Admitted, lentScan, scanWhite, ReadsBack}
 use Rattle.conformance.specs.Table as Table
@@ -278,7 +278,7 @@ made-sniffed = made-exact
 
 -- ---- "P1-P12 form one table with a single theorem about the definitions."
 
-stated-cards : allPass Table.table ≡ true
+stated-cards : AllAgree Table.table
 stated-cards = cards
 
 -- ---- sessions

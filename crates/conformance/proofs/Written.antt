@@ -19,16 +19,16 @@ use Rattle.image.specs.Geometry.{rowBytes, planeBytes, neededBytes, paddingBits
 use Rattle.image.specs.Rows.{clearLow, clearPadding, sourceRow, toNative, wireRow, wireBits}
 use Rattle.image.specs.declared.PixelFormat.{PixelFormat}
 use Rattle.image.specs.declared.PixelFormat.the-variants.{MonoBlack}
-use Rattle.image.proofs.Masked.{bytes-source, bytes-native}
-use Rattle.image.proofs.Tested.{accepted}
+use Rattle.image.proofs.MaskClears.{bytes-source, bytes-native}
+use Rattle.image.proofs.GeometryTests.{accepted}
 use Rattle.image.proofs.WireDots.{wire-dots}
-use Rattle.image.proofs.Wiring.{source-there}
+use Rattle.image.proofs.WireRows.{source-there}
 use Rattle.options.specs.Limits.{Decoding}
 use Rattle.options.specs.declared.EncodeOptions.{EncodeOptions}
 use Rattle.encoder.specs.File.{fileOf}
 use Rattle.encoder.specs.Write.{checkPlanes, lentPlane, wirePlanes, fileOfPlanes}
-use Rattle.encoder.proofs.Tested.{Tested, tested}
-use Rattle.encoder.proofs.Planed.{planes-length}
+use Rattle.encoder.proofs.PlaneTests.{Tested, tested}
+use Rattle.encoder.proofs.PlanesLoop.{planes-length}
 use Rattle.conformance.specs.ReadBack.{Taken, Admitted, planeIn, ReadsBack}
 use Rattle.conformance.proofs.Joined.{piece-back}
 use Rattle.conformance.proofs.Files.{filed, fitting, plain}

@@ -7,7 +7,7 @@ use lib.Dec.{ltb}
 use lib.ListN.{length, take, drop}
 use Rattle.error.specs.Answer.{gives}
 use Rattle.ext.specs.Kinds.{Fields, none, bitfield, reserved, pairs}
-use Rattle.ext_write.specs.Ceiling.{StartsBelow}
+use Rattle.ext_write.specs.Ceiling.{Readable}
 use Rattle.header.specs.Write.{fixByte}
 use Rattle.image.specs.Dots.{isWhite}
 use Rattle.image.specs.Geometry.{rowBytes, planeBytes}
@@ -23,9 +23,9 @@ use Rattle.decoder.specs.Frames.{Image, shown, decoded}
 -- fields within the ceiling of 4,096, or none
 abbrev pub Within : Fields → Type 0
 Within none = Unit {0}
-Within (bitfield octets) = length octets ≤ 4096
+Within (bitfield octets) = Readable (bitfield octets)
 Within (reserved kind octet) = Unit {0}
-Within (pairs ps) = StartsBelow 0 ps
+Within (pairs ps) = Readable (pairs ps)
 
 -- the fields that a reading in this mode takes from a file that was written strictly or not: a lenient one those within the ceiling, and a
 -- strict one none

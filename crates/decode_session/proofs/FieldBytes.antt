@@ -13,7 +13,7 @@ use Rattle.error.specs.Answer.{Answer, gives, refuses, bind, map}
 use Rattle.laws.proofs.Answers.{bind-gives, map-gives}
 use Rattle.laws.proofs.Tests.{zero-one}
 use Rattle.mbi.specs.Read.{readMbi}
-use Rattle.mbi.proofs.Within.{mbi-within}
+use Rattle.mbi.proofs.IntegerBounds.{mbi-within}
 use Rattle.ext.specs.Kinds.{Fields, fieldsFollow, kindBits}
 use Rattle.ext.specs.Read.{readFields}
 use Rattle.ext.proofs.Prefix.{settled, fields-prefix}

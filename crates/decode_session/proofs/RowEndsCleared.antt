@@ -15,7 +15,7 @@ use Rattle.error.specs.Choice.{if}
 use Rattle.laws.proofs.Tests.{if-true, if-false}
 use Rattle.image.specs.Geometry.{rowBytes, paddingBits, paddingMask}
 use Rattle.image.specs.Rows.{clearLow}
-use Rattle.image.proofs.Masked.{mask-low}
+use Rattle.image.proofs.MaskClears.{mask-low}
 use Rattle.decode_session.specs.Sequence.{padded}
 use Rattle.decode_session.specs.Body.{Cleared}
 

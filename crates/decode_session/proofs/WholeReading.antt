@@ -18,10 +18,10 @@ use Rattle.image.specs.Parts.{clearRows}
 use Rattle.image.specs.Rows.{clearLow, invert, convertFormat}
 use Rattle.image.specs.declared.PixelFormat.{PixelFormat}
 use Rattle.image.specs.declared.PixelFormat.the-variants.{MonoBlack, MonoWhite}
-use Rattle.image.proofs.Cleared.{paddingAt}
-use Rattle.image.proofs.Inverted.{invert-length, invert-at}
+use Rattle.image.proofs.PaddingCleared.{paddingAt}
+use Rattle.image.proofs.InvertedBytes.{invert-length, invert-at}
 use Rattle.image.proofs.PlaneSizes.{byte-inside, plane-mod}
-use Rattle.image.proofs.AtOnce.{clear-length, clear-at, rows-same, all-at-once}
+use Rattle.image.proofs.PackedAsRows.{clear-length, clear-at, rows-same, all-at-once}
 use Rattle.options.specs.Limits.{Decoding}
 use Rattle.decoder.specs.Body.{planeOf, planeAt, planes}
 use Rattle.decoder.specs.Image.{headerOf}

@@ -16,7 +16,7 @@ use Rattle.image.specs.Geometry.{rowBytes}
 use Rattle.image.specs.Rows.{convertFormat}
 use Rattle.image.specs.declared.PixelFormat.{PixelFormat}
 use Rattle.image.specs.declared.PixelFormat.the-variants.{MonoBlack}
-use Rattle.image.proofs.Converted.{format-length}
+use Rattle.image.proofs.ConvertedBytes.{format-length}
 use Rattle.decoder.specs.Body.{planeOf, sourcePlane, planeAt, planes}
 
 -- the stretch that is lent has room for a plane

@@ -11,7 +11,7 @@ use Rattle.error.specs.Answer.{gives, map}
 use Rattle.laws.proofs.Answers.{bind-gives, map-gives, unless, when}
 use Rattle.laws.proofs.Tests.{neither}
 use Rattle.mbi.specs.Read.{readMbi}
-use Rattle.mbi.proofs.Within.{mbi-within}
+use Rattle.mbi.proofs.IntegerBounds.{mbi-within}
 use Rattle.ext.specs.Kinds.{Fields, fieldsFollow, kindBits}
 use Rattle.ext.specs.Read.{readFields}
 use Rattle.header.specs.Settings.{Settings}

@@ -14,8 +14,8 @@ use Rattle.image.specs.declared.PixelFormat.the-variants.{MonoWhite}
 use Rattle.options.specs.declared.EncodeOptions.{EncodeOptions}
 use Rattle.options.specs.declared.Quantize.the-variants.{Threshold}
 use Rattle.encoder.specs.Write.{checkPlanes, wirePlanes, fileOfPlanes}
-use Rattle.encoder.proofs.Tested.{tested, body-within}
-use Rattle.encoder.proofs.Surplus.{surplus-ignored}
+use Rattle.encoder.proofs.PlaneTests.{tested, body-within}
+use Rattle.encoder.proofs.PlanesSurplus.{surplus-ignored}
 
 abbrev planes : List ℕ
 planes = 0x00 ∷ 0x7F ∷ 0x4D ∷ 0xFF ∷ 0xFF ∷ 0xFF ∷ 0x81 ∷ 0x4D ∷ 0x00 ∷ 0x01 ∷ []
@@ -36,7 +36,8 @@ file : fileOfPlanes 16 options MonoWhite 9 2 2 3 planes [] []
 unfolding fileOfPlanes checkPlanes checkGeometry wirePlanes wireBits wireRow clearPadding fieldsBytes mbiBytes groups
 file = refl
 
-surplus : (ρ : List ℕ) → fileOfPlanes 16 options MonoWhite 9 2 2 3 (planes ++ ρ) [] [] ≡ fileOfPlanes 16 options MonoWhite 9 2 2 3 planes [] []
+surplus : (ρ : List ℕ) → fileOfPlanes 16 options MonoWhite 9 2 2 3
+    (planes ++ ρ) [] [] ≡ fileOfPlanes 16 options MonoWhite 9 2 2 3 planes [] []
 surplus ρ = surplus-ignored 9 2 3 MonoWhite planes ρ 16 options 2 [] [] passes
 
 -- a byte less is too short, and so is a third plane

@@ -28,15 +28,19 @@ BeginsBefore body width height o text found old new b =
 abbrev pub BeginsMade : ℕ → ℕ → ℕ → List ℕ → EncodeOptions → List ℕ → FieldsCheck → List ℤ → List ℤ → List ℕ → List ℕ → PairsBegun → Type 0
 BeginsMade width height count gray o text found work work′ old new b =
     (lengths : List ℕ) → ChecksPairs (o .strict) text lengths found
-    → Left (o .strict) text lengths new b (λ out′. Makes 16 o width height count gray text lengths old work (written (b .answer)) out′ work′)
+    → Left (o .strict) text lengths new b
+    (λ out′. Makes 16 o width height count gray text lengths old work (written (b .answer)) out′ work′)
 
 -- planes that were tested, and any planes
 abbrev pub BeginsFile : ℕ → ℕ → ℕ → List ℕ → ℕ → PixelFormat → EncodeOptions → List ℕ → FieldsCheck → List ℕ → List ℕ → PairsBegun → Type 0
 BeginsFile width height count planes stride format o text found old new b =
     (lengths : List ℕ) → ChecksPairs (o .strict) text lengths found
-    → Left (o .strict) text lengths new b (Emits (fileOf o width height text lengths (wirePlanes format width height stride planes count)) (written (b .answer)) old)
+    → Left (o .strict) text lengths new b
+    (Emits (fileOf o width height text lengths (wirePlanes format width height stride planes count)) (written (b .answer)) old)
 
-abbrev pub BeginsImages : ℕ → ℕ → ℕ → List ℕ → ℕ → PixelFormat → EncodeOptions → List ℕ → FieldsCheck → List ℕ → List ℕ → PairsBegun → Type 0
+abbrev pub BeginsImages : ℕ → ℕ → ℕ → List ℕ → ℕ → PixelFormat → EncodeOptions → List ℕ → FieldsCheck → List ℕ → List ℕ → PairsBegun
+    → Type 0
 BeginsImages width height count planes stride format o text found old new b =
     (lengths : List ℕ) → ChecksPairs (o .strict) text lengths found
-    → Left (o .strict) text lengths new b (Emits (fileOfPlanes 16 o format width height count stride planes text lengths) (written (b .answer)) old)
+    → Left (o .strict) text lengths new b
+    (Emits (fileOfPlanes 16 o format width height count stride planes text lengths) (written (b .answer)) old)

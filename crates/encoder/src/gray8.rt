@@ -18,10 +18,17 @@ ghost use Prim.Native.Nat.{_*_, _≤_};
 ghost use lib.ListN.{length};
 ghost use Rattle.error.specs.Answer.{checked, gives, written};
 ghost use Rattle.image.specs.Geometry.{planeBytes};
+ghost use Rattle.image.specs.Parts.{Laid};
 ghost use Rattle.encoder.specs.Make.{checkScans, Makes};
 ghost use Rattle.encoder.specs.Scans.{PutsScans};
 ghost use Rattle.encoder.specs.Begin.{BeginsMade};
 ghost use Rattle.ext_write.specs.Write.{flattened};
+
+// Scans of one size, end to end: their planes' layout, and how many they are.
+struct Scans {
+    layout: PlaneLayout,
+    count: usize,
+}
 
 // Whether so many samples and numbers of work serve for so many scans.
 fn check_scans(
@@ -52,21 +59,17 @@ fn check_scans(
 }
 
 // The planes of scans that passed the test, each in its own stretch of the lent output.
-fn put_scans(
-    width: u32,
-    height: u32,
-    count: usize,
-    gray: &[u8],
-    rule: Quantize,
-    work: &mut [i16],
-    out: &mut [u8],
-)
-    requires { ⌜ (checkScans 16 rule width height count (length (now gray)) (length (now work)) ≡ gives tt) × (count * planeBytes width height ≤ length (now out)) ⌝ }
-    ensures { λ r. ⌜ PutsScans rule width height count (now (gray .entry)) (now (out .entry)) (now (work .entry)) (now (out .exit)) (now (work .exit)) ⌝ }
+fn put_scans(scans: Scans, gray: &[u8], rule: Quantize, work: &mut [i16], out: &mut [u8])
+    requires { ⌜ Laid (scans .layout) ⌝ }
+    requires { ⌜ checkScans 16 rule (scans .layout .width) (scans .layout .height) (scans .count) (length (now gray)) (length (now work)) ≡ gives tt ⌝ }
+    requires { ⌜ scans .count * planeBytes (scans .layout .width) (scans .layout .height) ≤ length (now out) ⌝ }
+    ensures { λ r. ⌜ PutsScans rule (scans .layout .width) (scans .layout .height) (scans .count) (now (gray .entry)) (now (out .entry)) (now (work .entry)) (now (out .exit)) (now (work .exit)) ⌝ }
 {
+    let width = scans.layout.width;
+    let height = scans.layout.height;
+    let plane = scans.layout.total_bytes;
+    let count = scans.count;
     let area = width as usize * height as usize;
-    let layout = PlaneLayout::new(width, height);
-    let plane = layout.total_bytes;
     let mut k: usize = 0;
     while k < count {
         let from = k * area;
@@ -78,9 +81,7 @@ fn put_scans(
 
 // The file of scans that passed the test, up to the pairs of its header.
 fn begin_made(
-    width: u32,
-    height: u32,
-    count: usize,
+    scans: Scans,
     gray: &[u8],
     options: EncodeOptions,
     text: &[u8],
@@ -88,18 +89,22 @@ fn begin_made(
     work: &mut [i16],
     out: &mut [u8],
 ) -> PairsBegun
-    requires { ⌜ checkScans 16 (options .quantize) width height count (length (now gray)) (length (now work)) ≡ gives tt ⌝ }
-    ensures { λ r. ⌜ BeginsMade width height count (now (gray .entry)) options (now (text .entry)) found (now (work .entry)) (now (work .exit)) (now (out .entry)) (now (out .exit)) r ⌝ }
+    requires { ⌜ Laid (scans .layout) ⌝ }
+    requires { ⌜ checkScans 16 (options .quantize) (scans .layout .width) (scans .layout .height) (scans .count) (length (now gray)) (length (now work)) ≡ gives tt ⌝ }
+    ensures { λ r. ⌜ BeginsMade (scans .layout .width) (scans .layout .height) (scans .count) (now (gray .entry)) options (now (text .entry)) found (now (work .entry)) (now (work .exit)) (now (out .entry)) (now (out .exit)) r ⌝ }
 {
     let rule = options.quantize;
-    let layout = PlaneLayout::new(width, height);
-    let body = count * layout.total_bytes;
+    let width = scans.layout.width;
+    let height = scans.layout.height;
+    let plane = scans.layout.total_bytes;
+    let count = scans.count;
+    let body = count * plane;
     let begun = begin_header_before(body, width, height, options, text, found, out);
     let to = begun.to;
     let answer = begun.answer;
     match answer {
         Written::Bytes(start) => {
-            put_scans(width, height, count, gray, rule, work, &mut out[start..]);
+            put_scans(scans, gray, rule, work, &mut out[start..]);
             let end = start + body;
             PairsBegun {
                 to,
@@ -128,18 +133,10 @@ fn begin_gray8(
     ensures { λ r. ⌜ BeginsMade width height count (now (gray .entry)) options (now (text .entry)) found (now (work .entry)) (now (work .exit)) (now (out .entry)) (now (out .exit)) r ⌝ }
 {
     let rule = options.quantize;
+    let layout = PlaneLayout::new(width, height);
+    let scans = Scans { layout, count };
     match check_scans(width, height, count, rule, gray.len(), work.len()) {
-        Checked::Accepted => begin_made(
-            width,
-            height,
-            count,
-            gray,
-            options,
-            text,
-            found,
-            work,
-            out,
-        ),
+        Checked::Accepted => begin_made(scans, gray, options, text, found, work, out),
         Checked::Refused(e) => PairsBegun {
             to: out.len(),
             answer: Written::Refused(e),

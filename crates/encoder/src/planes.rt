@@ -18,9 +18,18 @@ ghost use lib.ListN.{length, drop};
 ghost use Rattle.error.specs.Answer.{gives, checked, written};
 ghost use Rattle.error.specs.Emits.{Emits};
 ghost use Rattle.image.specs.Geometry.{neededBytes, planeBytes};
+ghost use Rattle.image.specs.Parts.{Laid};
 ghost use Rattle.ext_write.specs.Write.{flattened};
 ghost use Rattle.encoder.specs.Begin.{BeginsFile, BeginsImages};
 ghost use Rattle.encoder.specs.Write.{checkPlanes, wirePlanes, fileOfPlanes};
+
+// Planes of one size, stride and format, end to end: their layout in a file, and how many they are.
+struct Planes {
+    layout: PlaneLayout,
+    count: usize,
+    stride: usize,
+    format: PixelFormat,
+}
 
 // The bytes from the start of a plane's first row to the end of its last.
 fn needed_bytes(width: u32, height: u32, stride: usize) -> usize
@@ -54,20 +63,18 @@ fn check_planes(width: u32, height: u32, count: usize, stride: usize, bytes: usi
 }
 
 // Planes that were tested, as a file has them, each in its own stretch of the lent output.
-fn write_planes(
-    width: u32,
-    height: u32,
-    count: usize,
-    planes: &[u8],
-    stride: usize,
-    format: PixelFormat,
-    out: &mut [u8],
-)
-    requires { ⌜ (checkPlanes 16 width height count stride (length (now planes)) ≡ gives tt) × (count * planeBytes width height ≤ length (now out)) ⌝ }
-    ensures { λ r. ⌜ now (out .exit) ≡ wirePlanes format width height stride (now (planes .entry)) count ++ drop (count * planeBytes width height) (now (out .entry)) ⌝ }
+fn write_planes(lent: Planes, planes: &[u8], out: &mut [u8])
+    requires { ⌜ Laid (lent .layout) ⌝ }
+    requires { ⌜ checkPlanes 16 (lent .layout .width) (lent .layout .height) (lent .count) (lent .stride) (length (now planes)) ≡ gives tt ⌝ }
+    requires { ⌜ lent .count * planeBytes (lent .layout .width) (lent .layout .height) ≤ length (now out) ⌝ }
+    ensures { λ r. ⌜ now (out .exit) ≡ wirePlanes (lent .format) (lent .layout .width) (lent .layout .height) (lent .stride) (now (planes .entry)) (lent .count) ++ drop (lent .count * planeBytes (lent .layout .width) (lent .layout .height)) (now (out .entry)) ⌝ }
 {
-    let layout = PlaneLayout::new(width, height);
-    let plane = layout.total_bytes;
+    let width = lent.layout.width;
+    let height = lent.layout.height;
+    let plane = lent.layout.total_bytes;
+    let count = lent.count;
+    let stride = lent.stride;
+    let format = lent.format;
     let needed = needed_bytes(width, height, stride);
     let mut k: usize = 0;
     while k < count {
@@ -88,37 +95,28 @@ fn write_planes(
 
 // A file of planes that were tested, up to the pairs of its header.
 fn begin_file(
-    width: u32,
-    height: u32,
-    count: usize,
+    lent: Planes,
     planes: &[u8],
-    stride: usize,
-    format: PixelFormat,
     options: EncodeOptions,
     text: &[u8],
     found: FieldsCheck,
     out: &mut [u8],
 ) -> PairsBegun
-    requires { ⌜ checkPlanes 16 width height count stride (length (now planes)) ≡ gives tt ⌝ }
-    ensures { λ r. ⌜ BeginsFile width height count (now (planes .entry)) stride format options (now (text .entry)) found (now (out .entry)) (now (out .exit)) r ⌝ }
+    requires { ⌜ Laid (lent .layout) ⌝ }
+    requires { ⌜ checkPlanes 16 (lent .layout .width) (lent .layout .height) (lent .count) (lent .stride) (length (now planes)) ≡ gives tt ⌝ }
+    ensures { λ r. ⌜ BeginsFile (lent .layout .width) (lent .layout .height) (lent .count) (now (planes .entry)) (lent .stride) (lent .format) options (now (text .entry)) found (now (out .entry)) (now (out .exit)) r ⌝ }
 {
-    let layout = PlaneLayout::new(width, height);
-    let plane = layout.total_bytes;
+    let width = lent.layout.width;
+    let height = lent.layout.height;
+    let plane = lent.layout.total_bytes;
+    let count = lent.count;
     let body = count * plane;
     let begun = begin_header_before(body, width, height, options, text, found, out);
     let to = begun.to;
     let answer = begun.answer;
     match answer {
         Written::Bytes(start) => {
-            write_planes(
-                width,
-                height,
-                count,
-                planes,
-                stride,
-                format,
-                &mut out[start..],
-            );
+            write_planes(lent, planes, &mut out[start..]);
             let end = start + body;
             PairsBegun {
                 to,
@@ -147,19 +145,15 @@ fn begin_images(
 ) -> PairsBegun
     ensures { λ r. ⌜ BeginsImages width height count (now (planes .entry)) stride format options (now (text .entry)) found (now (out .entry)) (now (out .exit)) r ⌝ }
 {
+    let layout = PlaneLayout::new(width, height);
+    let lent = Planes {
+        layout,
+        count,
+        stride,
+        format,
+    };
     match check_planes(width, height, count, stride, planes.len()) {
-        Checked::Accepted => begin_file(
-            width,
-            height,
-            count,
-            planes,
-            stride,
-            format,
-            options,
-            text,
-            found,
-            out,
-        ),
+        Checked::Accepted => begin_file(lent, planes, options, text, found, out),
         Checked::Refused(e) => PairsBegun {
             to: out.len(),
             answer: Written::Refused(e),

@@ -22,7 +22,8 @@ clear-below bits k b h =
     let q = b / 2 ^ bits in
     let e : bits ≡ suc (bits - suc k) + k = omega arith in
     let p : clearLow bits b ≡ q * 2 ^ suc (bits - suc k) * 2 ^ k =
-    ap (λ (n : ℕ). q * 2 ^ n) e ∙ ap (λ (n : ℕ). q * n) (pow-add 2 (suc (bits - suc k)) k) ∙ sym (mul-assoc q (2 ^ suc (bits - suc k)) (2 ^ k)) in
+    ap (λ (n : ℕ). q * 2 ^ n) e ∙ ap (λ (n : ℕ). q * n) (pow-add 2 (suc (bits - suc k)) k)
+    ∙ sym (mul-assoc q (2 ^ suc (bits - suc k)) (2 ^ k)) in
     ap (λ (n : ℕ). n / 2 ^ k % 2) p
     ∙ ap (λ (n : ℕ). n % 2) (shl-shr (q * 2 ^ suc (bits - suc k)) k)
     ∙ ap (λ (n : ℕ). q * n % 2) (pow-suc 2 (bits - suc k))

@@ -14,10 +14,10 @@ use Rattle.image.specs.Rows.{clearLow, convertRows, convertFormat}
 use Rattle.image.specs.declared.PixelFormat.{PixelFormat}
 use Rattle.image.specs.declared.PixelFormat.the-variants.{MonoBlack, MonoWhite}
 use Rattle.image.proofs.Bits.{invert-bit, invert-twice}
-use Rattle.image.proofs.Cleared.{paddingAt, bit-kept}
-use Rattle.image.proofs.Converted.{Outside, AllThere, rows-length, rows-outside, rows-inside}
-use Rattle.image.proofs.Fitting.{Fitting, fits, row-there}
-use Rattle.image.proofs.Seen.{same-dot, other-bit, bit-lt}
+use Rattle.image.proofs.PaddingCleared.{paddingAt, bit-kept}
+use Rattle.image.proofs.ConvertedBytes.{Outside, AllThere, rows-length, rows-outside, rows-inside}
+use Rattle.image.proofs.PlaneFits.{PlaneFits, fits, row-there}
+use Rattle.image.proofs.DotsSame.{same-dot, other-bit, bit-lt}
 
 -- every byte of a plane that was converted: those of the rows are `new`, the others as they were
 pub record Converts (w h s : ℕ) (new : ℕ → ℕ → ℕ) (plane plane′ : List ℕ) : Type 0 where
@@ -42,7 +42,8 @@ unfolding convertFormat
 back MonoBlack w h s plane = refl
 back MonoWhite w h s plane = refl
 
-rows-converted : (w h s : ℕ) (plane : List ℕ) → Fitting w h s (length plane) → Converts w h s (inverted w) plane (convertRows w s h 0 plane)
+rows-converted : (w h s : ℕ) (plane : List ℕ) → PlaneFits w h s (length plane)
+    → Converts w h s (inverted w) plane (convertRows w s h 0 plane)
 rows-converted w h s plane f =
     let all : AllThere w s (0 + h) plane = λ z l. row-there w h s (length plane) f z (omega arith) in
     record {
@@ -62,7 +63,8 @@ module _ (f : PixelFormat) (w h s : ℕ) (plane : List ℕ) (passed : checkGeome
       let g = fits w h s (length plane) passed in
       let p = rows-converted w h s plane g in
       let e = p .same in
-      let g′ : Fitting w h s (length (convertRows w s h 0 plane)) = record { wide = g .wide; high = g .high; row = g .row; room = omega (arith, g .room) } in
+      let g′ : PlaneFits w h s (length (convertRows w s h 0 plane)) =
+      record { wide = g .wide; high = g .high; row = g .row; room = omega (arith, g .room) } in
       let q = rows-converted w h s (convertRows w s h 0 plane) g′ in
       rw (other f, back f)
       (record {
@@ -75,7 +77,8 @@ module _ (f : PixelFormat) (w h s : ℕ) (plane : List ℕ) (passed : checkGeome
       })
 
 -- the dots are the same in the other format
-module _ (f : PixelFormat) (w h s : ℕ) (plane : List ℕ) (passed : checkGeometry w h s (length plane) ≡ gives tt) (bytes : Octets plane) (x y : ℕ) where
+module _ (f : PixelFormat) (w h s : ℕ) (plane : List ℕ) (passed : checkGeometry w h s (length plane) ≡ gives tt) (bytes : Octets plane)
+    (x y : ℕ) where
   converted-bit : x < w → y < h → bitAt s (convertFormat f (otherFormat f) w h s plane) x y ≡ 1 - bitAt s plane x y
   unfolding bitAt
   converted-bit k l =

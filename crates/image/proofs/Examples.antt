@@ -11,7 +11,7 @@ use Rattle.image.specs.Geometry.{checkGeometry}
 use Rattle.image.specs.Parts.{clearRows}
 use Rattle.image.specs.Rows.{clearPadding, invert, convertRow, convertRows, convertFormat, wireRow, wireBits}
 use Rattle.image.specs.declared.PixelFormat.the-variants.{MonoBlack, MonoWhite}
-use Rattle.image.proofs.AtOnce.{converts-at-once, wires-at-once}
+use Rattle.image.proofs.PackedAsRows.{converts-at-once, wires-at-once}
 use Rattle.image.proofs.ConvertDots.{Converts, cleared, converted-twice, converted-dots}
 use Rattle.image.proofs.WireDots.{wire-dots, shown-dots, wire-padding}
 

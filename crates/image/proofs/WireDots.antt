@@ -18,11 +18,11 @@ use Rattle.image.specs.Rows.{clearLow, sourceRow, toNative, wireRow, wir
 use Rattle.image.specs.declared.PixelFormat.{PixelFormat}
 use Rattle.image.specs.declared.PixelFormat.the-variants.{MonoBlack, MonoWhite}
 use Rattle.image.proofs.Bits.{invert-bit}
-use Rattle.image.proofs.Cleared.{paddingAt, cleared-at, bit-kept, bit-cleared}
-use Rattle.image.proofs.Fitting.{fits, row-there}
-use Rattle.image.proofs.Inverted.{invert-at}
-use Rattle.image.proofs.Seen.{same-dot, other-bit, bit-lt}
-use Rattle.image.proofs.Wiring.{source-there, source-length, native-length, wire-length}
+use Rattle.image.proofs.PaddingCleared.{paddingAt, cleared-at, bit-kept, bit-cleared}
+use Rattle.image.proofs.PlaneFits.{fits, row-there}
+use Rattle.image.proofs.InvertedBytes.{invert-at}
+use Rattle.image.proofs.DotsSame.{same-dot, other-bit, bit-lt}
+use Rattle.image.proofs.WireRows.{source-there, source-length, native-length, wire-length}
 
 -- a byte of row y
 module _ (f : PixelFormat) (w s : ℕ) (plane : List ℕ) (j : ℕ) (k : j < rowBytes w) where
@@ -46,11 +46,14 @@ module _ (f : PixelFormat) (w s : ℕ) (plane : List ℕ) (j : ℕ) (k : j < row
   wire-at (suc h) y l = by-row h y (ltb y h) refl l (wire-at h)
 
   -- it is that of the plane in the native format, cleared
-  pub wire-byte : (h y : ℕ) → y < h → getD (wireBits f w h s plane) (y * rowBytes w + j) 0 ≡ clearLow (paddingAt w j) (getD (toNative f (sourceRow (rowBytes w) s plane y)) j 0)
+  pub wire-byte : (h y : ℕ) → y < h
+      → getD (wireBits f w h s plane) (y * rowBytes w + j) 0 ≡ clearLow (paddingAt w j)
+      (getD (toNative f (sourceRow (rowBytes w) s plane y)) j 0)
   unfolding wireRow
   wire-byte h y l =
       wire-at h y l
-      ∙ cleared-at w (toNative f (sourceRow (rowBytes w) s plane y)) (native-length f (sourceRow (rowBytes w) s plane y) ∙ source-length (rowBytes w) s plane y) j k
+      ∙ cleared-at w (toNative f (sourceRow (rowBytes w) s plane y))
+      (native-length f (sourceRow (rowBytes w) s plane y) ∙ source-length (rowBytes w) s plane y) j k
 
 -- the padding bits of each row are 0, whatever the plane
 pub wire-padding : (f : PixelFormat) (w h s : ℕ) (plane : List ℕ) (x y : ℕ) → w ≤ x → x < rowBytes w * 8 → y < h
@@ -92,7 +95,8 @@ module _ (w s : ℕ) (plane : List ℕ) (bytes : Octets plane) (x y : ℕ) (k : 
       ∙ invert-bit (7 - x % 8) (getD plane (y * s + x / 8) 0) (omega arith) (bytes (y * s + x / 8))
 
 -- Planes that pass the geometry test.
-module _ (f : PixelFormat) (w h s : ℕ) (plane : List ℕ) (passed : checkGeometry w h s (length plane) ≡ gives tt) (bytes : Octets plane) (x y : ℕ) where
+module _ (f : PixelFormat) (w h s : ℕ) (plane : List ℕ) (passed : checkGeometry w h s (length plane) ≡ gives tt) (bytes : Octets plane)
+    (x y : ℕ) where
   wire-bit : x < w → y < h → bitAt (rowBytes w) (wireBits f w h s plane) x y ≡ nativeBit f (bitAt s plane x y)
   unfolding bitAt
   wire-bit k l =

@@ -1,14 +1,20 @@
 -- What the private functions give.
 use Prim.Native.Nat.{ℕ, zero, suc, _+_, _-_, _*_}
+use mathlib.Core.Path.{_≡_}
 use mathlib.Core.List.{List}
 use lib.Bits.{bitAnd}
 use lib.Dec.{leb}
 use lib.ListN.{length, getD, set}
 use Rattle.error.specs.Choice.{if}
-use Rattle.image.specs.Geometry.{rowBytes, paddingBits}
+use Rattle.image.specs.Geometry.{rowBytes, paddingBits, layoutOf}
 use Rattle.image.specs.Rows.{clearLow}
+use Rattle.image.specs.declared.PlaneLayout.{PlaneLayout}
 use Rattle.image.specs.declared.RowStart.{RowStart}
 use Rattle.image.specs.declared.RowStart.the-variants.{At, Missing}
+
+-- a layout is that of its size
+abbrev pub Laid : PlaneLayout → Type 0
+Laid l = l ≡ layoutOf (l .width) (l .height)
 
 -- where the first bytes of row y start, if they are all among the bytes of a plane
 abbrev pub rowStart : ℕ → ℕ → ℕ → ℕ → RowStart

@@ -16,7 +16,7 @@ ghost use lib.ListN.{length};
 ghost use Rattle.error.specs.Answer.{gives, written};
 ghost use Rattle.error.specs.Emits.{Emits};
 ghost use Rattle.image.specs.Geometry.{rowBytes, planeBytes};
-ghost use Rattle.image.specs.Parts.{maskLast, clearRows};
+ghost use Rattle.image.specs.Parts.{Laid, maskLast, clearRows};
 ghost use Rattle.image.specs.Rows.{convertFormat, convertRows, invert};
 
 fn invert_row(row: &mut [u8], mask: u8)
@@ -27,14 +27,14 @@ fn invert_row(row: &mut [u8], mask: u8)
 }
 
 // Rows from the top, each at its own place, up to the first that is not wholly there.
-fn convert_rows(plane: &mut [u8], width: u32, height: u32, stride: usize)
-    ensures { λ r. ⌜ now (plane .exit) ≡ convertRows width stride height 0 (now (plane .entry)) ⌝ }
+fn convert_rows(plane: &mut [u8], layout: PlaneLayout, stride: usize)
+    requires { ⌜ Laid layout ⌝ }
+    ensures { λ r. ⌜ now (plane .exit) ≡ convertRows (layout .width) stride (layout .height) 0 (now (plane .entry)) ⌝ }
 {
-    let layout = PlaneLayout::new(width, height);
     let row = layout.stride;
     let mask = layout.last_byte_pad_mask;
     let mut y: u32 = 0;
-    while y < height {
+    while y < layout.height {
         match row_start(plane.len(), stride, y as usize, row) {
             RowStart::At(at) => {
                 let end = at + row;
@@ -49,12 +49,13 @@ fn convert_rows(plane: &mut [u8], width: u32, height: u32, stride: usize)
 }
 
 // All rows of a plane without gaps at once.
-fn convert_packed(plane: &mut [u8], width: u32, height: u32)
-    requires { ⌜ length (now plane) ≡ planeBytes width height ⌝ }
-    ensures { λ r. ⌜ now (plane .exit) ≡ clearRows width height (invert (now (plane .entry))) ⌝ }
+fn convert_packed(plane: &mut [u8], layout: PlaneLayout)
+    requires { ⌜ Laid layout ⌝ }
+    requires { ⌜ length (now plane) ≡ planeBytes (layout .width) (layout .height) ⌝ }
+    ensures { λ r. ⌜ now (plane .exit) ≡ clearRows (layout .width) (layout .height) (invert (now (plane .entry))) ⌝ }
 {
     invert(plane);
-    clear_rows(plane, width, height);
+    clear_rows(plane, layout);
 }
 
 // Rows are converted from the top, up to the first that is not wholly there; nothing is changed where the format stays the same.
@@ -75,11 +76,11 @@ pub fn convert_format(
     let total = layout.total_bytes;
     if stride == layout.stride {
         if total <= plane.len() {
-            convert_packed(&mut plane[..total], width, height);
+            convert_packed(&mut plane[..total], layout);
             return;
         }
     }
-    convert_rows(plane, width, height, stride);
+    convert_rows(plane, layout, stride);
 }
 
 // A plane without gaps, written to another place of as many bytes.
@@ -102,11 +103,11 @@ fn convert_from(
     }
     if plane.len() == layout.total_bytes {
         invert_from(plane, out);
-        clear_rows(out, width, height);
+        clear_rows(out, layout);
         return;
     }
     copy(plane, out);
-    convert_rows(out, width, height, row);
+    convert_rows(out, layout, row);
 }
 
 // A plane without gaps in another format, at the front of the lent output; nothing is written where it does not fit.

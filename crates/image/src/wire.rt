@@ -19,7 +19,7 @@ ghost use lib.ListN.{length, drop};
 ghost use Rattle.error.specs.Answer.{gives, written};
 ghost use Rattle.error.specs.Emits.{Emits};
 ghost use Rattle.image.specs.Geometry.{planeBytes};
-ghost use Rattle.image.specs.Parts.{maskLast, clearRows};
+ghost use Rattle.image.specs.Parts.{Laid, maskLast, clearRows};
 ghost use Rattle.image.specs.Rows.{sourceRow, toNative, wireBits};
 
 // Row y of a plane, or zeros where it is not wholly there.
@@ -58,23 +58,16 @@ fn wire_row(plane: &[u8], stride: usize, y: usize, format: PixelFormat, mask: u8
 }
 
 // So many rows of a plane, each from its own place.
-fn wire_rows(
-    plane: &[u8],
-    width: u32,
-    height: u32,
-    stride: usize,
-    format: PixelFormat,
-    out: &mut [u8],
-)
-    requires { ⌜ planeBytes width height ≤ length (now out) ⌝ }
-    ensures { λ r. ⌜ now (out .exit) ≡ wireBits format width height stride (now (plane .entry)) ++ drop (planeBytes width height) (now (out .entry)) ⌝ }
+fn wire_rows(plane: &[u8], layout: PlaneLayout, stride: usize, format: PixelFormat, out: &mut [u8])
+    requires { ⌜ Laid layout ⌝ }
+    requires { ⌜ planeBytes (layout .width) (layout .height) ≤ length (now out) ⌝ }
+    ensures { λ r. ⌜ now (out .exit) ≡ wireBits format (layout .width) (layout .height) stride (now (plane .entry)) ++ drop (planeBytes (layout .width) (layout .height)) (now (out .entry)) ⌝ }
 {
-    let layout = PlaneLayout::new(width, height);
     let row = layout.stride;
     let mask = layout.last_byte_pad_mask;
     let mut at: usize = 0;
     let mut y: u32 = 0;
-    while y < height {
+    while y < layout.height {
         let end = at + row;
         wire_row(plane, stride, y as usize, format, mask, &mut out[at..end]);
         at = end;
@@ -98,12 +91,14 @@ fn native_from(format: PixelFormat, from: &[u8], to: &mut [u8])
 }
 
 // All rows of a plane without gaps at once.
-fn wire_packed(plane: &[u8], width: u32, height: u32, format: PixelFormat, out: &mut [u8])
-    requires { ⌜ (length (now plane) ≡ planeBytes width height) × (length (now out) ≡ planeBytes width height) ⌝ }
-    ensures { λ r. ⌜ now (out .exit) ≡ clearRows width height (toNative format (now (plane .entry))) ⌝ }
+fn wire_packed(plane: &[u8], layout: PlaneLayout, format: PixelFormat, out: &mut [u8])
+    requires { ⌜ Laid layout ⌝ }
+    requires { ⌜ length (now plane) ≡ planeBytes (layout .width) (layout .height) ⌝ }
+    requires { ⌜ length (now out) ≡ planeBytes (layout .width) (layout .height) ⌝ }
+    ensures { λ r. ⌜ now (out .exit) ≡ clearRows (layout .width) (layout .height) (toNative format (now (plane .entry))) ⌝ }
 {
     native_from(format, plane, out);
-    clear_rows(out, width, height);
+    clear_rows(out, layout);
 }
 
 // Rows end to end without gaps, 1 for white and padding 0; nothing is written where they do not fit.
@@ -128,10 +123,10 @@ pub fn wire_bits(
     }
     if stride == row {
         if total <= plane.len() {
-            wire_packed(&plane[..total], width, height, format, &mut out[..total]);
+            wire_packed(&plane[..total], layout, format, &mut out[..total]);
             return Written::Bytes(total);
         }
     }
-    wire_rows(plane, width, height, stride, format, out);
+    wire_rows(plane, layout, stride, format, out);
     Written::Bytes(total)
 }

@@ -15,11 +15,13 @@ map-gives f (gives x) b e = (x, refl, cc)
 map-gives f (refuses code offset) b e = zero-one (cc)
 
 -- behind a test that refuses
-pub unless : {A : Type 0} (t : Bool) (code offset : ℕ) (a : Answer A) (x : A) → if t (refuses code offset) a ≡ gives x → (t ≡ false) × (a ≡ gives x)
+pub unless : {A : Type 0} (t : Bool) (code offset : ℕ) (a : Answer A) (x : A) → if t (refuses code offset) a ≡ gives x
+    → (t ≡ false) × (a ≡ gives x)
 unless true code offset a x e = zero-one (cc)
 unless false code offset a x e = (refl, e)
 
-pub when : {A : Type 0} (t : Bool) (code offset : ℕ) (a : Answer A) (x : A) → if t a (refuses code offset) ≡ gives x → (t ≡ true) × (a ≡ gives x)
+pub when : {A : Type 0} (t : Bool) (code offset : ℕ) (a : Answer A) (x : A) → if t a (refuses code offset) ≡ gives x
+    → (t ≡ true) × (a ≡ gives x)
 when true code offset a x e = (refl, e)
 when false code offset a x e = zero-one (cc)
 

@@ -1,12 +1,12 @@
 -- A writer that checks first keeps what `Emits` promises: its check says how many bytes there are, or refuses.
 use Prim.Native.Nat.{ℕ, _≤_, _<_}
-use mathlib.Core.Path.{_≡_, _∙_, sym, refl}
+use mathlib.Core.Path.{_≡_, _∙_, sym, refl, ap}
 use mathlib.Core.Bool.{Bool, true, false}
 use mathlib.Core.List.{List, _++_}
 use native.Mathlib.Omega.{arith}
 use lib.Dec.{leb}
-use lib.ListN.{length, drop}
-use borrow.Author.Tests.{le-leb, lt-leb}
+use lib.ListN.{length, drop, length-append, length-drop}
+use borrow.Author.Tests.{le-leb, lt-leb, leb-true}
 use Rattle.error.specs.Choice.{if}
 use Rattle.error.specs.Answer.{Answer, gives, refuses, map}
 use Rattle.error.specs.Emits.{Emits}
@@ -27,7 +27,8 @@ emits-bytes (gives bytes) n old new e h put =
     record { answer = e ∙ sym (if-true _ _ _ t); bytes = put bytes refl (omega arith) ∙ sym (if-true _ _ _ t) }
 emits-bytes (refuses code offset) n old new e h put = zero-one (cc)
 
-pub emits-refused : (a : Answer (List ℕ)) (code offset : ℕ) (old : List ℕ) → refuses code offset ≡ map length a → Emits a (refuses code offset) old old
+pub emits-refused : (a : Answer (List ℕ)) (code offset : ℕ) (old : List ℕ) → refuses code offset ≡ map length a
+    → Emits a (refuses code offset) old old
 emits-refused (gives bytes) code offset old e = zero-one (cc)
 emits-refused (refuses code′ offset′) code offset old e = record { answer = cc; bytes = refl }
 
@@ -41,3 +42,14 @@ emitted-is (gives bytes) n old new e = go (leb (length bytes) (length old)) (e .
         → (b : List ℕ) × (gives bytes ≡ gives b) × (n ≡ length b) × (new ≡ b ++ drop (length b) old)
     go true p q = (bytes, refl, (cc), q)
     go false p q = zero-one (cc)
+
+-- a writer leaves as many bytes as it was lent
+pub emits-length : (a : Answer (List ℕ)) (r : Answer ℕ) (old new : List ℕ) → Emits a r old new → length new ≡ length old
+emits-length (gives bytes) r old new e = go (leb (length bytes) (length old)) refl (e .bytes)
+  where
+    go : (t : Bool) → leb (length bytes) (length old) ≡ t → new ≡ if t (bytes ++ drop (length bytes) old) old → length new ≡ length old
+    go true p q =
+        let h = leb-true (length bytes) (length old) p in
+        ap length q ∙ length-append bytes (drop (length bytes) old) ∙ simp length-drop (omega arith)
+    go false p q = ap length q
+emits-length (refuses code offset) r old new e = ap length (e .bytes)

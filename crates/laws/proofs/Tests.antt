@@ -15,6 +15,11 @@ if-true t x y e = ap (λ (b : Bool). if b x y) e
 pub if-false : {A : Type 0} (t : Bool) (x y : A) → t ≡ false → if t x y ≡ y
 if-false t x y e = ap (λ (b : Bool). if b x y) e
 
+-- what holds of both choices, each under its test, holds of the one that is made
+pub if-elim : {A : Type 0} (P : A → Type 0) (t : Bool) (x y : A) → (t ≡ true → P x) → (t ≡ false → P y) → P (if t x y)
+if-elim P true x y p q = p refl
+if-elim P false x y p q = q refl
+
 -- two tests
 pub both-true : (s t : Bool) → (s && t) ≡ true → (s ≡ true) × (t ≡ true)
 both-true true t e = (refl, e)

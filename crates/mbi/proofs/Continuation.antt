@@ -21,7 +21,12 @@ unfolding readRest
 rest-cons strict b τ at v n = go (readByte strict at v n b)
   where
     go : (x : ByteRead)
-        → (elim x as (λ x. Answer (ℕ × ℕ)) [ goes w ↦ readRest strict τ (at + 1) w (n + 1) | ends w ↦ gives (w, at + 1) | wrong code p ↦ refuses code p ])
+        → (elim x as (λ x. Answer (ℕ × ℕ)) [
+          | goes w ↦ readRest strict τ (at + 1) w (n + 1)
+          | ends w ↦ gives
+              (w, at + 1)
+          | wrong code p ↦ refuses code p
+        ])
         ≡ upon x (λ w. readRest strict τ (at + 1) w (n + 1)) (λ w. gives (w, at + 1))
     go (goes w) = refl
     go (ends w) = refl
@@ -51,7 +56,8 @@ integer-in strict s (b ∷ τ) at v n k e =
     ∙ ap (λ (a : Answer (ℕ × ℕ)). bind a (λ r. k (r .0) (r .1) (drop (r .1) s))) (sym (rest-cons strict b τ at v n))
   where
     go : (x : ByteRead)
-        → ((w : ℕ) → integer strict τ (at + 1) w (n + 1) k ≡ bind (readRest strict τ (at + 1) w (n + 1)) (λ r. k (r .0) (r .1) (drop (r .1) s)))
+        → ((w : ℕ) → integer strict τ (at + 1) w (n + 1) k ≡ bind (readRest strict τ (at + 1) w (n + 1))
+        (λ r. k (r .0) (r .1) (drop (r .1) s)))
         → upon x (λ w. integer strict τ (at + 1) w (n + 1) k) (λ w. k w (at + 1) τ)
         ≡ bind (upon x (λ w. readRest strict τ (at + 1) w (n + 1)) (λ w. gives (w, at + 1))) (λ r. k (r .0) (r .1) (drop (r .1) s))
     go (goes w) ih = ih w

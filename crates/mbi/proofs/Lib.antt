@@ -1,9 +1,9 @@
 pub mod Step
 pub mod Groups
 pub mod Length
-pub mod Write
+pub mod WriteLoop
 pub mod Continuation
-pub mod Within
+pub mod IntegerBounds
 pub mod Prefix
 pub mod RoundTrip
 pub mod Strict

@@ -28,7 +28,8 @@ rest-prefix strict (b ∷ τ) ρ at v n h =
   where
     go : (x : ByteRead)
         → Final (upon x (λ w. readRest strict τ (at + 1) w (n + 1)) (λ w. gives (w, at + 1)))
-        → ((w : ℕ) → Final (readRest strict τ (at + 1) w (n + 1)) → readRest strict (τ ++ ρ) (at + 1) w (n + 1) ≡ readRest strict τ (at + 1) w (n + 1))
+        → ((w : ℕ) → Final (readRest strict τ (at + 1) w (n + 1))
+        → readRest strict (τ ++ ρ) (at + 1) w (n + 1) ≡ readRest strict τ (at + 1) w (n + 1))
         → upon x (λ w. readRest strict (τ ++ ρ) (at + 1) w (n + 1)) (λ w. gives (w, at + 1))
         ≡ upon x (λ w. readRest strict τ (at + 1) w (n + 1)) (λ w. gives (w, at + 1))
     go (goes w) k ih = ih w k

@@ -57,7 +57,8 @@ module _ {A : Type 0} (strict : Bool) (next : ℕ → ℕ → List ℕ → Answe
       ap (λ (l : List ℕ). integer strict l at 0 0 next) (bytes-append n τ)
       ∙ left (n / 128) (n / 128) (omega arith) at (n % 128 ∷ τ) (omega arith)
       ∙ integer-ends strict (n % 128) τ (at + count (n / 128)) (n / 128) (count (n / 128)) _ next
-      (ends-by strict (n / 128) (count (n / 128)) (n % 128) (at + count (n / 128)) (λ z o. omega arith) (omega arith) (few n h) (omega arith))
+      (ends-by strict (n / 128) (count (n / 128)) (n % 128) (at + count (n / 128)) (λ z o. omega arith) (omega arith) (few n h)
+      (omega arith))
       ∙ rw (e, f)
 
 -- in a file

@@ -82,8 +82,10 @@ word-is strict at v n b h =
     small code p l = let q : p % 18446744073709551616 ≡ p = omega arith in ap (wrong code) q
 
     go : (t1 t2 t3 t4 : Bool)
-        → inWord (if t1 (wrong 4 at) (if t2 (wrong 2 (at + 1)) (if t3 (wrong 3 (at + 1)) (if t4 (ends (v * 128 + b % 128)) (goes (v * 128 + b % 128))))))
-        ≡ if t1 (wrong 4 at) (if t2 (wrong 2 (at + 1)) (if t3 (wrong 3 (at + 1)) (if t4 (ends (v * 128 + b % 128)) (goes (v * 128 + b % 128)))))
+        → inWord (if t1 (wrong 4 at)
+        (if t2 (wrong 2 (at + 1)) (if t3 (wrong 3 (at + 1)) (if t4 (ends (v * 128 + b % 128)) (goes (v * 128 + b % 128))))))
+        ≡ if t1 (wrong 4 at)
+        (if t2 (wrong 2 (at + 1)) (if t3 (wrong 3 (at + 1)) (if t4 (ends (v * 128 + b % 128)) (goes (v * 128 + b % 128)))))
     go true t2 t3 t4 = small 4 at (omega arith)
     go false true t3 t4 = small 2 (at + 1) (omega arith)
     go false false true t4 = small 3 (at + 1) (omega arith)

@@ -85,7 +85,8 @@ finds (b ∷ τ) at u n o c v e h =
         let l : mbiBytes v ≡ above u (b ∷ []) = ap mbiBytes (sym (z .0)) ∙ ends-bytes at u n b w c p in
         record {
           small = omega (arith, t .0 .small);
-          starts = groups-append u u (b ∷ []) τ ∙ ap (λ (r : List ℕ). r ++ τ) (sym l) ∙ ap (λ (i : ℕ). mbiBytes v ++ drop i (b ∷ τ)) (sym d);
+          starts =
+              groups-append u u (b ∷ []) τ ∙ ap (λ (r : List ℕ). r ++ τ) (sym l) ∙ ap (λ (i : ℕ). mbiBytes v ++ drop i (b ∷ τ)) (sym d);
           after = omega arith;
           place = omega (arith, ap length l, length-above u (b ∷ []));
         }
@@ -124,7 +125,9 @@ module _ (s : List ℕ) (at : ℕ) (o : Octets s) where
           let d : at + (e - at) ≡ e = omega (arith, f .after) in
           record {
             small = omega (arith, f .small);
-            bytes = sym (above-zero 0 (drop at s) refl) ∙ f .starts ∙ ap (λ (l : List ℕ). mbiBytes v ++ l) (drop-drop (e - at) at s ∙ ap (λ (i : ℕ). drop i s) d);
+            bytes =
+                sym (above-zero 0 (drop at s) refl) ∙ f .starts
+                ∙ ap (λ (l : List ℕ). mbiBytes v ++ l) (drop-drop (e - at) at s ∙ ap (λ (i : ℕ). drop i s) d);
             after = omega (arith, f .place, count-zero 0 refl);
           }
 

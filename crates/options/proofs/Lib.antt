@@ -1,4 +1,4 @@
-pub mod Limited
+pub mod LimitTests
 pub mod SettingsSame
 pub mod Ceilings
 pub mod Examples

@@ -57,8 +57,8 @@ checkLimits d width height bytes start =
     (refuses 16 start)
 
 -- what the code's values mean
-abbrev pub bound : Limit → Bound
-bound l = if (ltb 0 (l .set)) (atMost (l .most)) absent
+abbrev pub boundOf : Limit → Bound
+boundOf l = if (ltb 0 (l .set)) (atMost (l .most)) absent
 
 abbrev pub modeOf : DecodeMode → Mode
 modeOf Lenient = lenient
@@ -67,10 +67,10 @@ modeOf Strict = strict
 abbrev pub decoding : DecodeOptions → Decoding
 decoding o =
     record {
-      maxWidth = bound (o .«max_width»);
-      maxHeight = bound (o .«max_height»);
-      maxPixels = bound (o .«max_pixels»);
-      maxBytes = bound (o .«max_bytes»);
+      maxWidth = boundOf (o .«max_width»);
+      maxHeight = boundOf (o .«max_height»);
+      maxPixels = boundOf (o .«max_pixels»);
+      maxBytes = boundOf (o .«max_bytes»);
       mode = modeOf (o .mode);
       format = o .format;
     }

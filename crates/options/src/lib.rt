@@ -10,7 +10,7 @@ use image::PixelFormat;
 ghost use mathlib.Core.Path.{_≡_};
 ghost use mathlib.Core.Bool.{false};
 ghost use Rattle.error.specs.Answer.{checked, refuses};
-ghost use Rattle.options.specs.Limits.{admits, checkLimits, absent, atMost, bound, strictly, modeOf, decoding};
+ghost use Rattle.options.specs.Limits.{admits, checkLimits, absent, atMost, boundOf, strictly, modeOf, decoding};
 ghost use Rattle.options.specs.Settings;
 
 pub mod limits;
@@ -26,19 +26,19 @@ pub struct Limit {
 
 impl Limit {
     pub fn absent() -> Limit
-        ensures { λ r. ⌜ bound r ≡ absent ⌝ }
+        ensures { λ r. ⌜ boundOf r ≡ absent ⌝ }
     {
         Limit { set: 0, most: 0 }
     }
 
     pub fn at_most(most: u64) -> Limit
-        ensures { λ r. ⌜ bound r ≡ atMost most ⌝ }
+        ensures { λ r. ⌜ boundOf r ≡ atMost most ⌝ }
     {
         Limit { set: 1, most }
     }
 
     fn admits(self, n: u64) -> bool
-        ensures { λ r. ⌜ r ≡ admits (bound self) n ⌝ }
+        ensures { λ r. ⌜ r ≡ admits (boundOf self) n ⌝ }
     {
         if 0 < self.set { n <= self.most } else { true }
     }
@@ -90,28 +90,28 @@ impl DecodeOptions {
     }
 
     pub fn with_max_width(mut self, max_width: Limit) -> DecodeOptions
-        ensures { λ r. ⌜ decoding r ≡ Settings.withMaxWidth (bound «max_width») (decoding self) ⌝ }
+        ensures { λ r. ⌜ decoding r ≡ Settings.withMaxWidth (boundOf «max_width») (decoding self) ⌝ }
     {
         self.max_width = max_width;
         self
     }
 
     pub fn with_max_height(mut self, max_height: Limit) -> DecodeOptions
-        ensures { λ r. ⌜ decoding r ≡ Settings.withMaxHeight (bound «max_height») (decoding self) ⌝ }
+        ensures { λ r. ⌜ decoding r ≡ Settings.withMaxHeight (boundOf «max_height») (decoding self) ⌝ }
     {
         self.max_height = max_height;
         self
     }
 
     pub fn with_max_pixels(mut self, max_pixels: Limit) -> DecodeOptions
-        ensures { λ r. ⌜ decoding r ≡ Settings.withMaxPixels (bound «max_pixels») (decoding self) ⌝ }
+        ensures { λ r. ⌜ decoding r ≡ Settings.withMaxPixels (boundOf «max_pixels») (decoding self) ⌝ }
     {
         self.max_pixels = max_pixels;
         self
     }
 
     pub fn with_max_bytes(mut self, max_bytes: Limit) -> DecodeOptions
-        ensures { λ r. ⌜ decoding r ≡ Settings.withMaxBytes (bound «max_bytes») (decoding self) ⌝ }
+        ensures { λ r. ⌜ decoding r ≡ Settings.withMaxBytes (boundOf «max_bytes») (decoding self) ⌝ }
     {
         self.max_bytes = max_bytes;
         self

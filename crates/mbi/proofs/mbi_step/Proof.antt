@@ -50,7 +50,16 @@ returns-2 c = record { does = simp (c .before .wrapping-add-usize .ensures, free
 
 returns-3 : tie.Need-returns-3
 unfolding readByte
-returns-3 c = record { does = simp (c .before .before .wrapping-add-usize .ensures, free (c .before .before .before), le-ltb _ _ (c .before .if2 .left), eighth _ (c .if3 .taken)) }
+returns-3 c =
+    record {
+      does = simp (
+        c .before .before .wrapping-add-usize .ensures,
+        free (c .before .before .before),
+        le-ltb _ _ (c .before .if2 .left),
+        eighth _
+            (c .if3 .taken),
+      );
+    }
 
 cast-t17 : tie.Need-cast-t17
 cast-t17 c = search needs
@@ -59,7 +68,10 @@ returns-4 : tie.Need-returns-4
 unfolding readByte
 returns-4 c =
     let d = c .before in
-    record { does = simp (free (d .before .before .before), le-ltb _ _ (d .before .if2 .left), within _ (d .if3 .left), lt-ltb _ _ (c .if4 .taken)) }
+    record {
+      does = simp
+          (free (d .before .before .before), le-ltb _ _ (d .before .if2 .left), within _ (d .if3 .left), lt-ltb _ _ (c .if4 .taken));
+    }
 
 cast-t18 : tie.Need-cast-t18
 cast-t18 c = search needs
@@ -68,7 +80,10 @@ returns-5 : tie.Need-returns-5
 unfolding readByte
 returns-5 c =
     let d = c .before in
-    record { does = simp (free (d .before .before .before), le-ltb _ _ (d .before .if2 .left), within _ (d .if3 .left), le-ltb _ _ (c .if4 .left)) }
+    record {
+      does = simp
+          (free (d .before .before .before), le-ltb _ _ (d .before .if2 .left), within _ (d .if3 .left), le-ltb _ _ (c .if4 .left));
+    }
 
 pub mbi-step-spec : {M : Type 1} → statement M
 mbi-step-spec =

@@ -32,12 +32,14 @@ turned : (c : tie.After-mbi-step Inv-loop μ-loop) (x : MbiStep) → c .mbi-step
     → let a = c .before .before .before .before .before .args in
     let l = c .before .before .before .loop in
     readMbi (a .strict) (now (a .bytes)) (a .offset)
-    ≡ upon (stepMeaning x) (λ w. readRest (a .strict) (drop (l .at + 1) (now (a .bytes))) (l .at + 1) w (l .count + 1)) (λ w. gives (w, l .at + 1))
+    ≡ upon (stepMeaning x) (λ w. readRest (a .strict) (drop (l .at + 1) (now (a .bytes))) (l .at + 1) w (l .count + 1))
+    (λ w. gives (w, l .at + 1))
 turned c x e =
     let a = c .before .before .before .before .before .args in
     let l = c .before .before .before .loop in
     l .inv ∙ rest-at (a .strict) (now (a .bytes)) (l .at) (l .value) (l .count) (c .before .before .loop-test .taken)
-    ∙ ap (λ (y : ByteRead). upon y (λ w. readRest (a .strict) (drop (l .at + 1) (now (a .bytes))) (l .at + 1) w (l .count + 1)) (λ w. gives (w, l .at + 1))) (did c x e)
+    ∙ ap (λ (y : ByteRead). upon y (λ w. readRest (a .strict) (drop (l .at + 1) (now (a .bytes))) (l .at + 1) w (l .count + 1))
+    (λ w. gives (w, l .at + 1))) (did c x e)
 
 -- an integer that goes on has had fewer than seven bytes
 below : (c : tie.After-known-told Inv-loop μ-loop) → c .before .before .before .before .before .before .loop .count < 7

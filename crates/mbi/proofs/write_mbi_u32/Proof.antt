@@ -6,7 +6,7 @@ use lib.ListN.{length-set}
 use Rattle.laws.proofs.Writers.{emits-none, emits-all}
 use Rattle.mbi.specs.Bytes.{mbiBytes}
 use Rattle.mbi.proofs.Length.{bytes-one}
-use Rattle.mbi.proofs.Write.{Filling, room, filled, done, begun, begun-bytes}
+use Rattle.mbi.proofs.WriteLoop.{Filling, room, filled, done, begun, begun-bytes}
 use Rattle.mbi.proofs.write_mbi_u32.Statement.{statement}
 use Rattle.mbi.proofs.write_mbi_u32.Tie as tie
 

@@ -2,7 +2,7 @@ use mathlib.Core.Path.{_∙_, sym, ap}
 use borrow.Author.Needs.{needs}
 use denote.Ref.{now}
 use Rattle.error.specs.Answer.{gives}
-use Rattle.api.proofs.Told.{info-on}
+use Rattle.api.proofs.HeaderTold.{info-on}
 use Rattle.api.proofs.facts.info.Statement.{statement}
 use Rattle.api.proofs.facts.info.Tie as tie
 

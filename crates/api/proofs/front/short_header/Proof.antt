@@ -1,7 +1,7 @@
 use mathlib.Core.Path.{subst}
 use denote.Ref.{now}
 use Rattle.api.specs.Parts.{Reads}
-use Rattle.api.proofs.Fronted.{front-on}
+use Rattle.api.proofs.ShortHeaders.{front-on}
 use borrow.Author.Needs.{needs}
 use Rattle.api.proofs.front.short_header.Statement.{statement}
 use Rattle.api.proofs.front.short_header.Tie as tie
@@ -41,7 +41,8 @@ returns-4 c =
     let y = z .before .before in
     let x = y .before .before in
     let s = now (x .before .before .args .bytes) in
-    front-on s (x .if1 .left) (y .if2 .left) (z .if3 .left) (c .short-height .result) _ _ (subst (Reads s 2) (v .value .given .1) (k .short-integer .ensures)) (c .short-height .ensures)
+    front-on s (x .if1 .left) (y .if2 .left) (z .if3 .left) (c .short-height .result) _ _
+    (subst (Reads s 2) (v .value .given .1) (k .short-integer .ensures)) (c .short-height .ensures)
 
 returns-5 : tie.Need-returns-5
 returns-5 c = search needs

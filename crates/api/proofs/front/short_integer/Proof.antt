@@ -4,7 +4,7 @@ use native.Mathlib.Omega.{arith}
 use denote.Ref.{now}
 use lib.Arith.{lt-of-le-ne}
 use lib.ListN.{getD}
-use Rattle.api.proofs.Fronted.{read-one, read-two}
+use Rattle.api.proofs.ShortHeaders.{read-one, read-two}
 use borrow.Author.Needs.{needs}
 use Rattle.api.proofs.front.short_integer.Statement.{statement}
 use Rattle.api.proofs.front.short_integer.Tie as tie
@@ -59,7 +59,8 @@ returns-6 c =
     let k = c .before in
     let a = start k .args in
     let e = k .before .before .before in
-    read-two (now (a .bytes)) (a .at) (k .before .if4 .left) (lt-of-le-ne (e .if2 .left) (λ d. k .before .before .if3 .left (sym d))) (byte k) (c .if5 .left)
+    read-two (now (a .bytes)) (a .at) (k .before .if4 .left) (lt-of-le-ne (e .if2 .left) (λ d. k .before .before .if3 .left (sym d)))
+    (byte k) (c .if5 .left)
 
 pub short-integer-spec : {M : Type 1} → statement M
 short-integer-spec =

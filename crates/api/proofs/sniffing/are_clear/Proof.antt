@@ -7,7 +7,7 @@ use borrow.Author.Tests.{not-true, not-false}
 use denote.Ref.{now}
 use lib.ListN.{length}
 use Rattle.api.specs.Sniff.{isClear, areClear}
-use Rattle.api.proofs.Cleared.{last-in, none, all, one-more, four, found}
+use Rattle.api.proofs.RowsClear.{last-in, none, all, one-more, four, found}
 use Rattle.api.proofs.sniffing.are_clear.Statement.{statement}
 use Rattle.api.proofs.sniffing.are_clear.Tie as tie
 
@@ -39,7 +39,8 @@ in-body : (c : tie.In-loop Inv-loop μ-loop Inv-loop2 μ-loop2) (z : ℕ)
     z < rows-of (start c) → z * a .row + (a .row - 1) < length (now (a .body))
 in-body c z h =
     let s = start c in
-    last-in (rows-of s) (s .args .row) (length (now (s .args .body))) z (s .pre .some) (div-mul-le-self (length (now (s .args .body))) (s .args .row)) h
+    last-in (rows-of s) (s .args .row) (length (now (s .args .body))) z (s .pre .some)
+    (div-mul-le-self (length (now (s .args .body))) (s .args .row)) h
 
 -- so a row's number fits
 bound : (c : tie.In-loop Inv-loop μ-loop Inv-loop2 μ-loop2) → rows-of (start c) < 2 ^ 64
@@ -68,37 +69,71 @@ is-clear-requires : tie.Need-is-clear-requires Inv-loop μ-loop Inv-loop2 μ-loo
 is-clear-requires c κs = (start c .pre, in-body c (c .before .loop .y) (omega (arith, c .loop-test .taken)))
 
 returns-2 : tie.Need-returns-2 Inv-loop μ-loop Inv-loop2 μ-loop2
-returns-2 c = missed (c .before .before) (c .before .before .before .loop .y) (omega (arith, c .before .before .loop-test .taken)) (sym (c .before .is-clear .ensures) ∙ not-true _ (c .if2 .taken))
+returns-2 c =
+    missed (c .before .before) (c .before .before .before .loop .y) (omega (arith, c .before .before .loop-test .taken))
+    (sym (c .before .is-clear .ensures) ∙ not-true _ (c .if2 .taken))
 
 add-is-clear : tie.Need-add-is-clear Inv-loop μ-loop Inv-loop2 μ-loop2
 add-is-clear c = omega (arith, bound (c .before .before), (c .before .before) .loop-test .taken)
 
 is-clear-requires-2 : tie.Need-is-clear-requires-2 Inv-loop μ-loop Inv-loop2 μ-loop2
-is-clear-requires-2 c κs = (start (c .before .before) .pre, in-body (c .before .before) (c .before .before .before .loop .y + 1) (omega (arith, c .before .before .loop-test .taken)))
+is-clear-requires-2 c κs = (
+  start (c .before .before) .pre,
+  in-body (c .before .before) (c .before .before .before .loop .y + 1)
+      (omega (arith, c .before .before .loop-test .taken)),
+)
 
 returns-3 : tie.Need-returns-3 Inv-loop μ-loop Inv-loop2 μ-loop2
-returns-3 c = missed (c .before .before .before .before) (c .before .before .before .before .before .loop .y + 1) (omega (arith, c .before .before .before .before .loop-test .taken)) (sym (c .before .is-clear2 .ensures) ∙ not-true _ (c .if3 .taken))
+returns-3 c =
+    missed (c .before .before .before .before) (c .before .before .before .before .before .loop .y + 1)
+    (omega (arith, c .before .before .before .before .loop-test .taken)) (sym (c .before .is-clear2 .ensures) ∙ not-true _ (c .if3 .taken))
 
 add-is-clear-2 : tie.Need-add-is-clear-2 Inv-loop μ-loop Inv-loop2 μ-loop2
 add-is-clear-2 c = omega (arith, bound (c .before .before .before .before), (c .before .before .before .before) .loop-test .taken)
 
 is-clear-requires-3 : tie.Need-is-clear-requires-3 Inv-loop μ-loop Inv-loop2 μ-loop2
-is-clear-requires-3 c κs = (start (c .before .before .before .before) .pre, in-body (c .before .before .before .before) (c .before .before .before .before .before .loop .y + 2) (omega (arith, c .before .before .before .before .loop-test .taken)))
+is-clear-requires-3 c κs = (
+  start (c .before .before .before .before) .pre,
+  in-body (c .before .before .before .before)
+      (c .before .before .before .before .before .loop .y + 2) (omega (arith, c .before .before .before .before .loop-test .taken)),
+)
 
 returns-4 : tie.Need-returns-4 Inv-loop μ-loop Inv-loop2 μ-loop2
-returns-4 c = missed (c .before .before .before .before .before .before) (c .before .before .before .before .before .before .before .loop .y + 2) (omega (arith, c .before .before .before .before .before .before .loop-test .taken)) (sym (c .before .is-clear3 .ensures) ∙ not-true _ (c .if4 .taken))
+returns-4 c =
+    missed (c .before .before .before .before .before .before) (c .before .before .before .before .before .before .before .loop .y + 2)
+    (omega (arith, c .before .before .before .before .before .before .loop-test .taken))
+    (sym (c .before .is-clear3 .ensures) ∙ not-true _ (c .if4 .taken))
 
 add-is-clear-3 : tie.Need-add-is-clear-3 Inv-loop μ-loop Inv-loop2 μ-loop2
-add-is-clear-3 c = omega (arith, bound (c .before .before .before .before .before .before), (c .before .before .before .before .before .before) .loop-test .taken)
+add-is-clear-3 c =
+    omega (
+      arith,
+      bound (c .before .before .before .before .before .before),
+      (c .before .before .before .before .before .before) .loop-test .taken,
+    )
 
 is-clear-requires-4 : tie.Need-is-clear-requires-4 Inv-loop μ-loop Inv-loop2 μ-loop2
-is-clear-requires-4 c κs = (start (c .before .before .before .before .before .before) .pre, in-body (c .before .before .before .before .before .before) (c .before .before .before .before .before .before .before .loop .y + 3) (omega (arith, c .before .before .before .before .before .before .loop-test .taken)))
+is-clear-requires-4 c κs = (
+  start (c .before .before .before .before .before .before) .pre,
+  in-body (c .before .before .before .before .before .before)
+      (c .before .before .before .before .before .before .before .loop .y + 3)
+      (omega (arith, c .before .before .before .before .before .before .loop-test .taken)),
+)
 
 returns-5 : tie.Need-returns-5 Inv-loop μ-loop Inv-loop2 μ-loop2
-returns-5 c = missed (c .before .before .before .before .before .before .before .before) (c .before .before .before .before .before .before .before .before .before .loop .y + 3) (omega (arith, c .before .before .before .before .before .before .before .before .loop-test .taken)) (sym (c .before .is-clear4 .ensures) ∙ not-true _ (c .if5 .taken))
+returns-5 c =
+    missed (c .before .before .before .before .before .before .before .before)
+    (c .before .before .before .before .before .before .before .before .before .loop .y + 3)
+    (omega (arith, c .before .before .before .before .before .before .before .before .loop-test .taken))
+    (sym (c .before .is-clear4 .ensures) ∙ not-true _ (c .if5 .taken))
 
 add-y : tie.Need-add-y Inv-loop μ-loop Inv-loop2 μ-loop2
-add-y c = omega (arith, bound (c .before .before .before .before .before .before .before .before), (c .before .before .before .before .before .before .before .before) .loop-test .taken)
+add-y c =
+    omega (
+      arith,
+      bound (c .before .before .before .before .before .before .before .before),
+      (c .before .before .before .before .before .before .before .before) .loop-test .taken,
+    )
 
 loop-less : tie.Need-loop-less Inv-loop μ-loop Inv-loop2 μ-loop2
 loop-less c = omega (arith, (c .before .before .before .before .before .before .before .before) .loop-test .taken)
@@ -112,7 +147,8 @@ loop-again c =
     let y = l .loop .y in (
       omega (arith, (c .before .before .before .before .before .before .before .before) .loop-test .taken),
       four w b y (l .loop .inv .1)
-          (sym (c .before .before .before .before .before .before .before .is-clear .ensures) ∙ not-false _ (c .before .before .before .before .before .before .if2 .left))
+          (sym (c .before .before .before .before .before .before .before .is-clear .ensures)
+          ∙ not-false _ (c .before .before .before .before .before .before .if2 .left))
           (sym (c .before .before .before .before .before .is-clear2 .ensures) ∙ not-false _ (c .before .before .before .before .if3 .left))
           (sym (c .before .before .before .is-clear3 .ensures) ∙ not-false _ (c .before .before .if4 .left))
           (sym (c .before .is-clear4 .ensures) ∙ not-false _ (c .if5 .left)),
@@ -124,17 +160,23 @@ loop2-holds c = c .before .loop .inv
 is-clear-requires-5 : tie.Need-is-clear-requires-5 Inv-loop μ-loop Inv-loop2 μ-loop2
 is-clear-requires-5 c κs =
     let s = start2 c in
-    let p = s .pre in
-    (p, last-in (rows-of s) (s .args .row) (length (now (s .args .body))) (c .before .loop2 .y) (p .some) (div-mul-le-self (length (now (s .args .body))) (s .args .row)) (c .loop2-test .taken))
+    let p = s .pre in (
+      p,
+      last-in (rows-of s) (s .args .row) (length (now (s .args .body))) (c .before .loop2 .y) (p .some)
+          (div-mul-le-self (length (now (s .args .body))) (s .args .row)) (c .loop2-test .taken),
+    )
 
 returns-6 : tie.Need-returns-6 Inv-loop μ-loop Inv-loop2 μ-loop2
 returns-6 c =
     let i = c .before .before in
     let a = start2 i .args in
-    found (a .width) (now (a .body)) (i .before .loop2 .y) (rows-of (start2 i)) (sym (c .before .is-clear5 .ensures) ∙ not-true _ (c .if6 .taken)) (i .loop2-test .taken)
+    found (a .width) (now (a .body)) (i .before .loop2 .y) (rows-of (start2 i))
+    (sym (c .before .is-clear5 .ensures) ∙ not-true _ (c .if6 .taken)) (i .loop2-test .taken)
 
 add-y-2 : tie.Need-add-y-2 Inv-loop μ-loop Inv-loop2 μ-loop2
-add-y-2 c = let i = c .before .before in omega (arith, div-le-self (length (now (start2 i .args .body))) (start2 i .args .row), start2 i .good, i .loop2-test .taken)
+add-y-2 c =
+    let i = c .before .before in
+    omega (arith, div-le-self (length (now (start2 i .args .body))) (start2 i .args .row), start2 i .good, i .loop2-test .taken)
 
 loop2-less : tie.Need-loop2-less Inv-loop μ-loop Inv-loop2 μ-loop2
 loop2-less c = omega (arith, c .before .before .loop2-test .taken)
@@ -143,8 +185,11 @@ loop2-again : tie.Need-loop2-again Inv-loop μ-loop Inv-loop2 μ-loop2
 loop2-again c =
     let i = c .before .before in
     let a = start2 i .args in
-    let l = i .before in
-    (omega (arith, i .loop2-test .taken), one-more (a .width) (now (a .body)) (l .loop2 .y) (l .loop2 .inv .1) (sym (c .before .is-clear5 .ensures) ∙ not-false _ (c .if6 .left)))
+    let l = i .before in (
+      omega (arith, i .loop2-test .taken),
+      one-more (a .width) (now (a .body)) (l .loop2 .y) (l .loop2 .inv .1)
+          (sym (c .before .is-clear5 .ensures) ∙ not-false _ (c .if6 .left)),
+    )
 
 returns-7 : tie.Need-returns-7 Inv-loop μ-loop Inv-loop2 μ-loop2
 returns-7 c =

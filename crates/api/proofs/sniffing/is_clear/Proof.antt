@@ -1,7 +1,7 @@
 use Prim.Native.Nat.{_+_, _-_, _*_}
 use native.Mathlib.Omega.{arith}
 use denote.Ref.{now}
-use Rattle.api.proofs.Cleared.{tested}
+use Rattle.api.proofs.RowsClear.{tested}
 use borrow.Author.Needs.{needs}
 use Rattle.api.proofs.sniffing.is_clear.Statement.{statement}
 use Rattle.api.proofs.sniffing.is_clear.Tie as tie
@@ -22,7 +22,8 @@ returns : tie.Need-returns
 returns c =
     let s = c .before in
     let a = s .args in
-    tested (a .width) (now (a .body)) (a .row) (a .mask) (a .y) (s .pre .0 .rowIs) (s .pre .0 .maskIs) (omega (arith, c .shared-slice-known .given (a .y * a .row + (a .row - 1))))
+    tested (a .width) (now (a .body)) (a .row) (a .mask) (a .y) (s .pre .0 .rowIs) (s .pre .0 .maskIs)
+    (omega (arith, c .shared-slice-known .given (a .y * a .row + (a .row - 1))))
 
 pub is-clear-spec : {M : Type 1} → statement M
 is-clear-spec = tie.close (tie.spec mul-last sub-last add-last shared-slice-read-last returns)

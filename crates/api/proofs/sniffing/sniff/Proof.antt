@@ -19,7 +19,8 @@ sniff-sizes-requires : tie.Need-sniff-sizes-requires
 sniff-sizes-requires c κs =
     let h = c .before in
     let k = h .before .before in
-    let s = outline-shape (inner true) (now (k .before .before .args .bytes)) _ (subst (Fronts (now (k .before .before .args .bytes))) (h .width .given .1) (k .short-header .ensures)) in
+    let s = outline-shape (inner true) (now (k .before .before .args .bytes)) _
+    (subst (Fronts (now (k .before .before .args .bytes))) (h .width .given .1) (k .short-header .ensures)) in
     record { wide = s .0; high = s .1; within = s .2 }
 
 enum-told : tie.Need-enum-told

@@ -6,7 +6,7 @@ use Rattle.header.specs.Read.{parsed, meaning}
 use Rattle.header.specs.declared.HeaderRead.{HeaderRead}
 use Rattle.decoder.proofs.Shaped.{outline-shape}
 use Rattle.api.specs.Sniff.{sniffHeader, sniffed}
-use Rattle.api.proofs.Told.{sniff-on}
+use Rattle.api.proofs.HeaderTold.{sniff-on}
 use borrow.Author.Needs.{needs}
 use Rattle.api.proofs.sniffing.sniff_any.Statement.{statement}
 use Rattle.api.proofs.sniffing.sniff_any.Tie as tie
@@ -25,7 +25,8 @@ sniff-sizes-requires : tie.Need-sniff-sizes-requires
 sniff-sizes-requires c κs =
     let h = c .before in
     let k = h .before .before in
-    let s = outline-shape (inner true) (now (k .before .before .args .bytes)) (parsed (h .h .given .0 .0)) (sym (k .parse-header-inner .ensures) ∙ ap meaning (h .h .given .1)) in
+    let s = outline-shape (inner true) (now (k .before .before .args .bytes)) (parsed (h .h .given .0 .0))
+    (sym (k .parse-header-inner .ensures) ∙ ap meaning (h .h .given .1)) in
     record { wide = s .0; high = s .1; within = s .2 }
 
 enum-told : tie.Need-enum-told

@@ -3,7 +3,8 @@ use native.Mathlib.Omega.{arith}
 use borrow.Author.Needs.{needs}
 use borrow.Author.Tests.{not-true, not-false}
 use denote.Ref.{now}
-use Rattle.api.proofs.Looked.{row-is, mask-is, row-some, plane-some, no-row, dirty, clean}
+use Rattle.image.proofs.PlaneSizes.{stride-is, mask-is, total-some}
+use Rattle.api.proofs.BodySniffed.{no-row, dirty, clean}
 use Rattle.api.proofs.sniffing.sniff_body.Statement.{statement}
 use Rattle.api.proofs.sniffing.sniff_body.Tie as tie
 
@@ -20,11 +21,10 @@ are-clear-requires : tie.Need-are-clear-requires
 are-clear-requires c κs =
     let n = c .before in
     let s = n .before .before in
-    let a = s .args in
     record {
-      some = row-some (a .width) (a .height) (now (a .body)) (n .new .result) (n .new .ensures) (s .pre .0);
-      rowIs = row-is (a .width) (a .height) (now (a .body)) (n .new .result) (n .new .ensures);
-      maskIs = mask-is (a .width) (a .height) (now (a .body)) (n .new .result) (n .new .ensures);
+      some = omega (arith, stride-is (n .new .ensures), s .pre .0);
+      rowIs = stride-is (n .new .ensures);
+      maskIs = mask-is (n .new .ensures);
     }
 
 returns-2 : tie.Need-returns-2
@@ -40,7 +40,7 @@ sniff-length-requires : tie.Need-sniff-length-requires
 sniff-length-requires c κs =
     let n = c .before .before .before in
     let s = n .before .before in
-    plane-some (s .args .width) (s .args .height) (now (s .args .body)) (n .new .result) (n .new .ensures) (s .pre .0) (s .pre .1)
+    total-some (n .new .ensures) (s .pre .0) (s .pre .1)
 
 returns-3 : tie.Need-returns-3
 returns-3 c =

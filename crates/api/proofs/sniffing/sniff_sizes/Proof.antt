@@ -35,7 +35,8 @@ returns-3 c =
     let a = s .args in
     let b = now (a .bytes) in
     c .sniff-body .ensures
-    ∙ ap (sniffBody (a .width) (a .height)) (take-all (length b - a .start) (drop (a .start) b) (rw (length-drop (a .start) b) (omega arith)))
+    ∙ ap (sniffBody (a .width) (a .height))
+    (take-all (length b - a .start) (drop (a .start) b) (rw (length-drop (a .start) b) (omega arith)))
     ∙ sym (simp (le-leb _ _ (e .before .if1 .left), le-leb _ _ (e .if2 .left)))
 
 pub sniff-sizes-spec : {M : Type 1} → statement M

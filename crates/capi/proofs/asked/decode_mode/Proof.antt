@@ -1,5 +1,5 @@
 use borrow.Author.Tests.{eq-eqb}
-use Rattle.capi.proofs.Known.{strict-known}
+use Rattle.capi.proofs.SettingsKnown.{strict-known}
 use Rattle.capi.proofs.asked.decode_mode.Statement.{statement}
 use Rattle.capi.proofs.asked.decode_mode.Tie as tie
 

@@ -1,5 +1,5 @@
 use borrow.Author.Tests.{eq-eqb}
-use Rattle.capi.proofs.Known.{white}
+use Rattle.capi.proofs.SettingsKnown.{white}
 use Rattle.capi.proofs.asked.pixel_format.Statement.{statement}
 use Rattle.capi.proofs.asked.pixel_format.Tie as tie
 

@@ -3,8 +3,8 @@ use native.Mathlib.Omega.{arith}
 use denote.Ref.{now}
 use Rattle.api.specs.Info.{meaning, readInfo}
 use Rattle.api.specs.declared.InfoRead.{InfoRead}
-use Rattle.capi.proofs.Places.{Numbered, info-numbered}
-use Rattle.capi.proofs.Told.{informs, refuses-info}
+use Rattle.capi.proofs.RefusalPlaces.{Numbered, info-numbered}
+use Rattle.capi.proofs.LentNumbers.{informs, refuses-info}
 use borrow.Author.Needs.{needs}
 use Rattle.capi.proofs.calls.wbmp_info.Statement.{statement}
 use Rattle.capi.proofs.calls.wbmp_info.Tie as tie

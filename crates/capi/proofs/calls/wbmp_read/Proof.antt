@@ -7,14 +7,14 @@ use Rattle.decoder.specs.Frames.{Decodes}
 use Rattle.decoder.specs.Frames as frames
 use Rattle.decoder.specs.declared.Decoded.{Decoded}
 use Rattle.capi.specs.Asked.{meaning, settingsOf}
-use Rattle.capi.specs.declared.asked.Settings.{Settings}
-use Rattle.capi.proofs.Places.{Numbered, read-numbered}
-use Rattle.capi.proofs.Told.{reads, refuses-read, refuses-settings}
+use Rattle.capi.specs.declared.asked.DecodeSettings.{DecodeSettings}
+use Rattle.capi.proofs.RefusalPlaces.{Numbered, read-numbered}
+use Rattle.capi.proofs.LentNumbers.{reads, refuses-read, refuses-settings}
 use borrow.Author.Needs.{needs}
 use Rattle.capi.proofs.calls.wbmp_read.Statement.{statement}
 use Rattle.capi.proofs.calls.wbmp_read.Tie as tie
 
-settings-read : (c : tie.After-asked) (x : Settings) → c .asked .result ≡ x
+settings-read : (c : tie.After-asked) (x : DecodeSettings) → c .asked .result ≡ x
     → let a = c .before .before .before .args in
     meaning x ≡ settingsOf (a .format) (a .strict) (a .max-width) (a .max-height) (a .max-pixels) (a .max-bytes)
 settings-read c x e = sym (ap meaning e) ∙ c .asked .ensures
@@ -22,11 +22,13 @@ settings-read c x e = sym (ap meaning e) ∙ c .asked .ensures
 decodes : (c : tie.After-decode-frames) (x : Decoded) → c .decode-frames .result ≡ x
     → let k = c .before .before .before in
     let a = k .before .before .before .before .before .args in
-    Decodes (ceilingOf (decoding (k .options .given .0 .0))) (decoding (k .options .given .0 .0)) (now (a .bytes)) (frames.meaning x) (now (a .out)) (c .decode-frames .last .1 .1 .0)
+    Decodes (ceilingOf (decoding (k .options .given .0 .0))) (decoding (k .options .given .0 .0)) (now (a .bytes)) (frames.meaning x)
+    (now (a .out)) (c .decode-frames .last .1 .1 .0)
 decodes c x e =
     let k = c .before .before .before in
     let a = k .before .before .before .before .before .args in
-    subst (λ (y : Decoded). Decodes (ceilingOf (decoding (k .options .given .0 .0))) (decoding (k .options .given .0 .0)) (now (a .bytes)) (frames.meaning y) (now (a .out)) (c .decode-frames .last .1 .1 .0)) e
+    subst (λ (y : Decoded). Decodes (ceilingOf (decoding (k .options .given .0 .0))) (decoding (k .options .given .0 .0)) (now (a .bytes))
+    (frames.meaning y) (now (a .out)) (c .decode-frames .last .1 .1 .0)) e
     (c .decode-frames .ensures)
 
 asked-requires : tie.Need-asked-requires
@@ -50,7 +52,8 @@ pack-requires c κs =
     let d = h .before .before .before .before in
     let o = d .before .before .before in
     let a = o .before .before .before .before .before .args in
-    let t = subst Numbered (sym (decodes d _ (h .e .given .1) .answer)) (read-numbered _ (decoding (o .options .given .0 .0)) (now (a .bytes)) (length (now (a .out)))) in
+    let t = subst Numbered (sym (decodes d _ (h .e .given .1) .answer))
+    (read-numbered _ (decoding (o .options .given .0 .0)) (now (a .bytes)) (length (now (a .out)))) in
     omega (arith, t .near)
 
 enum-told : tie.Need-enum-told
@@ -69,7 +72,8 @@ returns c =
     let o = d .before .before .before in
     let k = o .before .before in
     let a = k .before .before .before .args in
-    reads _ (now (a .bytes)) (now (a .out)) _ _ _ _ (decoding (o .options .given .0 .0)) _ (h .read .given .0 .0) (settings-read k _ (o .options .given .1)) (decodes d _ (h .read .given .1))
+    reads _ (now (a .bytes)) (now (a .out)) _ _ _ _ (decoding (o .options .given .0 .0)) _ (h .read .given .0 .0)
+    (settings-read k _ (o .options .given .1)) (decodes d _ (h .read .given .1))
 
 same-length-2 : tie.Need-same-length-2
 same-length-2 c = search needs
@@ -81,7 +85,8 @@ returns-2 c =
     let o = d .before .before .before in
     let k = o .before .before in
     let a = k .before .before .before .args in
-    refuses-read _ (now (a .bytes)) (now (a .out)) _ _ _ _ (decoding (o .options .given .0 .0)) _ (h .e .given .0 .0) _ (settings-read k _ (o .options .given .1)) (decodes d _ (h .e .given .1)) (c .pack .ensures)
+    refuses-read _ (now (a .bytes)) (now (a .out)) _ _ _ _ (decoding (o .options .given .0 .0)) _ (h .e .given .0 .0) _
+    (settings-read k _ (o .options .given .1)) (decodes d _ (h .e .given .1)) (c .pack .ensures)
 
 returns-3 : tie.Need-returns-3
 returns-3 c =

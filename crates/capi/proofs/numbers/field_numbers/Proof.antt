@@ -2,14 +2,20 @@ use Prim.Native.Nat.{ℕ}
 use mathlib.Core.Path.{sym, ap, _∙_}
 use Rattle.header.specs.Read.{extSpan}
 use Rattle.header.specs.declared.HeaderFields.{HeaderFields}
-use Rattle.capi.specs.Lent.{kindOf, startOf, lengthOf, pairsOf}
+use Rattle.capi.specs.Lent.{fieldsKind, fieldsStart, fieldsLength, fieldsPairs}
 use Rattle.capi.specs.declared.numbers.FieldNumbers.{FieldNumbers}
 use borrow.Author.Needs.{needs}
 use Rattle.capi.proofs.numbers.field_numbers.Statement.{statement}
 use Rattle.capi.proofs.numbers.field_numbers.Tie as tie
 
 abbrev numbersOf : HeaderFields → FieldNumbers
-numbersOf f = record { kind = kindOf (extSpan f); start = startOf (extSpan f); len = lengthOf (extSpan f); pairs = pairsOf (extSpan f) }
+numbersOf f =
+    record {
+      kind = fieldsKind (extSpan f);
+      start = fieldsStart (extSpan f);
+      len = fieldsLength (extSpan f);
+      pairs = fieldsPairs (extSpan f);
+    }
 
 enum-told : tie.Need-enum-told
 enum-told c = search needs

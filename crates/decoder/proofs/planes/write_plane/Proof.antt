@@ -9,7 +9,7 @@ use Rattle.laws.proofs.Tests.{if-true}
 use Rattle.image.specs.Geometry.{rowBytes}
 use Rattle.image.specs.Rows.{convertFormat}
 use Rattle.image.specs.declared.PixelFormat.the-variants.{MonoBlack}
-use Rattle.image.proofs.Converted.{format-length}
+use Rattle.image.proofs.ConvertedBytes.{format-length}
 use borrow.Author.Needs.{needs}
 use Rattle.decoder.proofs.planes.write_plane.Statement.{statement}
 use Rattle.decoder.proofs.planes.write_plane.Tie as tie

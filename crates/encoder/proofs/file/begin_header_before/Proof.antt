@@ -7,7 +7,7 @@ use lib.ListN.{length, drop}
 use lib.Seq.{length-take-le}
 use Rattle.error.specs.Answer.{Answer, refuses}
 use Rattle.header.specs.Write.{extHeader}
-use Rattle.encoder.proofs.Begun.{answered-room, whole, left-inside, left-outside}
+use Rattle.encoder.proofs.PairsLeft.{answered-room, whole, left-inside, left-outside}
 use borrow.Author.Needs.{needs}
 use Rattle.encoder.proofs.file.begin_header_before.Statement.{statement}
 use Rattle.encoder.proofs.file.begin_header_before.Tie as tie
@@ -36,10 +36,13 @@ returns c =
     let n : ℕ = r .result in
     let last : List ℕ = b .last .1 .1 .1 .1 .1 .0 in
     let long : length last ≡ n = b .kept .1 .1 .1 .1 .1 .0 ∙ length-take-le n (now (a .out)) (omega (arith, r .ensures)) in
-    let header : List ℕ → Answer (List ℕ) = λ lengths. extHeader (a .options .strict) (a .width) (a .height) (a .options .ext) (now (a .text)) lengths in (
-      answered-room (a .options .strict) (now (a .text)) [] (refuses 0 0) (a .body) (now (a .out)) last n (r .ensures) long (b .result) (record { to = b .result .to; answer = b .result .answer }) refl (b .ensures .0),
+    let header : List ℕ → Answer (List ℕ) =
+    λ lengths. extHeader (a .options .strict) (a .width) (a .height) (a .options .ext) (now (a .text)) lengths in (
+      answered-room (a .options .strict) (now (a .text)) [] (refuses 0 0) (a .body) (now (a .out)) last n (r .ensures) long (b .result)
+          (record { to = b .result .to; answer = b .result .answer }) refl (b .ensures .0),
       whole (a .options .strict) (now (a .text)) [] (refuses 0 0) (a .body) (now (a .out)) last n (r .ensures) long,
-      λ lengths h. left-inside (a .options .strict) (now (a .text)) lengths (header lengths) (a .body) (now (a .out)) last n (r .ensures) long (b .result) (record { to = b .result .to; answer = b .result .answer })
+      λ lengths h. left-inside (a .options .strict) (now (a .text)) lengths (header lengths) (a .body) (now (a .out)) last n
+          (r .ensures) long (b .result) (record { to = b .result .to; answer = b .result .answer })
           (c .if1 .taken) refl refl (b .ensures .1 (a .options .strict) lengths h),
     )
 
@@ -54,10 +57,13 @@ returns-2 c =
     let n : ℕ = r .result in
     let last : List ℕ = b .last .1 .1 .1 .1 .1 .0 in
     let long : length last ≡ n = b .kept .1 .1 .1 .1 .1 .0 ∙ length-take-le n (now (a .out)) (omega (arith, r .ensures)) in
-    let header : List ℕ → Answer (List ℕ) = λ lengths. extHeader (a .options .strict) (a .width) (a .height) (a .options .ext) (now (a .text)) lengths in (
-      answered-room (a .options .strict) (now (a .text)) [] (refuses 0 0) (a .body) (now (a .out)) last n (r .ensures) long (b .result) (record { to = length (last ++ drop n (now (a .out))); answer = b .result .answer }) refl (b .ensures .0),
+    let header : List ℕ → Answer (List ℕ) =
+    λ lengths. extHeader (a .options .strict) (a .width) (a .height) (a .options .ext) (now (a .text)) lengths in (
+      answered-room (a .options .strict) (now (a .text)) [] (refuses 0 0) (a .body) (now (a .out)) last n (r .ensures) long (b .result)
+          (record { to = length (last ++ drop n (now (a .out))); answer = b .result .answer }) refl (b .ensures .0),
       whole (a .options .strict) (now (a .text)) [] (refuses 0 0) (a .body) (now (a .out)) last n (r .ensures) long,
-      λ lengths h. left-outside (a .options .strict) (now (a .text)) lengths (header lengths) (a .body) (now (a .out)) last n (r .ensures) long (b .result) (record { to = length (last ++ drop n (now (a .out))); answer = b .result .answer })
+      λ lengths h. left-outside (a .options .strict) (now (a .text)) lengths (header lengths) (a .body) (now (a .out)) last n
+          (r .ensures) long (b .result) (record { to = length (last ++ drop n (now (a .out))); answer = b .result .answer })
           (c .if1 .left) refl refl (b .ensures .1 (a .options .strict) lengths h),
     )
 

@@ -1,7 +1,7 @@
 use mathlib.Core.Path.{sym, _∙_}
 use native.Mathlib.Omega.{arith}
 use borrow.Author.Needs.{needs}
-use Rattle.encoder.proofs.Counted.{no-width, no-height, no-frame, too-many, accepted}
+use Rattle.encoder.proofs.CountTests.{no-width, no-height, no-frame, too-many, accepted}
 use Rattle.encoder.proofs.file.check_count.Statement.{statement}
 use Rattle.encoder.proofs.file.check_count.Tie as tie
 

@@ -8,8 +8,8 @@ use Rattle.error.specs.Answer.{checked, gives}
 use Rattle.laws.proofs.Products.{product-below}
 use Rattle.rules.specs.Rule.{meaning, roomy, knownRule}
 use Rattle.encoder.specs.File.{checkCount}
-use Rattle.encoder.proofs.Counted.{counted}
-use Rattle.encoder.proofs.Scanned.{not-counted, not-known, not-roomy, too-short, long-enough}
+use Rattle.encoder.proofs.CountTests.{counted}
+use Rattle.encoder.proofs.ScanTests.{not-counted, not-known, not-roomy, too-short, long-enough}
 use Rattle.encoder.proofs.gray8.check_scans.Statement.{statement}
 use Rattle.encoder.proofs.gray8.check_scans.Tie as tie
 
@@ -20,7 +20,8 @@ sized c = sym (c .before .before .check-count .ensures) ∙ ap checked (c .enum-
 known : (c : tie.Else1) → knownRule (c .before .before .before .before .before .args .rule) ≡ true
 known c = sym (c .before .known-rule .ensures) ∙ not-false _ (c .if1 .left)
 
-served : (c : tie.Else2) → let a = c .before .before .before .before .before .before .before .args in roomy (meaning (a .rule)) (a .width) (a .work) ≡ true
+served : (c : tie.Else2) → let a = c .before .before .before .before .before .before .before .args in roomy (meaning (a .rule)) (a .width)
+    (a .work) ≡ true
 served c = sym (c .before .roomy .ensures) ∙ not-false _ (c .if2 .left)
 
 check-count-requires : tie.Need-check-count-requires
@@ -36,7 +37,8 @@ returns : tie.Need-returns
 returns c =
     let a = c .before .before .before .args in
     let e = ap checked (c .enum-told2 .given .1) in
-    e ∙ sym (not-counted 16 (a .rule) (a .width) (a .height) (a .count) (a .gray) (a .work) _ _ (sym (c .before .before .check-count .ensures) ∙ e))
+    e ∙ sym (not-counted 16 (a .rule) (a .width) (a .height) (a .count) (a .gray) (a .work) _ _
+    (sym (c .before .before .check-count .ensures) ∙ e))
 
 known-rule-requires : tie.Need-known-rule-requires
 known-rule-requires c κs = search needs
@@ -50,7 +52,8 @@ returns-2 c =
     let t = k .before in
     let a = t .before .before .before .args in
     c .refused .ensures
-    ∙ sym (not-known 16 (a .rule) (a .width) (a .height) (a .count) (a .gray) (a .work) (sized t) (sym (k .known-rule .ensures) ∙ not-true _ (c .before .if1 .taken)))
+    ∙ sym (not-known 16 (a .rule) (a .width) (a .height) (a .count) (a .gray) (a .work) (sized t)
+    (sym (k .known-rule .ensures) ∙ not-true _ (c .before .if1 .taken)))
 
 roomy-requires : tie.Need-roomy-requires
 roomy-requires c κs = search needs
@@ -65,7 +68,8 @@ returns-3 c =
     let t = k .before .before in
     let a = t .before .before .before .args in
     c .refused2 .ensures
-    ∙ sym (not-roomy 16 (a .rule) (a .width) (a .height) (a .count) (a .gray) (a .work) (sized t) (known k) (sym (r .roomy .ensures) ∙ not-true _ (c .before .if2 .taken)))
+    ∙ sym (not-roomy 16 (a .rule) (a .width) (a .height) (a .count) (a .gray) (a .work) (sized t) (known k)
+    (sym (r .roomy .ensures) ∙ not-true _ (c .before .if2 .taken)))
 
 mul-area : tie.Need-mul-area
 mul-area c =
@@ -89,7 +93,8 @@ returns-4 c =
     let t = k .before .before in
     let a = t .before .before .before .args in
     c .refused3 .ensures
-    ∙ sym (too-short 16 (a .rule) (a .width) (a .height) (a .count) (a .gray) (a .work) (sized t) (known k) (served g) (c .before .if3 .taken))
+    ∙ sym (too-short 16 (a .rule) (a .width) (a .height) (a .count) (a .gray) (a .work) (sized t) (known k) (served g)
+    (c .before .if3 .taken))
 
 returns-5 : tie.Need-returns-5
 returns-5 c =

@@ -1,4 +1,4 @@
-use Rattle.encoder.proofs.Begun.{made-put}
+use Rattle.encoder.proofs.PairsLeft.{made-put}
 use borrow.Author.Needs.{needs}
 use Rattle.encoder.proofs.gray8.encode_gray8_lengths.Statement.{statement}
 use Rattle.encoder.proofs.gray8.encode_gray8_lengths.Tie as tie
@@ -21,7 +21,8 @@ same-length-2 c = search needs
 returns : tie.Need-returns
 returns c =
     let b = c .before .before .before .before .before .before .before in
-    made-put _ _ _ _ _ _ _ _ _ _ _ _ _ _ (b .begin-gray8 .ensures _ (b .before .before .before .check-lengths .ensures)) (c .before .before .put-lengths .ensures)
+    made-put _ _ _ _ _ _ _ _ _ _ _ _ _ _ (b .begin-gray8 .ensures _ (b .before .before .before .check-lengths .ensures))
+    (c .before .before .put-lengths .ensures)
 
 pub encode-gray8-lengths-spec : {M : Type 1} → statement M
 encode-gray8-lengths-spec =

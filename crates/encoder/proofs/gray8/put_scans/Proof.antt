@@ -1,52 +1,56 @@
 use Prim.Native.Nat.{_+_, _-_, _*_, _≤_}
-use mathlib.Core.Path.{refl, ap}
+use mathlib.Core.Path.{refl}
 use native.Mathlib.Omega.{arith}
 use borrow.Author.Needs.{needs}
 use denote.Ref.{now}
 use lib.ListN.{length}
 use Rattle.laws.proofs.Products.{product-below}
-use Rattle.image.specs.declared.PlaneLayout.{PlaneLayout}
-use Rattle.encoder.proofs.Scanned.{passed}
-use Rattle.encoder.proofs.Scanning.{Scanning, begun, out-long, next-in, scanned, ended}
+use Rattle.image.proofs.PlaneSizes.{total-is}
+use Rattle.encoder.proofs.ScanTests.{passed}
+use Rattle.encoder.proofs.ScansLoop.{Scanning, begun, out-long, next-in, scanned, ended}
 use Rattle.encoder.proofs.gray8.put_scans.Statement.{statement}
 use Rattle.encoder.proofs.gray8.put_scans.Tie as tie
 
 abbrev Inv-loop : tie.InvT-loop
-Inv-loop width height count gray rule work₀ out₀ area plane k₀ work out k = Scanning rule width height count gray work₀ out₀ area plane work out k
+Inv-loop gray rule work₀ out₀ width height plane count area k₀ work out k =
+    Scanning rule width height count gray work₀ out₀ area plane work out k
 
 abbrev μ-loop : tie.MeasureT-loop
-μ-loop width height count gray rule work₀ out₀ area plane k₀ work out k = count - k
+μ-loop gray rule work₀ out₀ width height plane count area k₀ work out k = count - k
+
+cast-area : tie.Need-cast-area Inv-loop μ-loop
+cast-area c = search needs
+
+cast-area-2 : tie.Need-cast-area-2 Inv-loop μ-loop
+cast-area-2 c = search needs
 
 mul-area : tie.Need-mul-area Inv-loop μ-loop
 mul-area c =
-    let s = c .before .before in
-    record { fits = product-below 32 32 (s .fits .width .fits) (s .fits .height .fits) }
-
-new-requires : tie.Need-new-requires Inv-loop μ-loop
-new-requires c κs = search needs
+    record { fits = product-below 32 32 (omega arith) (omega arith) }
 
 loop-holds : tie.Need-loop-holds Inv-loop μ-loop
 loop-holds c =
-    let s = c .before .before .before in
+    let s = c .before .before in
     let a = s .args in
-    begun (a .rule) (a .width) (a .height) (a .count) (now (a .gray)) (now (a .work)) (now (a .out)) (c .new .result .«total_bytes»)
-    (passed 16 (a .rule) (a .width) (a .height) (a .count) (length (now (a .gray))) (length (now (a .work))) (s .pre .0))
-    (ap (λ (l : PlaneLayout). l .«total_bytes») (c .new .ensures)) (s .pre .1)
+    let l = a .scans .layout in
+    begun (a .rule) (l .width) (l .height) (a .scans .count) (now (a .gray)) (now (a .work)) (now (a .out)) (l .«total_bytes»)
+    (passed 16 (a .rule) (l .width) (l .height) (a .scans .count) (length (now (a .gray))) (length (now (a .work))) (s .pre .1 .0))
+    (total-is (s .pre .0)) (s .pre .1 .1)
 
 -- scan k is among the samples, and its plane in the output
 there : (c : tie.In-loop Inv-loop μ-loop)
     → let l = c .before in
-    let a = l .before .before .before .before .args in
-    let area = a .width * a .height in
-    let plane = l .before .new .result .«total_bytes» in
+    let a = l .before .before .before .args in
+    let area = a .scans .layout .width * a .scans .layout .height in
+    let plane = a .scans .layout .«total_bytes» in
     (l .loop .k * area + area ≤ length (now (a .gray))) × (l .loop .k * plane + plane ≤ length (l .loop .out))
 there c = next-in (c .before .loop .inv) (c .loop-test .taken)
 
 mul-from : tie.Need-mul-from Inv-loop μ-loop
-mul-from c = omega (arith, there c .0, c .before .before .before .before .before .good)
+mul-from c = omega (arith, there c .0, c .before .before .before .before .good)
 
 mul-to : tie.Need-mul-to Inv-loop μ-loop
-mul-to c = omega (arith, there c .1, out-long (c .before .loop .inv), c .before .before .before .before .before .good)
+mul-to c = omega (arith, there c .1, out-long (c .before .loop .inv), c .before .before .before .before .good)
 
 sub-quantize-gray8 : tie.Need-sub-quantize-gray8 Inv-loop μ-loop
 sub-quantize-gray8 c = omega (arith, there c .0)
@@ -97,8 +101,9 @@ put-scans-spec =
     (tie.spec
     Inv-loop
     μ-loop
+    cast-area
+    cast-area-2
     mul-area
-    new-requires
     loop-holds
     mul-from
     mul-to

@@ -4,18 +4,19 @@ use native.Mathlib.Omega.{arith}
 use borrow.Author.Needs.{needs}
 use Rattle.error.specs.Answer.{bind, checked}
 use Rattle.error.specs.declared.Checked.{Checked}
-use Rattle.image.proofs.Fitting.{Fitting, fits}
+use Rattle.image.proofs.PlaneFits.{PlaneFits, fits}
 use Rattle.image.specs.Geometry.{checkGeometry}
 use Rattle.encoder.specs.Write.{checkPlanes}
-use Rattle.encoder.proofs.Counted.{Counted, counted}
-use Rattle.encoder.proofs.Tested.{afterGeometry, short, enough, on-count, on-geometry}
+use Rattle.encoder.proofs.CountTests.{Counted, counted}
+use Rattle.encoder.proofs.PlaneTests.{afterGeometry, short, enough, on-count, on-geometry}
 use Rattle.encoder.proofs.planes.check_planes.Statement.{statement}
 use Rattle.encoder.proofs.planes.check_planes.Tie as tie
 
 count-tested : (c : tie.After-check-count) (x : Checked) → c .check-count .result ≡ x
     → let a = c .before .args in
     checkPlanes 16 (a .width) (a .height) (a .count) (a .stride) (a .bytes)
-    ≡ bind (checked x) (λ _. bind (checkGeometry (a .width) (a .height) (a .stride) (a .bytes)) (λ _. afterGeometry (a .width) (a .height) (a .count) (a .stride) (a .bytes)))
+    ≡ bind (checked x) (λ _. bind (checkGeometry (a .width) (a .height) (a .stride) (a .bytes))
+    (λ _. afterGeometry (a .width) (a .height) (a .count) (a .stride) (a .bytes)))
 count-tested c x e =
     let a = c .before .args in
     on-count (a .width) (a .height) (a .count) (a .stride) (a .bytes) 16 (c .check-count .result) x (c .check-count .ensures) e
@@ -67,7 +68,7 @@ frames c =
 -- one plane is there
 plane : (c : tie.After-enum-told2)
     → let a = c .before .before .before .before .before .before .args in
-    Fitting (a .width) (a .height) (a .stride) (a .bytes)
+    PlaneFits (a .width) (a .height) (a .stride) (a .bytes)
 plane c =
     let g = c .before .before in
     let a = g .before .before .before .before .args in

@@ -1,58 +1,61 @@
 use Prim.Native.Nat.{_+_, _-_, _*_, _≤_, _<_}
-use mathlib.Core.Path.{refl, ap}
+use mathlib.Core.Path.{refl}
 use native.Mathlib.Omega.{arith}
 use borrow.Author.Needs.{needs}
 use denote.Ref.{now}
 use lib.ListN.{length}
-use Rattle.image.specs.declared.PlaneLayout.{PlaneLayout}
-use Rattle.encoder.proofs.Tested.{Tested, tested}
-use Rattle.encoder.proofs.Planed.{Planing, begun, kept-length, next-in, planed, ended}
+use Rattle.image.proofs.PlaneSizes.{total-is}
+use Rattle.encoder.proofs.PlaneTests.{Tested, tested}
+use Rattle.encoder.proofs.PlanesLoop.{Planing, begun, kept-length, next-in, planed, ended}
 use Rattle.encoder.proofs.planes.write_planes.Statement.{statement}
 use Rattle.encoder.proofs.planes.write_planes.Tie as tie
 
 abbrev Inv-loop : tie.InvT-loop
-Inv-loop width height count planes stride format out₀ plane needed k₀ out k = Planing format width height stride planes out₀ count plane needed out k
+Inv-loop planes out₀ width height plane count stride format needed k₀ out k =
+    Planing format width height stride planes out₀ count plane needed out k
 
 abbrev μ-loop : tie.MeasureT-loop
-μ-loop width height count planes stride format out₀ plane needed k₀ out k = count - k
-
-new-requires : tie.Need-new-requires Inv-loop μ-loop
-new-requires c κs = search needs
+μ-loop planes out₀ width height plane count stride format needed k₀ out k = count - k
 
 -- the planes passed their tests
-passed : (s : tie.Start Inv-loop μ-loop) → Tested 16 (s .args .width) (s .args .height) (s .args .count) (s .args .stride) (length (now (s .args .planes)))
-passed s = tested 16 (s .args .width) (s .args .height) (s .args .count) (s .args .stride) (length (now (s .args .planes))) (s .pre .0)
+passed : (s : tie.Start Inv-loop μ-loop)
+    → let a = s .args .lent in
+    Tested 16 (a .layout .width) (a .layout .height) (a .count) (a .stride) (length (now (s .args .planes)))
+passed s =
+    let a = s .args .lent in
+    tested 16 (a .layout .width) (a .layout .height) (a .count) (a .stride) (length (now (s .args .planes))) (s .pre .1 .0)
 
 needed-bytes-requires : tie.Need-needed-bytes-requires Inv-loop μ-loop
 needed-bytes-requires c κs =
-    let s = c .before .before .before in
+    let s = c .before .before in
     let p = passed s .plane in
     (p .high, omega (arith, p .room, s .good))
 
 loop-holds : tie.Need-loop-holds Inv-loop μ-loop
 loop-holds c =
-    let s = c .before .before .before .before in
-    let a = s .args in
-    begun (a .format) (a .width) (a .height) (a .stride) (now (a .planes)) (now (a .out)) (a .count) (c .before .new .result .«total_bytes»)
-    (c .needed-bytes .result) (ap (λ (l : PlaneLayout). l .«total_bytes») (c .before .new .ensures)) (c .needed-bytes .ensures) (passed s .total) (s .pre .1)
+    let s = c .before .before .before in
+    let a = s .args .lent in
+    let l = a .layout in
+    begun (a .format) (l .width) (l .height) (a .stride) (now (s .args .planes)) (now (s .args .out)) (a .count) (l .«total_bytes»)
+    (c .needed-bytes .result) (total-is (s .pre .0)) (c .needed-bytes .ensures) (passed s .total) (s .pre .1 .1)
 
 -- plane k is among those that are lent and has room in the output
 there : (c : tie.In-loop Inv-loop μ-loop)
     → let l = c .before in
-    let a = l .before .before .before .before .before .args in
+    let a = l .before .before .before .before .args in
     let needed = l .before .needed-bytes .result in
-    let plane = l .before .before .new .result .«total_bytes» in
+    let plane = a .lent .layout .«total_bytes» in
     (l .loop .k * needed + needed ≤ length (now (a .planes))) × (l .loop .k * plane + plane ≤ length (l .loop .out))
 there c = next-in (c .before .loop .inv) (c .loop-test .taken)
 
 mul-from : tie.Need-mul-from Inv-loop μ-loop
-mul-from c = omega (arith, there c .0, c .before .before .before .before .before .before .good)
+mul-from c = omega (arith, there c .0, c .before .before .before .before .before .good)
 
 add-end : tie.Need-add-end Inv-loop μ-loop
-add-end c = omega (arith, there c .0, c .before .before .before .before .before .before .good)
+add-end c = omega (arith, there c .0, c .before .before .before .before .before .good)
 
 mul-to : tie.Need-mul-to Inv-loop μ-loop
-mul-to c = omega (arith, there c .1, kept-length (c .before .loop .inv), c .before .before .before .before .before .before .good)
+mul-to c = omega (arith, there c .1, kept-length (c .before .loop .inv), c .before .before .before .before .before .good)
 
 sub-wire-bits : tie.Need-sub-wire-bits Inv-loop μ-loop
 sub-wire-bits c = omega arith
@@ -99,7 +102,6 @@ write-planes-spec =
     (tie.spec
     Inv-loop
     μ-loop
-    new-requires
     needed-bytes-requires
     loop-holds
     mul-from

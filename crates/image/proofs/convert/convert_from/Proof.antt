@@ -3,13 +3,14 @@ use mathlib.Core.Path.{_≡_, ap, sym, _∙_}
 use native.Mathlib.Omega.{arith}
 use denote.Ref.{now}
 use lib.ListN.{length}
-use Rattle.image.specs.Geometry.{rowBytes, planeBytes}
+use Rattle.image.specs.Geometry.{rowBytes}
 use Rattle.image.specs.Parts.{clearRows}
-use Rattle.image.specs.Rows.{convertRows, convertFormat}
+use Rattle.image.specs.Rows.{invert, convertRows, convertFormat}
 use Rattle.image.specs.declared.PlaneLayout.{PlaneLayout}
-use Rattle.image.proofs.AtOnce.{all-at-once}
-use Rattle.image.proofs.Converting.{unchanged, changed}
-use Rattle.image.proofs.Inverted.{invert-length}
+use Rattle.image.proofs.PackedAsRows.{all-at-once}
+use Rattle.image.proofs.ConvertLoop.{unchanged, changed}
+use Rattle.image.proofs.InvertedBytes.{invert-length}
+use Rattle.image.proofs.PlaneSizes.{laid, total-is}
 use borrow.Author.Needs.{needs}
 use Rattle.image.proofs.convert.convert_from.Statement.{statement}
 use Rattle.image.proofs.convert.convert_from.Tie as tie
@@ -20,14 +21,12 @@ start c = c .before .before .before
 -- the formats differ
 other : (c : tie.Else1)
     → let a = start (c .before .before .before) .args in
-    convertRows (a .width) (rowBytes (a .width)) (a .height) 0 (now (a .plane)) ≡ convertFormat (a .from) (a .to) (a .width) (a .height) (rowBytes (a .width)) (now (a .plane))
+    convertRows (a .width) (rowBytes (a .width)) (a .height) 0 (now (a .plane)) ≡ convertFormat (a .from) (a .to) (a .width) (a .height)
+    (rowBytes (a .width)) (now (a .plane))
 other c =
     let a = start (c .before .before .before) .args in
     changed (a .from) (a .to) (a .width) (a .height) (rowBytes (a .width)) (now (a .plane))
     (λ e. c .if1 .left (c .before .before .white-bit .ensures ∙ sym e ∙ sym (c .before .white-bit2 .ensures)))
-
-total-is : (c : tie.After-new) → let a = start c .args in c .new .result .«total_bytes» ≡ planeBytes (a .width) (a .height)
-total-is c = ap (λ (l : PlaneLayout). l .«total_bytes») (c .new .ensures)
 
 new-requires : tie.Need-new-requires
 new-requires c κs = search needs
@@ -61,7 +60,8 @@ clear-rows-requires c κs =
     let i = c .before .before .before in
     let t = i .before .before in
     let n = t .before .before .before .before .before in
-    omega (arith, ap length (i .invert-from .ensures), invert-length (now (start n .args .plane)), t .if2 .taken, total-is n)
+    let l = laid (n .new .ensures) in
+    (l, omega (arith, ap length (i .invert-from .ensures), invert-length (now (start n .args .plane)), t .if2 .taken, total-is l))
 
 same-length-2 : tie.Need-same-length-2
 same-length-2 c = search needs
@@ -73,16 +73,18 @@ returns-2 c =
     let t = i .before .before in
     let n = t .before .before .before .before .before in
     let a = start n .args in
+    let e = total-is (n .new .ensures) in
     k .clear-rows .ensures
-    ∙ ap (clearRows (a .width) (a .height)) (i .invert-from .ensures)
-    ∙ all-at-once (a .width) (a .height) (now (a .plane)) (omega (arith, t .if2 .taken, total-is n)) (t .if2 .taken ∙ total-is n)
+    ∙ ap (clearRows (n .new .result .width) (n .new .result .height)) (i .invert-from .ensures)
+    ∙ ap (λ (l : PlaneLayout). clearRows (l .width) (l .height) (invert (now (a .plane)))) (n .new .ensures)
+    ∙ all-at-once (a .width) (a .height) (now (a .plane)) (omega (arith, t .if2 .taken, e)) (t .if2 .taken ∙ e)
     ∙ other (t .before .before)
 
 copy-requires-2 : tie.Need-copy-requires-2
 copy-requires-2 c κs = search needs
 
 convert-rows-requires : tie.Need-convert-rows-requires
-convert-rows-requires c κs = search needs
+convert-rows-requires c κs = laid (c .before .before .before .before .before .before .before .before .before .before .new .ensures)
 
 same-length-3 : tie.Need-same-length-3
 same-length-3 c = search needs
@@ -95,8 +97,8 @@ returns-3 c =
     let n = e .before .before .before in
     let a = start n .args in
     k .convert-rows .ensures
-    ∙ ap (convertRows (a .width) (n .new .result .stride) (a .height) 0) (y .copy2 .ensures)
-    ∙ ap (λ s. convertRows (a .width) s (a .height) 0 (now (a .plane))) (ap (λ l. l .stride) (n .new .ensures))
+    ∙ ap (convertRows (n .new .result .width) (n .new .result .stride) (n .new .result .height) 0) (y .copy2 .ensures)
+    ∙ ap (λ (l : PlaneLayout). convertRows (l .width) (l .stride) (l .height) 0 (now (a .plane))) (n .new .ensures)
     ∙ other e
 
 pub convert-from-spec : {M : Type 1} → statement M

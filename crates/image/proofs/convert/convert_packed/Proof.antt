@@ -3,7 +3,7 @@ use native.Mathlib.Omega.{arith}
 use denote.Ref.{now}
 use lib.ListN.{length}
 use Rattle.image.specs.Parts.{clearRows}
-use Rattle.image.proofs.Inverted.{invert-length}
+use Rattle.image.proofs.InvertedBytes.{invert-length}
 use borrow.Author.Needs.{needs}
 use Rattle.image.proofs.convert.convert_packed.Statement.{statement}
 use Rattle.image.proofs.convert.convert_packed.Tie as tie
@@ -15,7 +15,7 @@ clear-rows-requires : tie.Need-clear-rows-requires
 clear-rows-requires c κs =
     let i = c .before .before .before in
     let s = i .before .before .before in
-    omega (arith, ap length (i .invert .ensures), invert-length (now (s .args .plane)), s .pre)
+    (s .pre .0, omega (arith, ap length (i .invert .ensures), invert-length (now (s .args .plane)), s .pre .1))
 
 same-length : tie.Need-same-length
 same-length c = search needs
@@ -24,7 +24,7 @@ returns : tie.Need-returns
 returns c =
     let i = c .before .before .before .before .before .before in
     let a = i .before .before .before .args in
-    c .before .before .clear-rows .ensures ∙ ap (clearRows (a .width) (a .height)) (i .invert .ensures)
+    c .before .before .clear-rows .ensures ∙ ap (clearRows (a .layout .width) (a .layout .height)) (i .invert .ensures)
 
 pub convert-packed-spec : {M : Type 1} → statement M
 convert-packed-spec = tie.close (tie.spec invert-requires clear-rows-requires same-length returns)

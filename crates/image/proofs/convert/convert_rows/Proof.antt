@@ -3,24 +3,21 @@ use native.Mathlib.Omega.{arith}
 use borrow.Author.Needs.{needs}
 use denote.Ref.{now}
 use lib.ListN.{length}
-use Rattle.image.proofs.Converting.{Converting, begun, converted, stopped, ended}
-use Rattle.image.proofs.Starts.{Started, started, missed}
+use Rattle.image.proofs.ConvertLoop.{Converting, begun, converted, stopped, ended}
+use Rattle.image.proofs.RowStarts.{Started, started, missed}
 use Rattle.image.proofs.convert.convert_rows.Statement.{statement}
 use Rattle.image.proofs.convert.convert_rows.Tie as tie
 
 abbrev Inv-loop : tie.InvT-loop
-Inv-loop plane₀ width height stride row mask y₀ plane y = Converting plane₀ width height stride row mask plane y
+Inv-loop plane₀ layout stride row mask y₀ plane y = Converting plane₀ (layout .width) (layout .height) stride row mask plane y
 
 abbrev μ-loop : tie.MeasureT-loop
-μ-loop plane₀ width height stride row mask y₀ plane y = height - y
-
-new-requires : tie.Need-new-requires Inv-loop μ-loop
-new-requires c κs = search needs
+μ-loop plane₀ layout stride row mask y₀ plane y = layout .height - y
 
 loop-holds : tie.Need-loop-holds Inv-loop μ-loop
 loop-holds c =
-    let a = c .before .before .args in
-    begun (now (a .plane)) (a .width) (a .height) (a .stride) (c .new .result) (c .new .ensures)
+    let a = c .before .args in
+    begun (now (a .plane)) (a .layout .width) (a .layout .height) (a .stride) (a .layout) (c .before .pre)
 
 cast-row-start : tie.Need-cast-row-start Inv-loop μ-loop
 cast-row-start c = search needs
@@ -33,8 +30,9 @@ enum-known-at c = search needs
 
 -- the row is in the plane
 there : (c : tie.After-at Inv-loop μ-loop)
-    → let l = c .before .before .before .before in
-    Started (length (l .loop .plane)) (l .before .before .before .args .stride) (l .loop .y) (l .before .new .result .stride) (c .at .given .0 .0)
+    → let l = c .before .before .before .before .before in
+    Started (length (l .loop .plane)) (l .before .before .args .stride) (l .loop .y) (l .before .before .args .layout .stride)
+    (c .at .given .0 .0)
 there c = started _ _ _ _ _ _ (c .before .before .row-start .ensures) (c .at .given .1)
 
 add-end : tie.Need-add-end Inv-loop μ-loop
@@ -56,12 +54,13 @@ enum-told : tie.Need-enum-told Inv-loop μ-loop
 enum-told c = search needs
 
 same-length : tie.Need-same-length Inv-loop μ-loop
-same-length c = c .before .before .before .before .loop .inv .same
+same-length c = c .before .before .before .before .before .loop .inv .same
 
 returns : tie.Need-returns Inv-loop μ-loop
 returns c =
-    let l = c .before .before .before .before in
-    stopped (l .loop .inv) (c .before .before .before .loop-test .taken) (missed _ _ _ _ _ (c .before .before .row-start .ensures) (c .enum-told .given .1))
+    let l = c .before .before .before .before .before in
+    stopped (l .loop .inv) (c .before .before .before .if1 .taken)
+    (missed _ _ _ _ _ (c .before .before .row-start .ensures) (c .enum-told .given .1))
 
 add-y : tie.Need-add-y Inv-loop μ-loop
 add-y c = search needs
@@ -72,14 +71,14 @@ loop-less c = omega arith
 loop-again : tie.Need-loop-again Inv-loop μ-loop
 loop-again c =
     let t = c .before .before .before .before .before in
-    let l = t .before .before .before .before in
-    converted (l .loop .inv) _ _ (t .before .before .before .loop-test .taken) (there t) (c .before .before .invert-row .ensures)
+    let l = t .before .before .before .before .before in
+    converted (l .loop .inv) _ _ (t .before .before .before .if1 .taken) (there t) (c .before .before .invert-row .ensures)
 
 same-length-2 : tie.Need-same-length-2 Inv-loop μ-loop
-same-length-2 c = c .before .loop .inv .same
+same-length-2 c = c .before .before .loop .inv .same
 
 returns-2 : tie.Need-returns-2 Inv-loop μ-loop
-returns-2 c = ended (c .before .loop .inv) (c .loop-test .left)
+returns-2 c = ended (c .before .before .loop .inv) (c .if1 .left)
 
 pub convert-rows-spec : {M : Type 1} → statement M
 convert-rows-spec =
@@ -87,7 +86,6 @@ convert-rows-spec =
     (tie.spec
     Inv-loop
     μ-loop
-    new-requires
     loop-holds
     cast-row-start
     row-start-requires

@@ -8,7 +8,7 @@ use lib.Seq.{length-take-le}
 use Rattle.laws.proofs.Writers.{emits-none, emits-all}
 use Rattle.image.specs.Geometry.{rowBytes}
 use Rattle.image.specs.Rows.{convertFormat}
-use Rattle.image.proofs.Converted.{format-length}
+use Rattle.image.proofs.ConvertedBytes.{format-length}
 use borrow.Author.Needs.{needs}
 use Rattle.image.proofs.convert.into_format.Statement.{statement}
 use Rattle.image.proofs.convert.into_format.Tie as tie
@@ -28,7 +28,8 @@ slice-relend-prefix-convert-from : tie.Need-slice-relend-prefix-convert-from
 slice-relend-prefix-convert-from c = search needs
 
 slice-aggregate-convert-from : tie.Need-slice-aggregate-convert-from
-slice-aggregate-convert-from c = let s = c .before .before .before .before in sym (length-take-le _ (now (s .args .out)) (c .before .if1 .left))
+slice-aggregate-convert-from c =
+    let s = c .before .before .before .before in sym (length-take-le _ (now (s .args .out)) (c .before .if1 .left))
 
 convert-from-requires : tie.Need-convert-from-requires
 convert-from-requires c κs = let s = c .before .before .before .before in sym (length-take-le _ (now (s .args .out)) (c .before .if1 .left))
@@ -43,7 +44,8 @@ returns-2 c =
     let s = e .before .before .before in
     let a = s .args in
     emits-all (whole s) (now (a .out)) _ _ (omega (arith, long s, e .if1 .left)) (sym (long s))
-    (ap (λ l. l ++ drop (length (now (a .plane))) (now (a .out))) (k .convert-from .ensures) ∙ ap (λ n. whole s ++ drop n (now (a .out))) (sym (long s)))
+    (ap (λ l. l ++ drop (length (now (a .plane))) (now (a .out))) (k .convert-from .ensures)
+    ∙ ap (λ n. whole s ++ drop n (now (a .out))) (sym (long s)))
 
 pub into-format-spec : {M : Type 1} → statement M
 into-format-spec =

@@ -8,7 +8,7 @@ use lib.ListN.{length, drop}
 use lib.Seq.{length-take-le}
 use Rattle.laws.proofs.Writers.{emits-none, emits-all}
 use Rattle.image.specs.Rows.{invert}
-use Rattle.image.proofs.Inverted.{invert-length}
+use Rattle.image.proofs.InvertedBytes.{invert-length}
 use Rattle.image.proofs.convert.invert_into.Statement.{statement}
 use Rattle.image.proofs.convert.invert_into.Tie as tie
 
@@ -27,7 +27,8 @@ slice-relend-prefix-invert-from : tie.Need-slice-relend-prefix-invert-from
 slice-relend-prefix-invert-from c = search needs
 
 slice-aggregate-invert-from : tie.Need-slice-aggregate-invert-from
-slice-aggregate-invert-from c = let s = c .before .before .before .before in sym (length-take-le _ (now (s .args .out)) (c .before .if1 .left))
+slice-aggregate-invert-from c = let s = c .before .before .before .before in
+    sym (length-take-le _ (now (s .args .out)) (c .before .if1 .left))
 
 invert-from-requires : tie.Need-invert-from-requires
 invert-from-requires c κs = let s = c .before .before .before .before in sym (length-take-le _ (now (s .args .out)) (c .before .if1 .left))

@@ -3,8 +3,8 @@ use mathlib.Core.Path.{sym}
 use native.Mathlib.Omega.{arith}
 use denote.Ref.{now}
 use lib.ListN.{length}
-use Rattle.image.proofs.Seen.{right-of, below, seen, missing-bit, read-bit}
-use Rattle.image.proofs.Starts.{Started, started, missed}
+use Rattle.image.proofs.DotsSame.{right-of, below, seen, missing-bit, read-bit}
+use Rattle.image.proofs.RowStarts.{Started, started, missed}
 use borrow.Author.Needs.{needs}
 use Rattle.image.proofs.dots.is_white.Statement.{statement}
 use Rattle.image.proofs.dots.is_white.Tie as tie
@@ -56,15 +56,19 @@ returns-3 : tie.Need-returns-3
 returns-3 c =
     let r = c .before .before .before .before .before in
     let a = r .before .before .before .before .before .args in
-    seen (a .format) (a .width) (a .height) (a .stride) (now (a .plane)) (a .x) (a .y) (omega arith) (omega arith) (c .bit .result) (r .before .white-bit .result)
-    (read-bit (a .stride) (now (a .plane)) (a .x) (a .y) _ _ (begun (c .before .before .before) .place) (c .bit .ensures)) (r .before .white-bit .ensures)
+    seen (a .format) (a .width) (a .height) (a .stride) (now (a .plane)) (a .x) (a .y) (omega arith) (omega arith) (c .bit .result)
+    (r .before .white-bit .result)
+    (read-bit (a .stride) (now (a .plane)) (a .x) (a .y) _ _ (begun (c .before .before .before) .place) (c .bit .ensures))
+    (r .before .white-bit .ensures)
 
 returns-4 : tie.Need-returns-4
 returns-4 c =
     let r = c .before .before in
     let a = r .before .before .before .before .before .args in
-    let p : length (now (a .plane)) < a .y * a .stride + (a .x / 8 + 1) = missed _ _ _ _ _ (r .row-start .ensures) (c .enum-told .given .1) in
-    seen (a .format) (a .width) (a .height) (a .stride) (now (a .plane)) (a .x) (a .y) (omega arith) (omega arith) 0 (r .before .white-bit .result)
+    let p : length (now (a .plane)) < a .y * a .stride + (a .x / 8 + 1) =
+    missed _ _ _ _ _ (r .row-start .ensures) (c .enum-told .given .1) in
+    seen (a .format) (a .width) (a .height) (a .stride) (now (a .plane)) (a .x) (a .y) (omega arith) (omega arith) 0
+    (r .before .white-bit .result)
     (sym (missing-bit (a .stride) (now (a .plane)) (a .x) (a .y) (omega arith))) (r .before .white-bit .ensures)
 
 pub is-white-spec : {M : Type 1} → statement M

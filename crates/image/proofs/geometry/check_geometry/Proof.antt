@@ -3,7 +3,7 @@ use mathlib.Core.Path.{sym, _∙_}
 use native.Mathlib.Omega.{arith}
 use borrow.Author.Needs.{needs}
 use borrow.Author.Tests.{leb-true, leb-false, not-true, not-false}
-use Rattle.image.proofs.Tested.{no-width, no-height, narrow, large, short, accepted}
+use Rattle.image.proofs.GeometryTests.{no-width, no-height, narrow, large, short, accepted}
 use Rattle.image.proofs.geometry.check_geometry.Statement.{statement}
 use Rattle.image.proofs.geometry.check_geometry.Tie as tie
 

@@ -1,7 +1,7 @@
 use mathlib.Core.Path.{_≡_, sym}
 use native.Mathlib.Omega.{arith}
 use borrow.Author.Needs.{needs}
-use Rattle.image.proofs.Products.{within-none, within-some}
+use Rattle.laws.proofs.Products.{within-none, within-some}
 use Rattle.image.proofs.geometry.product_within.Statement.{statement}
 use Rattle.image.proofs.geometry.product_within.Tie as tie
 

@@ -3,7 +3,7 @@ use mathlib.Core.Path.{sym, _∙_}
 use native.Mathlib.Omega.{arith}
 use borrow.Author.Needs.{needs}
 use borrow.Author.Tests.{leb-true, leb-false}
-use Rattle.image.proofs.Starts.{starts, misses}
+use Rattle.image.proofs.RowStarts.{starts, misses}
 use Rattle.image.proofs.geometry.row_start.Statement.{statement}
 use Rattle.image.proofs.geometry.row_start.Tie as tie
 

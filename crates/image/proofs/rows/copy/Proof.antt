@@ -2,12 +2,12 @@ use Prim.Native.Nat.{_-_}
 use mathlib.Core.Path.{refl}
 use native.Mathlib.Omega.{arith}
 use lib.ListN.{length}
-use Rattle.image.proofs.Filled.{Filled, begun, kept-length, filled, done}
+use Rattle.image.proofs.FillLoop.{FilledTo, begun, kept-length, filled, done}
 use Rattle.image.proofs.rows.copy.Statement.{statement}
 use Rattle.image.proofs.rows.copy.Tie as tie
 
 abbrev Inv-loop : tie.InvT-loop
-Inv-loop from to₀ i₀ to i = Filled from to₀ to i
+Inv-loop from to₀ i₀ to i = FilledTo from to₀ to i
 
 abbrev μ-loop : tie.MeasureT-loop
 μ-loop from to₀ i₀ to i = length to₀ - i

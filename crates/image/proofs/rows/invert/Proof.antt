@@ -4,13 +4,13 @@ use native.Mathlib.Omega.{arith}
 use denote.Ref.{now}
 use lib.ListN.{length}
 use Rattle.image.specs.Rows.{invert}
-use Rattle.image.proofs.Inverted.{invert-length, invert-at}
-use Rattle.image.proofs.Filled.{Filled, begun, kept-length, next-is, filled, done}
+use Rattle.image.proofs.InvertedBytes.{invert-length, invert-at}
+use Rattle.image.proofs.FillLoop.{FilledTo, begun, kept-length, next-is, filled, done}
 use Rattle.image.proofs.rows.invert.Statement.{statement}
 use Rattle.image.proofs.rows.invert.Tie as tie
 
 abbrev Inv-loop : tie.InvT-loop
-Inv-loop row₀ i₀ row i = Filled (invert row₀) row₀ row i
+Inv-loop row₀ i₀ row i = FilledTo (invert row₀) row₀ row i
 
 abbrev μ-loop : tie.MeasureT-loop
 μ-loop row₀ i₀ row i = length row₀ - i
@@ -37,7 +37,9 @@ loop-again : tie.Need-loop-again Inv-loop μ-loop
 loop-again c =
     let i = c .before .before .loop .inv in
     let e = kept-length i in
-    filled i _ (omega arith) (ap (λ b. 255 - b) (next-is i (omega arith)) ∙ sym (invert-at (c .before .before .before .args .row .now) (c .before .before .loop .i) (omega arith)))
+    filled i _ (omega arith)
+    (ap (λ b. 255 - b) (next-is i (omega arith))
+    ∙ sym (invert-at (c .before .before .before .args .row .now) (c .before .before .loop .i) (omega arith)))
 
 same-length : tie.Need-same-length Inv-loop μ-loop
 same-length c = kept-length (c .before .loop .inv)

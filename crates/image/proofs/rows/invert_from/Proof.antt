@@ -3,13 +3,13 @@ use mathlib.Core.Path.{sym, _∙_}
 use native.Mathlib.Omega.{arith}
 use lib.ListN.{length}
 use Rattle.image.specs.Rows.{invert}
-use Rattle.image.proofs.Inverted.{invert-length, invert-at}
-use Rattle.image.proofs.Filled.{Filled, begun, kept-length, filled, done}
+use Rattle.image.proofs.InvertedBytes.{invert-length, invert-at}
+use Rattle.image.proofs.FillLoop.{FilledTo, begun, kept-length, filled, done}
 use Rattle.image.proofs.rows.invert_from.Statement.{statement}
 use Rattle.image.proofs.rows.invert_from.Tie as tie
 
 abbrev Inv-loop : tie.InvT-loop
-Inv-loop from to₀ i₀ to i = Filled (invert from) to₀ to i
+Inv-loop from to₀ i₀ to i = FilledTo (invert from) to₀ to i
 
 abbrev μ-loop : tie.MeasureT-loop
 μ-loop from to₀ i₀ to i = length to₀ - i

@@ -2,12 +2,12 @@ use Prim.Native.Nat.{_-_}
 use mathlib.Core.Path.{sym}
 use native.Mathlib.Omega.{arith}
 use lib.ListN.{length, replicate, length-replicate, getD-replicate}
-use Rattle.image.proofs.Filled.{Filled, begun, kept-length, filled, done}
+use Rattle.image.proofs.FillLoop.{FilledTo, begun, kept-length, filled, done}
 use Rattle.image.proofs.rows.zero.Statement.{statement}
 use Rattle.image.proofs.rows.zero.Tie as tie
 
 abbrev Inv-loop : tie.InvT-loop
-Inv-loop row₀ i₀ row i = Filled (replicate (length row₀) 0) row₀ row i
+Inv-loop row₀ i₀ row i = FilledTo (replicate (length row₀) 0) row₀ row i
 
 abbrev μ-loop : tie.MeasureT-loop
 μ-loop row₀ i₀ row i = length row₀ - i

@@ -4,8 +4,8 @@ use native.Mathlib.Omega.{arith}
 use borrow.Author.Needs.{needs}
 use denote.Ref.{now}
 use lib.ListN.{length}
-use Rattle.image.proofs.Starts.{Started, started, missed}
-use Rattle.image.proofs.Wiring.{source-there, source-missing}
+use Rattle.image.proofs.RowStarts.{Started, started, missed}
+use Rattle.image.proofs.WireRows.{source-there, source-missing}
 use Rattle.image.proofs.wire.take_row.Statement.{statement}
 use Rattle.image.proofs.wire.take_row.Tie as tie
 

@@ -13,8 +13,9 @@ use Rattle.image.specs.Geometry.{rowBytes, planeBytes}
 use Rattle.image.specs.Parts.{clearRows}
 use Rattle.image.specs.Rows.{toNative, wireBits}
 use Rattle.image.specs.declared.PlaneLayout.{PlaneLayout}
-use Rattle.image.proofs.AtOnce.{wires-at-once}
-use Rattle.image.proofs.Wiring.{wire-length}
+use Rattle.image.proofs.PackedAsRows.{wires-at-once}
+use Rattle.image.proofs.PlaneSizes.{laid, stride-is, total-is}
+use Rattle.image.proofs.WireRows.{wire-length}
 use borrow.Author.Needs.{needs}
 use Rattle.image.proofs.wire.wire_bits.Statement.{statement}
 use Rattle.image.proofs.wire.wire_bits.Tie as tie
@@ -25,17 +26,16 @@ start c = c .before .before .before
 abbrev whole : tie.After-new → List ℕ
 whole c = let a = start c .args in wireBits (a .format) (a .width) (a .height) (a .stride) (now (a .plane))
 
-total-is : (c : tie.After-new) → c .new .result .«total_bytes» ≡ planeBytes (start c .args .width) (start c .args .height)
-total-is c = ap (λ (l : PlaneLayout). l .«total_bytes») (c .new .ensures)
-
 -- the layout has as many bytes as the rows
 long : (c : tie.After-new) → length (whole c) ≡ planeBytes (start c .args .width) (start c .args .height)
-long c = let a = start c .args in wire-length (a .format) (a .width) (a .stride) (now (a .plane)) (a .height) ∙ mul-comm (a .height) (rowBytes (a .width))
+long c =
+    let a = start c .args in
+    wire-length (a .format) (a .width) (a .stride) (now (a .plane)) (a .height) ∙ mul-comm (a .height) (rowBytes (a .width))
 
 done : (c : tie.After-new) {new : List ℕ} → let n = c .new .result .«total_bytes» in let old = now (start c .args .out) in
     n ≤ length old → new ≡ whole c ++ drop n old → Emits (gives (whole c)) (gives n) old new
 done c h e =
-    let s : c .new .result .«total_bytes» ≡ length (whole c) = total-is c ∙ sym (long c) in
+    let s : c .new .result .«total_bytes» ≡ length (whole c) = total-is (c .new .ensures) ∙ sym (long c) in
     emits-all (whole c) (now (start c .args .out)) _ _ (omega arith) s (e ∙ ap (λ n. whole c ++ drop n (now (start c .args .out))) s)
 
 new-requires : tie.Need-new-requires
@@ -44,7 +44,7 @@ new-requires c κs = search needs
 returns : tie.Need-returns
 returns c =
     let n = c .before in
-    emits-none (whole n) (now (start n .args .out)) (omega (arith, long n, total-is n, c .if1 .taken))
+    emits-none (whole n) (now (start n .args .out)) (omega (arith, long n, total-is (n .new .ensures), c .if1 .taken))
 
 slice-aggregate-wire-packed : tie.Need-slice-aggregate-wire-packed
 slice-aggregate-wire-packed c = sym (length-take-le _ _ (c .before .if3 .taken))
@@ -59,7 +59,8 @@ wire-packed-requires : tie.Need-wire-packed-requires
 wire-packed-requires c κs =
     let t = c .before .before in
     let n = t .before .before .before in
-    (length-take-le _ _ (t .if3 .taken) ∙ total-is n, length-take-le _ _ (t .before .before .if1 .left) ∙ total-is n)
+    let l = laid (n .new .ensures) in
+    (l, (length-take-le _ _ (t .if3 .taken) ∙ total-is l, length-take-le _ _ (t .before .before .if1 .left) ∙ total-is l))
 
 same-length : tie.Need-same-length
 same-length c = search needs
@@ -70,16 +71,19 @@ returns-2 c =
     let t = k .before .before .before in
     let n = t .before .before .before in
     let a = start n .args in
-    let s : a .stride ≡ rowBytes (a .width) = t .before .if2 .taken ∙ ap (λ (l : PlaneLayout). l .stride) (n .new .ensures) in
+    let s : a .stride ≡ rowBytes (a .width) = t .before .if2 .taken ∙ stride-is (n .new .ensures) in
     done n (t .before .before .if1 .left)
     (ap (λ l. l ++ drop (n .new .result .«total_bytes») (now (a .out)))
     (k .wire-packed .ensures
-    ∙ ap (λ m. clearRows (a .width) (a .height) (toNative (a .format) (take m (now (a .plane))))) (total-is n)
-    ∙ wires-at-once (a .width) (a .height) (now (a .plane)) (omega (arith, total-is n, t .if3 .taken)) (a .format)
+    ∙ ap (λ (l : PlaneLayout). clearRows (l .width) (l .height) (toNative (a .format) (take (l .«total_bytes») (now (a .plane)))))
+    (n .new .ensures)
+    ∙ wires-at-once (a .width) (a .height) (now (a .plane)) (omega (arith, total-is (n .new .ensures), t .if3 .taken)) (a .format)
     ∙ ap (λ k. wireBits (a .format) (a .width) (a .height) k (now (a .plane))) (sym s)))
 
 wire-rows-requires : tie.Need-wire-rows-requires
-wire-rows-requires c κs = let n = c .before .before .before in omega (arith, total-is n, c .before .before .if1 .left)
+wire-rows-requires c κs =
+    let l = laid (c .before .before .before .new .ensures) in
+    (l, omega (arith, total-is l, c .before .before .if1 .left))
 
 same-length-2 : tie.Need-same-length-2
 same-length-2 c = search needs
@@ -89,7 +93,12 @@ returns-3 c =
     let k = c .before .before in
     let e = k .before .before .before in
     let n = e .before in
-    done n (e .if1 .left) (k .wire-rows .ensures ∙ ap (λ m. whole n ++ drop m (now (start n .args .out))) (sym (total-is n)))
+    let a = start n .args in
+    done n (e .if1 .left)
+    (k .wire-rows .ensures
+    ∙ ap (λ (l : PlaneLayout). wireBits (a .format) (l .width) (l .height) (a .stride) (now (a .plane)) ++ drop
+    (planeBytes (l .width) (l .height)) (now (a .out))) (n .new .ensures)
+    ∙ ap (λ (m : ℕ). whole n ++ drop m (now (a .out))) (sym (total-is (n .new .ensures))))
 
 pub wire-bits-spec : {M : Type 1} → statement M
 wire-bits-spec =

@@ -17,7 +17,7 @@ returns : tie.Need-returns
 returns c =
     let i = c .before .before .before .before .before .before in
     let a = i .before .before .before .before .args in
-    c .before .before .clear-rows .ensures ∙ ap (clearRows (a .width) (a .height)) (i .native-from .ensures)
+    c .before .before .clear-rows .ensures ∙ ap (clearRows (a .layout .width) (a .layout .height)) (i .native-from .ensures)
 
 pub wire-packed-spec : {M : Type 1} → statement M
 wire-packed-spec =

@@ -3,7 +3,7 @@ use borrow.Author.Tests.{not-true, not-false}
 use borrow.Author.Needs.{needs}
 use Rattle.laws.proofs.Products.{product-below}
 use Rattle.options.specs.Limits.{decoding}
-use Rattle.options.proofs.Limited.{over-width, over-height, over-pixels, over-bytes, admitted}
+use Rattle.options.proofs.LimitTests.{over-width, over-height, over-pixels, over-bytes, admitted}
 use Rattle.options.proofs.DecodeOptions.check.Statement.{statement}
 use Rattle.options.proofs.DecodeOptions.check.Tie as tie
 
@@ -53,7 +53,8 @@ returns-3 c =
     c .over3 .ensures
     ∙ sym
     (over-pixels (decoding (a .self)) (a .width) (a .height) (a .bytes) (a .offset)
-    (sym (c .before .before .before .before .before .before .admits .ensures) ∙ not-false _ (c .before .before .before .before .before .if1 .left))
+    (sym (c .before .before .before .before .before .before .admits .ensures)
+    ∙ not-false _ (c .before .before .before .before .before .if1 .left))
     (sym (c .before .before .before .before .admits2 .ensures) ∙ not-false _ (c .before .before .before .if2 .left))
     (sym (c .before .before .admits3 .ensures) ∙ not-true _ (c .before .if3 .taken)))
 
@@ -69,8 +70,10 @@ returns-4 c =
     c .over4 .ensures
     ∙ sym
     (over-bytes (decoding (a .self)) (a .width) (a .height) (a .bytes) (a .offset)
-    (sym (c .before .before .before .before .before .before .before .before .admits .ensures) ∙ not-false _ (c .before .before .before .before .before .before .before .if1 .left))
-    (sym (c .before .before .before .before .before .before .admits2 .ensures) ∙ not-false _ (c .before .before .before .before .before .if2 .left))
+    (sym (c .before .before .before .before .before .before .before .before .admits .ensures)
+    ∙ not-false _ (c .before .before .before .before .before .before .before .if1 .left))
+    (sym (c .before .before .before .before .before .before .admits2 .ensures)
+    ∙ not-false _ (c .before .before .before .before .before .if2 .left))
     (sym (c .before .before .before .before .admits3 .ensures) ∙ not-false _ (c .before .before .before .if3 .left))
     (sym (c .before .before .admits4 .ensures) ∙ not-true _ (c .before .if4 .taken)))
 
@@ -79,7 +82,8 @@ returns-5 c =
     let a = c .before .before .before .before .before .before .before .before .args in
     sym
     (admitted (decoding (a .self)) (a .width) (a .height) (a .bytes) (a .offset)
-    (sym (c .before .before .before .before .before .before .before .admits .ensures) ∙ not-false _ (c .before .before .before .before .before .before .if1 .left))
+    (sym (c .before .before .before .before .before .before .before .admits .ensures)
+    ∙ not-false _ (c .before .before .before .before .before .before .if1 .left))
     (sym (c .before .before .before .before .before .admits2 .ensures) ∙ not-false _ (c .before .before .before .before .if2 .left))
     (sym (c .before .before .before .admits3 .ensures) ∙ not-false _ (c .before .before .if3 .left))
     (sym (c .before .admits4 .ensures) ∙ not-false _ (c .if4 .left)))

@@ -19,7 +19,8 @@ at-most-requires c κs = search needs
 
 returns : tie.Need-returns
 returns c =
-    settings-same lenient MonoBlack (c .before .before .before .absent .ensures) (c .before .before .absent2 .ensures) (c .before .absent3 .ensures) (c .at-most .ensures)
+    settings-same lenient MonoBlack (c .before .before .before .absent .ensures) (c .before .before .absent2 .ensures)
+    (c .before .absent3 .ensures) (c .at-most .ensures)
 
 pub new-spec : {M : Type 1} → statement M
 new-spec =

@@ -19,7 +19,8 @@ absent-requires-4 c κs = search needs
 returns : tie.Need-returns
 returns c =
     let o = c .before .before .before .before .args .self in
-    settings-same (modeOf (o .mode)) (o .format) (c .before .before .before .absent .ensures) (c .before .before .absent2 .ensures) (c .before .absent3 .ensures) (c .absent4 .ensures)
+    settings-same (modeOf (o .mode)) (o .format) (c .before .before .before .absent .ensures) (c .before .before .absent2 .ensures)
+    (c .before .absent3 .ensures) (c .absent4 .ensures)
 
 pub unlimited-spec : {M : Type 1} → statement M
 unlimited-spec =

@@ -1,7 +1,7 @@
 use mathlib.Core.Path.{sym}
 use borrow.Author.Tests.{lt-ltb, le-ltb}
 use lib.Dec.{ltb}
-use Rattle.options.proofs.Limited.{limited, lifted}
+use Rattle.options.proofs.LimitTests.{limited, lifted}
 use Rattle.options.proofs.Limit.admits.Statement.{statement}
 use Rattle.options.proofs.Limit.admits.Tie as tie
 

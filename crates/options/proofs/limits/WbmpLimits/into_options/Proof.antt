@@ -43,8 +43,10 @@ returns c =
     let pixels = c .before .before in
     let height = pixels .before .before in
     let width = height .before .before .before in
-    in-turn (width .before .before .before .new .ensures) (width .with-max-width .ensures) (height .with-max-height .ensures) (pixels .with-max-pixels .ensures) (c .with-max-bytes .ensures)
-    ∙ settings-same (defaults .mode) (defaults .format) (width .before .at-most .ensures) (height .before .at-most2 .ensures) (pixels .before .absent .ensures) (c .before .at-most3 .ensures)
+    in-turn (width .before .before .before .new .ensures) (width .with-max-width .ensures) (height .with-max-height .ensures)
+    (pixels .with-max-pixels .ensures) (c .with-max-bytes .ensures)
+    ∙ settings-same (defaults .mode) (defaults .format) (width .before .at-most .ensures) (height .before .at-most2 .ensures)
+    (pixels .before .absent .ensures) (c .before .at-most3 .ensures)
 
 pub into-options-spec : {M : Type 1} → statement M
 into-options-spec =

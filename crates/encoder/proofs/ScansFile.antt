@@ -16,8 +16,8 @@ use Rattle.encoder.specs.File.{fileOf}
 use Rattle.encoder.specs.Make.{checkScans, scanBytes, fileOfScans, Makes}
 use Rattle.encoder.specs.Parts.{Heads}
 use Rattle.encoder.specs.Scans.{PutsScans}
-use Rattle.encoder.proofs.Filed.{filed, unfiled}
-use Rattle.encoder.proofs.Scanned.{Passed, passed}
+use Rattle.encoder.proofs.PlanesFile.{filed, unfiled}
+use Rattle.encoder.proofs.ScanTests.{Passed, passed}
 
 module _ (o : EncodeOptions) (w h n : ℕ) (gray text lengths : List ℕ) (work : List ℤ) where
   abbrev tests : Answer (Unit {0})
@@ -37,7 +37,8 @@ module _ (o : EncodeOptions) (w h n : ℕ) (gray text lengths : List ℕ) (work 
   by-tests a e = ap (λ (a : Answer (Unit {0})). bind a (λ _. fileOf o w h text lengths bytes)) e
 
   -- what the tests refuse
-  pub unmade : (out : List ℕ) (code place : ℕ) → tests ≡ refuses code place → Makes 16 o w h n gray text lengths out work (refuses code place) out work
+  pub unmade : (out : List ℕ) (code place : ℕ) → tests ≡ refuses code place
+      → Makes 16 o w h n gray text lengths out work (refuses code place) out work
   unmade out code place e =
       record {
         emits =

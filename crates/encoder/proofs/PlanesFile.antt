@@ -15,8 +15,8 @@ use Rattle.options.specs.declared.EncodeOptions.{EncodeOptions}
 use Rattle.encoder.specs.File.{fileOf}
 use Rattle.encoder.specs.Write.{checkPlanes, wirePlanes, fileOfPlanes}
 use Rattle.encoder.specs.Parts.{Heads}
-use Rattle.encoder.proofs.Headed.{header-some, body-room, file-written, file-refused, behind}
-use Rattle.encoder.proofs.Planed.{planes-length}
+use Rattle.encoder.proofs.HeaderBefore.{header-some, body-room, file-written, file-refused, behind}
+use Rattle.encoder.proofs.PlanesLoop.{planes-length}
 
 -- by what the header's writer answered
 pub answered : {a : Answer (List ℕ)} {body : ℕ} {old mid : List ℕ} (r x : Written) → r ≡ x → Heads a body (written r) old mid
@@ -41,7 +41,8 @@ module _ (o : EncodeOptions) (w h : ℕ) (text lengths old : List ℕ) where
         → Emits (fileOf o w h text lengths body) (gives (start + size)) old (putMid start (length mid - start) mid last)
     filed start mid last c e =
         let p = start-room size start mid c in
-        file-written header (header-some (o .strict) w h (o .ext) text lengths) body old mid _ start (start + size) (ap (λ (k : ℕ). start + k) long)
+        file-written header (header-some (o .strict) w h (o .ext) text lengths) body old mid _ start (start + size)
+        (ap (λ (k : ℕ). start + k) long)
         (resized c) (behind mid body last start (omega arith) e)
 
     pub unfiled : (mid : List ℕ) (code offset : ℕ) → Heads header size (refuses code offset) old mid
@@ -75,7 +76,8 @@ module _ (o : EncodeOptions) (f : PixelFormat) (w h n s : ℕ) (planes text leng
   behind-tests y e = ap (λ (x : Answer (Unit {0})). bind x (λ _. fileOf o w h text lengths (wirePlanes f w h s planes n))) e
 
   pub tests-accept : checkPlanes 16 w h n s (length planes) ≡ gives tt → (r : Answer ℕ) (old new : List ℕ)
-      → Emits (fileOf o w h text lengths (wirePlanes f w h s planes n)) r old new → Emits (fileOfPlanes 16 o f w h n s planes text lengths) r old new
+      → Emits (fileOf o w h text lengths (wirePlanes f w h s planes n)) r old new
+      → Emits (fileOfPlanes 16 o f w h n s planes text lengths) r old new
   tests-accept e r old new m = subst (λ (a : Answer (List ℕ)). Emits a r old new) (sym (behind-tests (gives tt) e)) m
 
   pub tests-refuse : (code offset : ℕ) → checkPlanes 16 w h n s (length planes) ≡ refuses code offset → (old : List ℕ)

@@ -12,12 +12,12 @@ use Rattle.laws.proofs.Lists.{part-append}
 use Rattle.image.specs.Geometry.{neededBytes, checkGeometry}
 use Rattle.image.specs.Rows.{wireBits}
 use Rattle.image.specs.declared.PixelFormat.{PixelFormat}
-use Rattle.image.proofs.Tested as geometry
+use Rattle.image.proofs.GeometryTests as geometry
 use Rattle.options.specs.declared.EncodeOptions.{EncodeOptions}
 use Rattle.encoder.specs.File.{fileOf}
 use Rattle.encoder.specs.Write.{checkPlanes, lentPlane, wirePlanes, fileOfPlanes}
-use Rattle.encoder.proofs.Counted.{accepted}
-use Rattle.encoder.proofs.Tested.{afterGeometry, tested}
+use Rattle.encoder.proofs.CountTests.{accepted}
+use Rattle.encoder.proofs.PlaneTests.{afterGeometry, tested}
 
 module _ (w h s : ℕ) where
   tests-kept : (ceiling n b b′ : ℕ) → b ≤ b′ → checkPlanes ceiling w h n s b ≡ gives tt → checkPlanes ceiling w h n s b′ ≡ gives tt
@@ -40,7 +40,8 @@ module _ (w h s : ℕ) where
         ∙ ap (λ (p : List ℕ). wirePlanes f w h s planes n ++ wireBits f w h s p)
         (part-append (neededBytes w h s) (n * neededBytes w h s) planes ρ (omega arith))
 
-    pub surplus-ignored : (ceiling : ℕ) (o : EncodeOptions) (n : ℕ) (text lengths : List ℕ) → checkPlanes ceiling w h n s (length planes) ≡ gives tt
+    pub surplus-ignored : (ceiling : ℕ) (o : EncodeOptions) (n : ℕ) (text lengths : List ℕ)
+        → checkPlanes ceiling w h n s (length planes) ≡ gives tt
         → fileOfPlanes ceiling o f w h n s (planes ++ ρ) text lengths ≡ fileOfPlanes ceiling o f w h n s planes text lengths
     unfolding fileOfPlanes
     surplus-ignored ceiling o n text lengths e =

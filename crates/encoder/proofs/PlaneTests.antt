@@ -11,11 +11,11 @@ use Rattle.error.specs.Answer.{Answer, gives, refuses, bind, checked}
 use Rattle.error.specs.declared.Checked.{Checked}
 use Rattle.laws.proofs.Tests.{zero-one, if-true, if-false}
 use Rattle.image.specs.Geometry.{rowBytes, planeBytes, neededBytes, checkGeometry}
-use Rattle.image.proofs.Tested.{large}
-use Rattle.image.proofs.Fitting.{Fitting, fits}
+use Rattle.image.proofs.GeometryTests.{large}
+use Rattle.image.proofs.PlaneFits.{PlaneFits, fits}
 use Rattle.encoder.specs.File.{checkCount}
 use Rattle.encoder.specs.Write.{checkPlanes}
-use Rattle.encoder.proofs.Counted.{Counted, counted}
+use Rattle.encoder.proofs.CountTests.{Counted, counted}
 
 module _ (w h n s b : ℕ) where
   -- what is left to test behind the geometry
@@ -38,7 +38,8 @@ module _ (w h n s b : ℕ) where
     pub on-count : (r x : Checked) → checked r ≡ checkCount ceiling w h n → r ≡ x
         → checkPlanes ceiling w h n s b ≡ bind (checked x) (λ _. bind (checkGeometry w h s b) (λ _. afterGeometry))
     unfolding checkPlanes
-    on-count r x p q = ap (λ (y : Answer (Unit {0})). bind y (λ _. bind (checkGeometry w h s b) (λ _. afterGeometry))) (sym p ∙ ap checked q)
+    on-count r x p q =
+        ap (λ (y : Answer (Unit {0})). bind y (λ _. bind (checkGeometry w h s b) (λ _. afterGeometry))) (sym p ∙ ap checked q)
 
     pub on-geometry : (r x : Checked) → checked r ≡ checkGeometry w h s b → r ≡ x
         → bind (checkGeometry w h s b) (λ _. afterGeometry) ≡ bind (checked x) (λ _. afterGeometry)
@@ -59,7 +60,7 @@ pub record Tested (ceiling w h n s b : ℕ) : Type 0 where
   pub frames : Counted ceiling w h n
   pub geometry : checkGeometry w h s b ≡ gives tt
   pub small : neededBytes w h s < 2 ^ 64
-  pub plane : Fitting w h s b
+  pub plane : PlaneFits w h s b
   pub total : n * neededBytes w h s ≤ b
 
 pub tested : (ceiling w h n s b : ℕ) → checkPlanes ceiling w h n s b ≡ gives tt → Tested ceiling w h n s b

@@ -15,7 +15,7 @@ use Rattle.laws.proofs.Products.{up-to}
 use Rattle.image.specs.Geometry.{rowBytes, planeBytes, neededBytes}
 use Rattle.image.specs.Rows.{wireBits}
 use Rattle.image.specs.declared.PixelFormat.{PixelFormat}
-use Rattle.image.proofs.Wiring.{wire-length}
+use Rattle.image.proofs.WireRows.{wire-length}
 use Rattle.encoder.specs.Write.{lentPlane, wirePlanes}
 
 module _ (f : PixelFormat) (w h s : ℕ) where
@@ -41,7 +41,8 @@ pub record Planing (f : PixelFormat) (w h s : ℕ) (planes out₀ : List ℕ) (c
   pub room : count * plane ≤ length out₀
   pub now-is : out ≡ sets out₀ 0 (wirePlanes f w h s planes k)
 
-pub begun : (f : PixelFormat) (w h s : ℕ) (planes out : List ℕ) (count plane needed : ℕ) → plane ≡ planeBytes w h → needed ≡ neededBytes w h s
+pub begun : (f : PixelFormat) (w h s : ℕ) (planes out : List ℕ) (count plane needed : ℕ) → plane ≡ planeBytes w h
+    → needed ≡ neededBytes w h s
     → count * neededBytes w h s ≤ length planes → count * planeBytes w h ≤ length out → Planing f w h s planes out count plane needed out 0
 unfolding wirePlanes
 begun f w h s planes out count plane needed e d a b =

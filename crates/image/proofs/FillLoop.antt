@@ -7,16 +7,16 @@ use native.Mathlib.Omega.{arith}
 use lib.ListN.{length, take, drop, getD, set, length-append, length-take, length-drop}
 use lib.Seq.{length-take-le, take-all, take-suc, drop-cons, drop-length, append-snoc, set-at, getD-at}
 
-pub record Filled (target l₀ l : List ℕ) (i : ℕ) : Type 0 where
+pub record FilledTo (target l₀ l : List ℕ) (i : ℕ) : Type 0 where
   pub same : length target ≡ length l₀
   pub within : i ≤ length l₀
   pub now-is : l ≡ take i target ++ drop i l₀
 
 module _ {target l₀ : List ℕ} where
-  pub begun : length target ≡ length l₀ → Filled target l₀ l₀ 0
+  pub begun : length target ≡ length l₀ → FilledTo target l₀ l₀ 0
   begun e = record { same = e; within = omega arith; now-is = refl }
 
-  module _ {l : List ℕ} {i : ℕ} (f : Filled target l₀ l i) where
+  module _ {l : List ℕ} {i : ℕ} (f : FilledTo target l₀ l i) where
     pub kept-length : length l ≡ length l₀
     kept-length =
         let p : i ≤ length l₀ = f .within in
@@ -33,7 +33,7 @@ module _ {target l₀ : List ℕ} where
     pub next-is : i < length l₀ → getD l i 0 ≡ getD l₀ i 0
     next-is h = ap (λ (r : List ℕ). getD r i 0) (split h) ∙ getD-at (take i target) (getD l₀ i 0) (drop (suc i) l₀) 0 i head-length
 
-    pub filled : (v : ℕ) → i < length l₀ → v ≡ getD target i 0 → Filled target l₀ (set l i v) (i + 1)
+    pub filled : (v : ℕ) → i < length l₀ → v ≡ getD target i 0 → FilledTo target l₀ (set l i v) (i + 1)
     filled v h e =
         record {
           same = f .same;

@@ -15,9 +15,9 @@ use Rattle.image.specs.Geometry.{rowBytes}
 use Rattle.image.specs.Rows.{clearLow, clearPadding, invert, rowAt, convertRow, convertRows, convertFormat}
 use Rattle.image.specs.declared.PixelFormat.{PixelFormat}
 use Rattle.image.specs.declared.PixelFormat.the-variants.{MonoBlack, MonoWhite}
-use Rattle.image.proofs.Cleared.{paddingAt, cleared-at}
-use Rattle.image.proofs.Converting.{rows-next, rows-stop}
-use Rattle.image.proofs.Inverted.{invert-length, invert-at}
+use Rattle.image.proofs.PaddingCleared.{paddingAt, cleared-at}
+use Rattle.image.proofs.ConvertLoop.{rows-next, rows-stop}
+use Rattle.image.proofs.InvertedBytes.{invert-length, invert-at}
 
 -- an index that is not in row y
 abbrev pub Outside : ℕ → ℕ → ℕ → ℕ → Type 0
@@ -50,7 +50,8 @@ module _ (w s : ℕ) (plane : List ℕ) (y : ℕ) (there : y * s + rowBytes w �
       ap (λ (a : ℕ). getD (convertRow w s plane y) (a + m) 0) (sym head-length)
       ∙ getD-append-add (take (y * s) plane) (new-row ++ drop (y * s + rowBytes w) plane) m 0
 
-  pub in-row : (j : ℕ) → j < rowBytes w → getD (convertRow w s plane y) (y * s + j) 0 ≡ clearLow (paddingAt w j) (255 - getD plane (y * s + j) 0)
+  pub in-row : (j : ℕ) → j < rowBytes w
+      → getD (convertRow w s plane y) (y * s + j) 0 ≡ clearLow (paddingAt w j) (255 - getD plane (y * s + j) 0)
   in-row j h =
       from-row j
       ∙ List·getD-append new-row (drop (y * s + rowBytes w) plane) 0 j (omega (arith, new-length))
@@ -80,7 +81,8 @@ abbrev pub AllThere : ℕ → ℕ → ℕ → List ℕ → Type 0
 AllThere w s end plane = (z : ℕ) → z < end → z * s + rowBytes w ≤ length plane
 
 module _ (w s : ℕ) where
-  still-there : (end : ℕ) (plane : List ℕ) (y : ℕ) → y * s + rowBytes w ≤ length plane → AllThere w s end plane → AllThere w s end (convertRow w s plane y)
+  still-there : (end : ℕ) (plane : List ℕ) (y : ℕ) → y * s + rowBytes w ≤ length plane → AllThere w s end plane
+      → AllThere w s end (convertRow w s plane y)
   still-there end plane y h all z l = let e = row-length w s plane y h in let p = all z l in omega arith
 
   pub rows-length : (n y : ℕ) (plane : List ℕ) → AllThere w s (y + n) plane → length (convertRows w s n y plane) ≡ length plane
@@ -99,7 +101,8 @@ module _ (w s : ℕ) where
   rows-outside (suc n) y plane all k out =
       let h : y * s + rowBytes w ≤ length plane = all y (omega arith) in
       ap (λ (l : List ℕ). getD l k 0) (rows-next w s plane y n h)
-      ∙ rows-outside n (y + 1) (convertRow w s plane y) (λ z l. still-there (y + suc n) plane y h all z (omega arith)) k (λ z a b. out z (omega arith) (omega arith))
+      ∙ rows-outside n (y + 1) (convertRow w s plane y) (λ z l. still-there (y + suc n) plane y h all z (omega arith)) k
+      (λ z a b. out z (omega arith) (omega arith))
       ∙ out-of-row w s plane y h k (out y (omega arith) (omega arith))
 
   module _ (wide : rowBytes w ≤ s) (j : ℕ) (short : j < rowBytes w) where

@@ -20,7 +20,7 @@ use Rattle.rules.specs.Diffusion.{part, value, white, residual, valueFrom, hand
 use Rattle.rules.specs.Rule.{dot}
 use Rattle.quantize.specs.Finished.{setting, begunBytes, count, frame, dotOf, bitAt, byteAt, finished}
 use Rattle.encoder.specs.Make.{checkScans, fileOfScans}
-use Rattle.encoder.proofs.Scanned.{passed, passes}
+use Rattle.encoder.proofs.ScanTests.{passed, passes}
 
 -- "Surplus is ignored": samples behind the last scan change nothing
 pub surplus-ignored : (ceiling : ℕ) (o : EncodeOptions) (w h n : ℕ) (gray ρ text lengths : List ℕ) (work : ℕ)

@@ -8,13 +8,14 @@ use lib.Dec.{ltb, leb}
 use lib.ListN.{length}
 use Rattle.error.specs.Choice.{if}
 use Rattle.error.specs.Answer.{Answer, gives, refuses, bind, map}
+use Rattle.laws.proofs.Tests.{if-elim}
 use Rattle.header.specs.Read.{Outline, outline, readHeader}
 use Rattle.options.specs.Limits.{lenient, Decoding, Bound, admits, settled, checkLimits}
 use Rattle.decoder.specs.Body.{planeOf, framesIn}
 use Rattle.decoder.specs.Image.{imageSettings, headerOf, testBody, readImage}
 use Rattle.decoder.specs.Frames.{Image, imageOf, fitted, decoded, decodedBy}
 use Rattle.api.specs.Info.{Info, infoOf, readInfo}
-use Rattle.capi.proofs.Near.{Told, told, Placed, header-placed}
+use Rattle.capi.proofs.HeaderPlaces.{Told, told, Placed, header-placed}
 
 -- of an answer: what it refuses
 abbrev pub Numbered : {A : Type 0} → Answer A → Type 0
@@ -26,8 +27,7 @@ numbered-bind (gives a) k p q = q a
 numbered-bind (refuses code offset) k p q = p
 
 pub pick : {A : Type 0} (t : Bool) (x y : Answer A) → Numbered x → Numbered y → Numbered (if t x y)
-pick true x y p q = p
-pick false x y p q = q
+pick {A} t x y p q = if-elim (λ (a : Answer A). Numbered a) t x y (λ _. p) (λ _. q)
 
 limits-numbered : (d : Decoding) (w h n at : ℕ) → at < 8192 → Numbered (checkLimits d w h n at)
 unfolding checkLimits

@@ -24,7 +24,7 @@ use Rattle.quantize.proofs.Wholes.{refused-none, plane-long}
 use Rattle.quantize.proofs.Joining.{scans-none, scans-long, scans-more}
 use Rattle.encoder.specs.Make.{scanBytes}
 use Rattle.encoder.specs.Scans.{PutsScans}
-use Rattle.encoder.proofs.Scanned.{Passed}
+use Rattle.encoder.proofs.ScanTests.{Passed}
 
 -- a plane is no longer than its scan, and so many are no longer than their scans
 pub planes-le : (n w h : ℕ) → 0 < w → n * planeBytes w h ≤ n * (w * h)
@@ -43,7 +43,8 @@ module _ {ceiling : ℕ} {rule : Quantize} {w h n gray work : ℕ} (p : Passed c
       (sym (refused-none rule w h (length samples) work (λ z. omega arith) (λ z. omega arith) (p .known) (p .room) l))
 
 -- the scans before k are made
-pub record Scanning (rule : Quantize) (w h count : ℕ) (gray : List ℕ) (work₀ : List ℤ) (out₀ : List ℕ) (area plane : ℕ) (work : List ℤ) (out : List ℕ) (k : ℕ) : Type 0 where
+pub record Scanning (rule : Quantize) (w h count : ℕ) (gray : List ℕ) (work₀ : List ℤ) (out₀ : List ℕ) (area plane : ℕ) (work : List ℤ)
+    (out : List ℕ) (k : ℕ) : Type 0 where
   pub passed : Passed 16 rule w h count (length gray) (length work₀)
   pub area-is : area ≡ w * h
   pub plane-is : plane ≡ planeBytes w h
@@ -70,7 +71,8 @@ begun rule w h count gray work out plane p e r =
       spared = λ _. refl;
     }
 
-module _ {rule : Quantize} {w h count : ℕ} {gray : List ℕ} {work₀ : List ℤ} {out₀ : List ℕ} {area plane : ℕ} {work : List ℤ} {out : List ℕ} {k : ℕ}
+module _ {rule : Quantize} {w h count : ℕ} {gray : List ℕ} {work₀ : List ℤ} {out₀ : List ℕ}
+    {area plane : ℕ} {work : List ℤ} {out : List ℕ} {k : ℕ}
     (c : Scanning rule w h count gray work₀ out₀ area plane work out k) where
   abbrev made : List ℕ
   made = scanBytes rule w h gray k
@@ -120,11 +122,13 @@ module _ {rule : Quantize} {w h count : ℕ} {gray : List ℕ} {work₀ : List �
         room = c .room;
         turn = omega arith;
         now-is =
-            emits-part to out v new r fits (subst (λ (a : Answer (List ℕ)). Emits a r (midOf to (length out - to) out) new) given (q .emits))
+            emits-part to out v new r fits
+            (subst (λ (a : Answer (List ℕ)). Emits a r (midOf to (length out - to) out) new) given (q .emits))
             ∙ ap (λ (p : ℕ). sets out p v) front
             ∙ ap (λ (o : List ℕ). sets o (0 + length made) v) (c .now-is)
             ∙ sets-append out₀ 0 made v
-            ∙ ap (sets out₀ 0) (sym (scans-more rule w h gray wide high k (there (c .turn))) ∙ ap (scanBytes rule w h gray) (sym (add-one k)));
+            ∙ ap (sets out₀ 0) (sym (scans-more rule w h gray wide high k (there (c .turn)))
+            ∙ ap (scanBytes rule w h gray) (sym (add-one k)));
         work-long = n ∙ c .work-long;
         beyond = q .beyond ∙ c .beyond;
         spared = λ d. q .spared d ∙ c .spared d;
@@ -134,7 +138,8 @@ module _ {rule : Quantize} {w h count : ℕ} {gray : List ℕ} {work₀ : List �
   ended l =
       let e : k ≡ count = omega (arith, c .turn) in
       let all = scanBytes rule w h gray count in
-      let n : length all ≡ count * planeBytes w h = scans-long rule w h gray (c .passed .sized .wide) (c .passed .sized .high) count (c .passed .enough) in
+      let n : length all ≡ count * planeBytes w h =
+      scans-long rule w h gray (c .passed .sized .wide) (c .passed .sized .high) count (c .passed .enough) in
       record {
         bytes =
             c .now-is ∙ ap (λ (k : ℕ). sets out₀ 0 (scanBytes rule w h gray k)) e

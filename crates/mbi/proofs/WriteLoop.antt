@@ -30,7 +30,8 @@ module _ {v₀ k₀ : ℕ} {out₀ : List ℕ} {v k : ℕ} {out : List ℕ} (f :
         inside = rw length-set (omega (arith, f .inside));
         same = length-set out (k - 1) (128 + v % 128) ∙ f .same;
         whole =
-            ap (above (v / 128)) (drop-set out (k - 1) (128 + v % 128) (omega (arith, f .inside)) ∙ ap (λ (i : ℕ). (128 + v % 128) ∷ drop i out) e)
+            ap (above (v / 128))
+            (drop-set out (k - 1) (128 + v % 128) (omega (arith, f .inside)) ∙ ap (λ (i : ℕ). (128 + v % 128) ∷ drop i out) e)
             ∙ sym (above-group v (drop k out) h) ∙ f .whole;
       }
 
@@ -51,8 +52,10 @@ module _ (value : ℕ) (old : List ℕ) (n : ℕ) (e : n ≡ length (mbiBytes va
         whole = refl;
       }
 
-  pub begun-bytes : above (value / 128) (drop (n - 1) (set old (n - 1) (value % 128))) ≡ mbiBytes value ++ drop (length (mbiBytes value)) old
+  pub begun-bytes : above (value / 128) (drop (n - 1) (set old (n - 1) (value % 128))) ≡ mbiBytes value ++ drop
+      (length (mbiBytes value)) old
   begun-bytes =
       let k : n - 1 + 1 ≡ length (mbiBytes value) = omega (arith, length-bytes value) in
-      ap (above (value / 128)) (drop-set old (n - 1) (value % 128) (omega (arith, length-bytes value)) ∙ ap (λ (i : ℕ). value % 128 ∷ drop i old) k)
+      ap (above (value / 128))
+      (drop-set old (n - 1) (value % 128) (omega (arith, length-bytes value)) ∙ ap (λ (i : ℕ). value % 128 ∷ drop i old) k)
       ∙ sym (bytes-append value (drop (length (mbiBytes value)) old))

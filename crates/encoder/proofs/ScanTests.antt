@@ -13,7 +13,7 @@ use Rattle.options.specs.declared.Quantize.{Quantize}
 use Rattle.rules.specs.Rule.{meaning, roomy, knownRule}
 use Rattle.encoder.specs.File.{checkCount}
 use Rattle.encoder.specs.Make.{checkScans}
-use Rattle.encoder.proofs.Counted.{Counted, counted, accepted}
+use Rattle.encoder.proofs.CountTests.{Counted, counted, accepted}
 
 -- what the tests say of scans that they accept
 pub record Passed (ceiling : ℕ) (rule : Quantize) (w h n gray work : ℕ) : Type 0 where
@@ -59,7 +59,8 @@ module _ (ceiling : ℕ) (rule : Quantize) (w h n gray work : ℕ) where
 
         pub long-enough : n ≤ gray / (w * h) → scans ≡ gives tt
         long-enough l =
-            let s : n * (w * h) ≤ gray = le-or-lt (λ s. let b = div-lt-iff-lt-mul {k = w * h} {x = gray} {y = n} area .1 s in omega arith) in
+            let s : n * (w * h) ≤ gray = le-or-lt
+            (λ s. let b = div-lt-iff-lt-mul {k = w * h} {x = gray} {y = n} area .1 s in omega arith) in
             by-count (gives tt) c ∙ rw (known, room, le-ltb gray (n * (w * h)) s)
           where
             le-or-lt : (gray < n * (w * h) → ⊥) → n * (w * h) ≤ gray

@@ -18,13 +18,13 @@ use Rattle.image.specs.Parts.{clearRows}
 use Rattle.image.specs.Rows.{clearLow, invert, sourceRow, toNative, convertRows, wireBits}
 use Rattle.image.specs.declared.PixelFormat.{PixelFormat}
 use Rattle.image.specs.declared.PixelFormat.the-variants.{MonoBlack, MonoWhite}
-use Rattle.image.proofs.Cleared.{paddingAt}
-use Rattle.image.proofs.Converted.{AllThere, rows-length, rows-outside, rows-inside}
-use Rattle.image.proofs.Inverted.{invert-length, invert-at}
-use Rattle.image.proofs.Masked.{mask-low}
+use Rattle.image.proofs.PaddingCleared.{paddingAt}
+use Rattle.image.proofs.ConvertedBytes.{AllThere, rows-length, rows-outside, rows-inside}
+use Rattle.image.proofs.InvertedBytes.{invert-length, invert-at}
+use Rattle.image.proofs.MaskClears.{mask-low}
 use Rattle.image.proofs.PlaneSizes.{byte-inside}
 use Rattle.image.proofs.WireDots.{wire-byte}
-use Rattle.image.proofs.Wiring.{source-there, source-length, native-length, wire-length}
+use Rattle.image.proofs.WireRows.{source-there, source-length, native-length, wire-length}
 
 module _ (w : ℕ) where
   abbrev row : ℕ
@@ -69,7 +69,8 @@ module _ (w : ℕ) where
 
     -- the last row: byte j of it
     module _ (h : ℕ) (plane : List ℕ) (room : suc h * row ≤ length plane) (j : ℕ) (short : j < row) where
-      by-last : (t : Bool) → eqb j (row - 1) ≡ t → getD (clearRows w (suc h) plane) (h * row + j) 0 ≡ clearLow (paddingAt w j) (getD plane (h * row + j) 0)
+      by-last : (t : Bool) → eqb j (row - 1) ≡ t
+          → getD (clearRows w (suc h) plane) (h * row + j) 0 ≡ clearLow (paddingAt w j) (getD plane (h * row + j) 0)
       unfolding clearRows
       by-last true d =
           let l : j ≡ row - 1 = eqb-true _ _ d in
@@ -107,7 +108,8 @@ module _ (w : ℕ) where
           ∙ by-last h plane room j short (eqb j (row - 1)) refl
           ∙ ap (λ (z : ℕ). clearLow (paddingAt w j) (getD plane (z * row + j) 0)) (sym n)
 
-      pub clear-at : (h y : ℕ) → h * row ≤ length plane → y < h → getD (clearRows w h plane) (y * row + j) 0 ≡ clearLow (paddingAt w j) (getD plane (y * row + j) 0)
+      pub clear-at : (h y : ℕ) → h * row ≤ length plane → y < h
+          → getD (clearRows w h plane) (y * row + j) 0 ≡ clearLow (paddingAt w j) (getD plane (y * row + j) 0)
       clear-at zero y room l = let f : ⊥ = omega arith in absurd f
       clear-at (suc h) y room l =
           let m : suc h * row ≡ h * row + row = omega arith in
@@ -153,7 +155,8 @@ module _ (w h : ℕ) (plane : List ℕ) (room : planeBytes w h ≤ length plane)
   abbrev whole : List ℕ
   whole = convertRows w (rowBytes w) h 0 plane
 
-  row-same : (y j : ℕ) → y < h → j < rowBytes w → 0 < rowBytes w → getD whole (y * rowBytes w + j) 0 ≡ getD (new ++ drop total plane) (y * rowBytes w + j) 0
+  row-same : (y j : ℕ) → y < h → j < rowBytes w → 0 < rowBytes w
+      → getD whole (y * rowBytes w + j) 0 ≡ getD (new ++ drop total plane) (y * rowBytes w + j) 0
   row-same y j l k p =
       let i = y * rowBytes w + j in
       let b : i < total = in-total y j l k in
@@ -184,7 +187,8 @@ module _ (w h : ℕ) (plane : List ℕ) (room : planeBytes w h ≤ length plane)
   pub converts-at-once : new ++ drop total plane ≡ whole
   converts-at-once =
       sym (ext-getD 0 whole (new ++ drop total plane)
-      (rows-length w (rowBytes w) h 0 plane there ∙ sym (length-append new (drop total plane) ∙ simp length-drop (omega (arith, new-length))))
+      (rows-length w (rowBytes w) h 0 plane there
+      ∙ sym (length-append new (drop total plane) ∙ simp length-drop (omega (arith, new-length))))
       (λ k l. byte-same k (ltb k total) refl))
 
   -- a plane of just these bytes
@@ -192,7 +196,8 @@ module _ (w h : ℕ) (plane : List ℕ) (room : planeBytes w h ≤ length plane)
   all-at-once e =
       let t : take total plane ≡ plane = take-all total plane (omega arith) in
       let d : drop total plane ≡ [] = ap (λ (n : ℕ). drop n plane) (sym e) ∙ drop-length plane in
-      ap (λ (l : List ℕ). clearRows w h (invert l)) (sym t) ∙ sym (append-nil new) ∙ ap (λ (l : List ℕ). new ++ l) (sym d) ∙ converts-at-once
+      ap (λ (l : List ℕ). clearRows w h (invert l)) (sym t) ∙ sym (append-nil new) ∙ ap (λ (l : List ℕ). new ++ l) (sym d)
+      ∙ converts-at-once
 
   -- ---- the wire
 
@@ -203,7 +208,8 @@ module _ (w h : ℕ) (plane : List ℕ) (room : planeBytes w h ≤ length plane)
     wires-length : length wires ≡ total
     wires-length = clear-length w h (toNative f (take total plane)) ∙ native-length f (take total plane) ∙ front-length
 
-    source-same : (y j : ℕ) → y < h → j < rowBytes w → getD (sourceRow (rowBytes w) (rowBytes w) plane y) j 0 ≡ getD (take total plane) (y * rowBytes w + j) 0
+    source-same : (y j : ℕ) → y < h → j < rowBytes w
+        → getD (sourceRow (rowBytes w) (rowBytes w) plane y) j 0 ≡ getD (take total plane) (y * rowBytes w + j) 0
     source-same y j l k =
         ap (λ (r : List ℕ). getD r j 0) (source-there (rowBytes w) (rowBytes w) plane y (there y (omega arith)))
         ∙ getD-take (rowBytes w) (drop (y * rowBytes w) plane) j 0 k

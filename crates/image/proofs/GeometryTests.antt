@@ -25,7 +25,13 @@ module _ (w h s n : ℕ) where
         pub large : 2 ^ 64 ≤ neededBytes w h s → checkGeometry w h s n ≡ refuses 27 0
         unfolding checkGeometry
         large p =
-            rw (ne-eqb w 0 (λ z. omega arith), ne-eqb h 0 (λ z. omega arith), le-ltb s (rowBytes w) row, le-leb (2 ^ 64) (neededBytes w h s) p)
+            rw (
+              ne-eqb w 0 (λ z. omega arith),
+              ne-eqb h 0 (λ z. omega arith),
+              le-ltb s (rowBytes w) row,
+              le-leb (2 ^ 64)
+                  (neededBytes w h s) p,
+            )
 
         module _ (small : neededBytes w h s < 2 ^ 64) where
           pub short : n < neededBytes w h s → checkGeometry w h s n ≡ refuses 20 0

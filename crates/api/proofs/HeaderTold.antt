@@ -15,7 +15,14 @@ use Rattle.api.specs.Sniff.{sniffHeader, sniffed}
 -- what a header tells of a file of so many frames
 abbrev pub framed : ParsedHeader → ℕ → Info
 framed h n =
-    record { width = h .width; height = h .height; frames = n; fix = h .«fix_header»; fields = extSpan (h .«ext_fields»); body = h .«data_offset» }
+    record {
+      width = h .width;
+      height = h .height;
+      frames = n;
+      fix = h .«fix_header»;
+      fields = extSpan (h .«ext_fields»);
+      body = h .«data_offset»;
+    }
 
 module _ (s : List ℕ) (r x : HeaderRead) where
   pub info-on : meaning r ≡ map outline (readHeader (extInner false) s) → r ≡ x → readInfo s ≡ map (infoOf (length s)) (meaning x)

@@ -13,7 +13,7 @@ use Rattle.mbi.proofs.Step.{known}
 use Rattle.mbi.proofs.Continuation.{rest-cons}
 
 -- v was read at an offset of s, and e is the offset after it
-pub record Within (s : List ℕ) (at v e : ℕ) : Type 0 where
+pub record IntegerBounds (s : List ℕ) (at v e : ℕ) : Type 0 where
   pub small : v < 4294967296
   pub after : at < e
   pub inside : e ≤ length s
@@ -45,7 +45,7 @@ rest-within strict (b ∷ τ) at u n v e h =
         record { small = omega (arith, t .small); after = omega arith; inside = omega arith; few = omega (arith, t .few) }
     go (wrong code i) p k ih = zero-one (cc)
 
-pub mbi-within : (strict : Bool) (s : List ℕ) (at v e : ℕ) → readMbi strict s at ≡ gives (v, e) → Within s at v e
+pub mbi-within : (strict : Bool) (s : List ℕ) (at v e : ℕ) → readMbi strict s at ≡ gives (v, e) → IntegerBounds s at v e
 mbi-within strict s at v e h =
     let f = rest-within strict (drop at s) at 0 0 v e h in
     record {
@@ -56,6 +56,6 @@ mbi-within strict s at v e h =
     }
 
 -- six 80 then 05
-example : Within (128 ∷ 128 ∷ 128 ∷ 128 ∷ 128 ∷ 128 ∷ 5 ∷ []) 0 5 7
+example : IntegerBounds (128 ∷ 128 ∷ 128 ∷ 128 ∷ 128 ∷ 128 ∷ 5 ∷ []) 0 5 7
 unfolding readRest readByte
 example = mbi-within false (128 ∷ 128 ∷ 128 ∷ 128 ∷ 128 ∷ 128 ∷ 5 ∷ []) 0 5 7 refl

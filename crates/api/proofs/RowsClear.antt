@@ -14,7 +14,7 @@ use lib.ListN.{getD}
 use Rattle.laws.proofs.Tests.{and-false}
 use Rattle.image.specs.Geometry.{rowBytes, paddingBits, paddingMask}
 use Rattle.image.specs.Rows.{clearLow}
-use Rattle.image.proofs.Masked.{mask-low}
+use Rattle.image.proofs.MaskClears.{mask-low}
 use Rattle.api.specs.Sniff.{isClear, areClear}
 
 -- the last byte of row y is in the body
@@ -37,7 +37,9 @@ module _ (width : ℕ) (body : List ℕ) where
         ∙ ap (λ (n : ℕ). clearLow (paddingBits width) (last n y)) r
 
     pub tested : eqb (bitAnd (last row y) mask) (last row y) ≡ isClear width body y
-    tested = ap (λ (n : ℕ). eqb n (last row y)) masked ∙ ap (λ (n : ℕ). eqb (clearLow (paddingBits width) (last (rowBytes width) y)) (last n y)) r
+    tested =
+        ap (λ (n : ℕ). eqb n (last row y)) masked
+        ∙ ap (λ (n : ℕ). eqb (clearLow (paddingBits width) (last (rowBytes width) y)) (last n y)) r
 
   pub none : true ≡ areClear width body 0
   unfolding areClear
@@ -47,7 +49,8 @@ module _ (width : ℕ) (body : List ℕ) where
   unfolding areClear
   one-more y p q = rw (add-one y, ← p, q)
 
-  pub four : (y : ℕ) → true ≡ areClear width body y → isClear width body y ≡ true → isClear width body (y + 1) ≡ true → isClear width body (y + 2) ≡ true
+  pub four : (y : ℕ) → true ≡ areClear width body y → isClear width body y ≡ true → isClear width body (y + 1) ≡ true
+      → isClear width body (y + 2) ≡ true
       → isClear width body (y + 3) ≡ true → true ≡ areClear width body (y + 4)
   four y p a b c d =
       let q = one-more (y + 1) (one-more y p a) b in

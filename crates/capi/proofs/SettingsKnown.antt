@@ -35,6 +35,13 @@ module _ (f s w h p b : ℕ) where
 
   pub known : (format : PixelFormat) (mode : Mode) (mw mh mp mb : Bound) → formatOf f ≡ gives format → strictOf s ≡ gives mode
       → mw ≡ limitOf (2 ^ 32 - 1) w → mh ≡ limitOf (2 ^ 32 - 1) h → mp ≡ limitOf (2 ^ 64 - 1) p → mb ≡ limitOf (2 ^ 64 - 1) b
-      → gives (record { maxWidth = mw; maxHeight = mh; maxPixels = mp; maxBytes = mb; mode = mode; format = format }) ≡ settingsOf f s w h p b
+      → gives (record {
+        maxWidth = mw;
+        maxHeight = mh;
+        maxPixels = mp;
+        maxBytes = mb;
+        mode = mode;
+        format = format;
+      }) ≡ settingsOf f s w h p b
   unfolding settingsOf
   known format mode mw mh mp mb e m ew eh ep eb = rw (e, m, ew, eh, ep, eb)

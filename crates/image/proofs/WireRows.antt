@@ -20,8 +20,9 @@ use Rattle.image.specs.Rows.{clearPadding, rowAt, isPresent, sourceRow, 
 use Rattle.image.specs.declared.PixelFormat.{PixelFormat}
 use Rattle.image.specs.declared.PixelFormat.the-variants.{MonoBlack, MonoWhite}
 use Rattle.image.specs.declared.PlaneLayout.{PlaneLayout}
-use Rattle.image.proofs.Inverted.{invert-length}
-use Rattle.image.proofs.Masked.{bytes-source, bytes-native, mask-clears}
+use Rattle.image.proofs.InvertedBytes.{invert-length}
+use Rattle.image.proofs.MaskClears.{bytes-source, bytes-native, mask-clears}
+use Rattle.image.proofs.PlaneSizes as sizes
 
 module _ (n s : ℕ) (plane : List ℕ) (y : ℕ) where
   pub source-there : y * s + n ≤ length plane → sourceRow n s plane y ≡ rowAt n s plane y
@@ -68,15 +69,16 @@ unfolding wireBits
 begun plane w h s f out l e k =
     let m = mul-comm (rowBytes w) h in
     record {
-      row-is = ap (λ (l : PlaneLayout). l .stride) e;
-      mask-is = ap (λ (l : PlaneLayout). l .«last_byte_pad_mask») e;
+      row-is = sizes.stride-is e;
+      mask-is = sizes.mask-is e;
       turn = omega arith;
       place = omega arith;
       room = omega arith;
       now-is = refl;
     }
 
-module _ {plane : List ℕ} {w h s : ℕ} {f : PixelFormat} {out₀ : List ℕ} {row mask : ℕ} {out : List ℕ} {at y : ℕ} (c : Wiring plane w h s f out₀ row mask out at y) where
+module _ {plane : List ℕ} {w h s : ℕ} {f : PixelFormat} {out₀ : List ℕ} {row mask : ℕ} {out : List ℕ} {at y : ℕ}
+    (c : Wiring plane w h s f out₀ row mask out at y) where
   pub kept-length : length out ≡ length out₀
   kept-length =
       let p = wire-length f w s plane y in
@@ -102,7 +104,8 @@ module _ {plane : List ℕ} {w h s : ℕ} {f : PixelFormat} {out₀ : List ℕ} 
       let n : at + row - at ≡ rowBytes w = omega (arith, c .row-is) in
       let mid : length (midOf at (at + row - at) out) ≡ rowBytes w = mid-len at (at + row) out (next-fits k) ∙ n in
       let row-new : new ≡ wireRow f w s plane y =
-      e ∙ rw (mid, c .mask-is) (mask-clears w (toNative f (sourceRow (rowBytes w) s plane y)) (bytes-native f _ (bytes-source (rowBytes w) s plane y b))) in
+      e ∙ rw (mid, c .mask-is)
+      (mask-clears w (toNative f (sourceRow (rowBytes w) s plane y)) (bytes-native f _ (bytes-source (rowBytes w) s plane y b))) in
       let front : length (wireBits f w y s plane) ≡ at = wire-length f w s plane y ∙ sym (c .place) in
       record {
         row-is = c .row-is;
@@ -111,7 +114,15 @@ module _ {plane : List ℕ} {w h s : ℕ} {f : PixelFormat} {out₀ : List ℕ} 
         place = let m : (y + 1) * rowBytes w ≡ y * rowBytes w + rowBytes w = omega arith in omega (arith, c .place, c .row-is);
         room = c .room;
         now-is =
-            rw (post-is at (at + row) out (omega arith), c .now-is, take-at (wireBits f w y s plane) (drop at out₀) at front, back front, row-new, add-one y)
+            rw (
+              post-is at (at + row) out (omega arith),
+              c .now-is,
+              take-at (wireBits f w y s plane)
+                  (drop at out₀) at front,
+              back front,
+              row-new,
+              add-one y,
+            )
             (sym (append-assoc (wireBits f w y s plane) (wireRow f w s plane y) (drop (at + row) out₀)));
       }
 

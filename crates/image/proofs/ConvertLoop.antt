@@ -12,9 +12,10 @@ use Rattle.image.specs.Parts.{maskLast}
 use Rattle.image.specs.Rows.{invert, rowAt, clearPadding, convertRow, convertRows, convertFormat}
 use Rattle.image.specs.declared.PixelFormat.{PixelFormat}
 use Rattle.image.specs.declared.PlaneLayout.{PlaneLayout}
-use Rattle.image.proofs.Inverted.{invert-length}
-use Rattle.image.proofs.Masked.{bytes-inverted, mask-clears}
-use Rattle.image.proofs.Starts.{Started}
+use Rattle.image.proofs.InvertedBytes.{invert-length}
+use Rattle.image.proofs.MaskClears.{bytes-inverted, mask-clears}
+use Rattle.image.proofs.PlaneSizes as sizes
+use Rattle.image.proofs.RowStarts.{Started}
 
 -- what is left to convert gives what converting everything gives
 pub record Converting (plane₀ : List ℕ) (w h s row mask : ℕ) (plane : List ℕ) (y : ℕ) : Type 0 where
@@ -28,8 +29,8 @@ pub begun : (plane : List ℕ) (w h s : ℕ) (l : PlaneLayout) → l ≡ layoutO
     → Converting plane w h s (l .stride) (l .«last_byte_pad_mask») plane 0
 begun plane w h s l e =
     record {
-      row-is = ap (λ (l : PlaneLayout). l .stride) e;
-      mask-is = ap (λ (l : PlaneLayout). l .«last_byte_pad_mask») e;
+      row-is = sizes.stride-is e;
+      mask-is = sizes.mask-is e;
       turn = omega arith;
       same = refl;
       rest = let n : h - 0 ≡ h = omega arith in rw n;

@@ -8,7 +8,7 @@ use borrow.Author.Tests.{eqb-false, leb-false}
 use lib.Dec.{ltb, leb, eqb}
 use Rattle.error.specs.Choice.{if}
 use Rattle.error.specs.Answer.{Answer, gives, refuses, map}
-use Rattle.laws.proofs.Tests.{zero-one}
+use Rattle.laws.proofs.Tests.{zero-one, if-elim}
 use Rattle.mbi.specs.Read.{ByteRead, goes, ends, wrong, readByte}
 use Rattle.ext.specs.Kinds.{fieldsFollow, kindBits}
 use Rattle.ext.specs.Classes.{isChar, isAlphaDigit}
@@ -76,7 +76,9 @@ wrong-told strict at v n b code offset h e =
     is c p t x y = told (omega (arith, t .some)) (omega (arith, t .small)) (omega (arith, t .near))
 
     go : (t1 t2 t3 t4 : Bool)
-        → if t1 (wrong 4 at) (if t2 (wrong 2 (at + 1)) (if t3 (wrong 3 (at + 1)) (if t4 (ends (v * 128 + b % 128)) (goes (v * 128 + b % 128))))) ≡ wrong code offset
+        → if t1 (wrong 4 at)
+        (if t2 (wrong 2 (at + 1))
+        (if t3 (wrong 3 (at + 1)) (if t4 (ends (v * 128 + b % 128)) (goes (v * 128 + b % 128))))) ≡ wrong code offset
         → Told code offset
     go true t2 t3 t4 q = is 4 at (told (omega arith) (omega arith) (omega arith)) (cc) (cc)
     go false true t3 t4 q = is 2 (at + 1) (told (omega arith) (omega arith) (omega arith)) (cc) (cc)
@@ -91,8 +93,7 @@ Tells (done h) = h .body < 8192
 Tells (refused code offset) = Told code offset
 
 pick : (t : Bool) (x y : Step) → Tells x → (t ≡ false → Tells y) → Tells (if t x y)
-pick true x y p q = p
-pick false x y p q = q refl
+pick t x y p q = if-elim Tells t x y (λ _. p) q
 
 module _ (o : Settings) where
   number : (at v n b : ℕ) (r : ByteRead) (g l : ℕ → Step) → at < 8191 → readByte (o .shortest) at v n b ≡ r

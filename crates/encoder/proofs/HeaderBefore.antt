@@ -12,6 +12,7 @@ use lib.Seq.{sets, length-take-le, take-all, take-at, drop-at, drop-append-le}
 use Rattle.error.specs.Choice.{if}
 use Rattle.error.specs.Answer.{Answer, gives, refuses, bind, map}
 use Rattle.error.specs.Emits.{Emits}
+use Rattle.laws.proofs.Emitted.{emits-length}
 use Rattle.laws.proofs.Tests.{zero-one}
 use Rattle.laws.proofs.Runs.{sets-append, sets-front, sets-part}
 use Rattle.laws.proofs.Writers.{emits-none, emits-all}
@@ -21,17 +22,6 @@ use Rattle.ext_write.specs.Write.{fieldsBytes}
 use Rattle.header.specs.Write.{fixByte, sizeBytes, headerBytes, fieldsHeader, presented, extHeader}
 use Rattle.header.specs.declared.ExtPresence.{ExtPresence}
 use Rattle.encoder.specs.Parts.{Heads}
-
--- a writer leaves as many bytes as it was lent
-pub emits-length : (a : Answer (List ℕ)) (r : Answer ℕ) (old new : List ℕ) → Emits a r old new → length new ≡ length old
-emits-length (gives bytes) r old new e = go (leb (length bytes) (length old)) refl (e .bytes)
-  where
-    go : (t : Bool) → leb (length bytes) (length old) ≡ t → new ≡ if t (bytes ++ drop (length bytes) old) old → length new ≡ length old
-    go true p q =
-        let h = leb-true (length bytes) (length old) p in
-        ap length q ∙ length-append bytes (drop (length bytes) old) ∙ simp length-drop (omega arith)
-    go false p q = ap length q
-emits-length (refuses code offset) r old new e = ap length (e .bytes)
 
 module _ (a : Answer (List ℕ)) (body : ℕ) (old : List ℕ) where
   abbrev room : ℕ
@@ -80,7 +70,8 @@ module _ (header : List ℕ) (some : 0 < length header) (body : ℕ) (old : List
     where
       go : (t : Bool) → leb (length header) (length (take (length old - body) old)) ≡ t
           → gives n ≡ if t (gives (length header)) (refuses 25 0)
-          → take (length old - body) mid ≡ if t (header ++ drop (length header) (take (length old - body) old)) (take (length old - body) old)
+          → take (length old - body) mid ≡ if t (header ++ drop (length header) (take (length old - body) old))
+          (take (length old - body) old)
           → Fronted header body old n mid
       go true p q e =
           let k = leb-true (length header) (length (take (length old - body) old)) p in
@@ -132,7 +123,8 @@ module _ (a : Answer (List ℕ)) (some : (header : List ℕ) → a ≡ gives hea
       go (refuses code offset) e c = zero-one (cc (c .front .answer))
 
 -- what a function leaves that was lent the output behind the header
-pub behind : (mid body last : List ℕ) (n : ℕ) → n + length body ≤ length mid → last ≡ body ++ drop (length body) (midOf n (length mid - n) mid)
+pub behind : (mid body last : List ℕ) (n : ℕ) → n + length body ≤ length mid
+    → last ≡ body ++ drop (length body) (midOf n (length mid - n) mid)
     → putMid n (length mid - n) mid last ≡ sets mid n body
 behind mid body last n h e =
     let d : midOf n (length mid - n) mid ≡ drop n mid = take-all (length mid - n) (drop n mid) (rw (length-drop n mid) (omega arith)) in
@@ -159,7 +151,8 @@ file-refused (refuses code′ offset′) body old mid code offset c =
     record { answer = c .front .answer; bytes = unaltered (refuses code′ offset′) (length body) old c (c .front .bytes) }
 
 -- a header is never empty
-pub header-some : (strict : Bool) (w h : ℕ) (p : ExtPresence) (text lengths header : List ℕ) → extHeader strict w h p text lengths ≡ gives header
+pub header-some : (strict : Bool) (w h : ℕ) (p : ExtPresence) (text lengths header : List ℕ)
+    → extHeader strict w h p text lengths ≡ gives header
     → 0 < length header
 header-some strict w h p text lengths header =
     go (eqb w 0 || eqb h 0) (presented p text lengths)

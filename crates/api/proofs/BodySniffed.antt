@@ -1,0 +1,31 @@
+-- Sniffing a body, by what was found in it.
+use Prim.Native.Nat.{ℕ, _/_, _≤_, _<_}
+use mathlib.Core.Path.{_≡_, sym, ap, _∙_, subst}
+use mathlib.Core.Bool.{true, false}
+use mathlib.Core.List.{List}
+use borrow.Author.Tests.{le-leb, lt-leb}
+use lib.ListN.{length}
+use Rattle.image.proofs.PlaneSizes.{stride-is, total-is}
+use Rattle.image.specs.Geometry.{rowBytes, layoutOf}
+use Rattle.image.specs.declared.PlaneLayout.{PlaneLayout}
+use Rattle.api.specs.Sniff.{areClear, sniffLength, sniffBody}
+use Rattle.api.specs.declared.Sniffed.the-variants.{Neither}
+
+module _ (w h : ℕ) (body : List ℕ) (l : PlaneLayout) (made : l ≡ layoutOf w h) where
+  pub no-row : length body < l .stride → sniffBody w h body ≡ Neither
+  unfolding sniffBody
+  no-row k = rw (lt-leb (rowBytes w) (length body) (subst (λ (n : ℕ). length body < n) (stride-is made) k))
+
+  module _ (room : l .stride ≤ length body) where
+    fits : rowBytes w ≤ length body
+    fits = subst (λ (n : ℕ). n ≤ length body) (stride-is made) room
+
+    pub dirty : areClear w body (length body / l .stride) ≡ false → sniffBody w h body ≡ Neither
+    unfolding sniffBody
+    dirty e = rw (le-leb (rowBytes w) (length body) fits, sym (ap (λ (n : ℕ). areClear w body (length body / n)) (stride-is made)) ∙ e)
+
+    pub clean : areClear w body (length body / l .stride) ≡ true → sniffBody w h body ≡ sniffLength (l .«total_bytes») (length body)
+    unfolding sniffBody
+    clean e =
+        rw (le-leb (rowBytes w) (length body) fits, sym (ap (λ (n : ℕ). areClear w body (length body / n)) (stride-is made)) ∙ e)
+        (ap (λ (n : ℕ). sniffLength n (length body)) (sym (total-is made)))
