@@ -15,7 +15,7 @@ use Rattle.mbi.proofs.Step.{ends-by, goes-by}
 use Rattle.ext.specs.Kinds.{absent, kindBits}
 use Rattle.header.specs.Settings.{inner}
 use Rattle.header.specs.Read.{outline, readHeader, readFix, readAfterFix, outlineSizes, outlineHeight, sized}
-use Rattle.header.proofs.Descent.{no-fields}
+use Rattle.header.proofs.HeaderParts.{no-fields}
 use Rattle.api.specs.declared.front.Front.{Front}
 use Rattle.api.specs.declared.front.Front.the-variants.{Sizes, Unread}
 use Rattle.api.specs.Parts.{plain, Heights, Fronts}

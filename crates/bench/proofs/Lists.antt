@@ -14,7 +14,7 @@ use Rattle.error.specs.Emits.{emitted}
 use Rattle.laws.proofs.Tests.{if-true, if-false, zero-one}
 use Rattle.ext_write.specs.Write.{fieldsBytes}
 use Rattle.header.specs.Write.{headerBytes}
-use Rattle.header.proofs.Put.{header-length, sizes-ten}
+use Rattle.header.proofs.HeaderBytes.{header-length, sizes-ten}
 use Rattle.header.specs.declared.ExtPresence.the-variants.{Absent}
 use Rattle.image.specs.declared.PixelFormat.{PixelFormat}
 use Rattle.options.specs.Limits.{Decoding, settled, decoding}

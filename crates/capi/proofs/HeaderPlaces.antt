@@ -19,8 +19,8 @@ use Rattle.header_reader.specs.Machine.{State, inType, atFix, inOctets, atOctet
 use Rattle.header_reader.specs.Represents.{Sound}
 use Rattle.header_reader.specs.Pieces.{onward}
 use Rattle.header_reader.proofs.Machine.{steps-cons, steps-all}
-use Rattle.header_reader.proofs.Keeps.{SoundStep, sound-step, sound-start}
-use Rattle.header_reader.proofs.Ends.{endCode, endOffset, end-is}
+use Rattle.header_reader.proofs.StepSound.{SoundStep, sound-step, sound-start}
+use Rattle.header_reader.proofs.EndRefusal.{endCode, endOffset, end-is}
 use Rattle.header_reader.proofs.Direct.{direct}
 
 pub record Told (code offset : ℕ) : Type 0 where

@@ -17,7 +17,7 @@ use Rattle.header_reader.specs.Known.{Knows}
 use Rattle.header_reader.specs.declared.FieldsSeen.{FieldsSeen}
 use Rattle.header.specs.declared.ParsedHeader.{ParsedHeader}
 use Rattle.header_reader.specs.declared.reader.HeaderReader.{HeaderReader}
-use Rattle.header_reader.proofs.Ends.{endCode, endOffset}
+use Rattle.header_reader.proofs.EndRefusal.{endCode, endOffset}
 use Rattle.header_reader.proofs.KnownFields.{known-so, known-header}
 use Rattle.options.specs.Limits.{ceilingOf}
 use Rattle.decoder.specs.Body.{planeOf}

@@ -12,7 +12,7 @@ use Rattle.error.specs.Answer.{Answer, gives, refuses, map}
 use Rattle.error.specs.declared.WbmpError.{WbmpError}
 use Rattle.laws.proofs.Tests.{if-true, if-false}
 use Rattle.header.specs.Read.{Outline}
-use Rattle.header_reader.specs.Represents.{Ended}
+use Rattle.header_reader.specs.Represents.{ReaderEnded}
 use Rattle.header_reader.specs.declared.FieldsSeen.{FieldsSeen}
 use Rattle.header.specs.declared.ParsedHeader.{ParsedHeader}
 use Rattle.header_reader.specs.declared.reader.HeaderReader.{HeaderReader}
@@ -93,7 +93,7 @@ module _ {m : Model} {h : Outline} {whole begun : ℕ} (b : InBody m h whole beg
   at-most = ⊎-elim (λ v. omega (arith, v .0, ceiling-few settles)) (λ v. omega (arith, v .0, ceiling-few settles)) (b .place)
 
 module _ (s : Stage) where
-  pub finish-header : (r : HeaderReader) (at kept : ℕ) (e : WbmpError) → s ≡ Stage.Header r at kept → Ended r e
+  pub finish-header : (r : HeaderReader) (at kept : ℕ) (e : WbmpError) → s ≡ Stage.Header r at kept → ReaderEnded r e
       → Finishes s (DecodeClose.Refused e)
   finish-header r at kept e g d =
       record {

@@ -23,7 +23,7 @@ use Rattle.header_reader.specs.Machine.{State, inType, atFix, inOctets, atOctet
 use Rattle.header_reader.specs.Represents.{Sound}
 use Rattle.header_reader.specs.Pieces.{onward}
 use Rattle.header_reader.proofs.Machine.{steps-cons}
-use Rattle.header_reader.proofs.Keeps.{SoundStep, sound-step, value-kept}
+use Rattle.header_reader.proofs.StepSound.{SoundStep, sound-step, value-kept}
 use Rattle.decode_session.specs.Extension.{fieldsEnd, fieldBytesAt, afterType, fieldBytes}
 use Rattle.decode_session.proofs.Zones.{Zone, before, inside, behind, zone}
 

@@ -19,8 +19,8 @@ use Rattle.header_reader.specs.Machine.{State, start, inFields, Step, more, don
 use Rattle.header_reader.specs.Represents.{Sound}
 use Rattle.header_reader.specs.Pieces.{onward}
 use Rattle.header_reader.proofs.Machine.{steps-cons}
-use Rattle.header_reader.proofs.Keeps.{SoundStep, sound-step, sound-steps, sound-start}
-use Rattle.header_reader.proofs.Taken.{taken, Moves, moves-step, taken-steps}
+use Rattle.header_reader.proofs.StepSound.{SoundStep, sound-step, sound-steps, sound-start}
+use Rattle.header_reader.proofs.BytesTaken.{taken, Moves, moves-step, taken-steps}
 use Rattle.decode_session.specs.Extension.{fieldBytes}
 use Rattle.decode_session.proofs.Zones.{Zone, before, inside, behind, zone, isInside, inside-is, Next, early, enters, skips, runs}
 use Rattle.decode_session.proofs.Zones.{leaves, late, Stops, Moved, zone-step}

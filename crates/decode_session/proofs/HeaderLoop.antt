@@ -13,15 +13,15 @@ use Rattle.error.specs.declared.WbmpError.{WbmpError}
 use Rattle.header.specs.Settings.{Settings}
 use Rattle.header.specs.Read.{Outline, outline, readHeader}
 use Rattle.header_reader.specs.Machine.{State, start, inFields, Step, more, done, refused, stepOf, steps, after, resume}
-use Rattle.header_reader.specs.Represents.{Represents, Answers, Stepped}
+use Rattle.header_reader.specs.Represents.{Represents, Answers, ReaderStepped}
 use Rattle.header_reader.specs.Pieces.{onward}
 use Rattle.header.specs.declared.ParsedHeader.{ParsedHeader}
 use Rattle.header_reader.specs.declared.reader.HeaderReader.{HeaderReader}
 use Rattle.header_reader.specs.declared.reader.HeaderStep.{HeaderStep}
 use Rattle.header_reader.proofs.Machine.{one-step, steps-cons, steps-law, steps-append}
 use Rattle.header_reader.proofs.Direct.{direct}
-use Rattle.header_reader.proofs.Keeps.{SoundStep, sound-step}
-use Rattle.header_reader.proofs.Taken.{Moves, taken, moves-step}
+use Rattle.header_reader.proofs.StepSound.{SoundStep, sound-step}
+use Rattle.header_reader.proofs.BytesTaken.{Moves, taken, moves-step}
 use Rattle.decode_session.specs.Extension.{fieldBytes}
 use Rattle.decode_session.specs.Head.{Reached, Ends, Heads, isKept, Keeps}
 use Rattle.decode_session.specs.declared.head.HeadFed.{HeadFed}
@@ -42,7 +42,7 @@ pub record Turn (piece : List ℕ) (at i : ℕ) (r : HeaderReader) (count : ℕ)
   pub inside : Bool
   pub wanted : Bool
   pub tells : (o : Settings) (st : State) → Represents r o st → inside ≡ inFields st
-  pub stepped : Stepped r (getD piece i 0) x
+  pub stepped : ReaderStepped r (getD piece i 0) x
   pub wants : wanted ≡ isKept inside (at + i) x
   pub keeps : Keeps count (getD piece i 0) wanted ext count′ ext′
 

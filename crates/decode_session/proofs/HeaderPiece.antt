@@ -15,7 +15,7 @@ use Rattle.header_reader.specs.Known.{Knows}
 use Rattle.header_reader.specs.declared.FieldsSeen.{FieldsSeen}
 use Rattle.header.specs.declared.ParsedHeader.{ParsedHeader}
 use Rattle.header_reader.specs.declared.reader.HeaderReader.{HeaderReader}
-use Rattle.header_reader.proofs.Ends.{endCode, endOffset, end-code}
+use Rattle.header_reader.proofs.EndRefusal.{endCode, endOffset, end-code}
 use Rattle.options.specs.declared.DecodeOptions.{DecodeOptions}
 use Rattle.options.specs.Limits.{ceilingOf}
 use Rattle.decoder.specs.Image.{imageSettings, headerOf}

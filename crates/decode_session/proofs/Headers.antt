@@ -14,9 +14,9 @@ use Rattle.header_reader.specs.Represents.{Sound}
 use Rattle.header_reader.specs.declared.reader.HeaderReader.{HeaderReader}
 use Rattle.header_reader.proofs.Machine.{steps-cons, steps-law, steps-all}
 use Rattle.header_reader.proofs.Direct.{direct}
-use Rattle.header_reader.proofs.Meets.{finds, found}
-use Rattle.header_reader.proofs.Ends.{endCode, endOffset, end-is}
-use Rattle.header_reader.proofs.Taken.{taken, Moves, moves-step, taken-steps}
+use Rattle.header_reader.proofs.RefusalMet.{finds, found}
+use Rattle.header_reader.proofs.EndRefusal.{endCode, endOffset, end-is}
+use Rattle.header_reader.proofs.BytesTaken.{taken, Moves, moves-step, taken-steps}
 use Rattle.decode_session.specs.Head.{Reached}
 
 module _ (o : Settings) where

@@ -14,11 +14,11 @@ use Rattle.header.specs.Settings.{Settings}
 use Rattle.header_reader.specs.Machine.{State, start, inType, atFix, inOctets, atOctet, atPair, inIdentifier, inValue, inWidth, inHeight, inFields, Step, more, steps}
 use Rattle.header_reader.specs.Represents.{Sound}
 use Rattle.header_reader.specs.Pieces.{onward}
-use Rattle.header_reader.specs.Run.{fieldsStart, Inside, Ran, Runs}
+use Rattle.header_reader.specs.Run.{fieldsStart, Inside, RunReached, ReaderRuns}
 use Rattle.header_reader.specs.declared.reader.HeaderReader.{HeaderReader}
 use Rattle.header_reader.specs.declared.reader.HeaderRun.{HeaderRun}
 use Rattle.header_reader.proofs.Machine.{steps-append}
-use Rattle.header_reader.proofs.Taken.{taken}
+use Rattle.header_reader.proofs.BytesTaken.{taken}
 use Rattle.decode_session.specs.Extension.{fieldBytes}
 use Rattle.decode_session.specs.Head.{Reached}
 use Rattle.decode_session.specs.HeadRun.{KeepsRun, RunsOn}
@@ -93,17 +93,17 @@ in-bounds (inHeight fix f w at v n) e s = zero-one (cc)
 
 -- what the code does from byte i on
 pub runs-on : (r₀ : HeaderReader) (kept i : ℕ) (piece ext : List ℕ) (x : HeaderRun) (count : ℕ) (ext′ : List ℕ) → i ≤ length piece
-    → Runs r₀ (take (length piece - i) (drop i piece)) x → KeepsRun kept (take (i + x .taken - i) (drop i piece)) ext count ext′
+    → ReaderRuns r₀ (take (length piece - i) (drop i piece)) x → KeepsRun kept (take (i + x .taken - i) (drop i piece)) ext count ext′
     → RunsOn r₀ kept i piece ext (record { taken = i + x .taken; kept = count; reader = x .reader }) ext′
 runs-on r₀ kept i piece ext x count ext′ h a k =
     let rest : take (length piece - i) (drop i piece) ≡ drop i piece =
     take-all (length piece - i) (drop i piece) (rw length-drop (omega arith)) in
-    let b = subst (λ (l : List ℕ). Runs r₀ l x) rest a in
+    let b = subst (λ (l : List ℕ). ReaderRuns r₀ l x) rest a in
     let n : i + x .taken - i ≡ x .taken = omega arith in
     record {
       later = omega arith;
       within = omega (arith, b .within, length-drop i piece);
-      ran = λ o st p. subst⁻¹ (λ (m : ℕ). Ran o st (take m (drop i piece)) (x .reader)) n (b .does o st p);
+      ran = λ o st p. subst⁻¹ (λ (m : ℕ). RunReached o st (take m (drop i piece)) (x .reader)) n (b .does o st p);
       keeps = k;
     }
 
@@ -134,7 +134,7 @@ module _ (o : Settings) (bytes piece ext₀ : List ℕ) (at kept i : ℕ) (r : H
   abbrev ρ : List ℕ
   ρ = take (h .taken - i) (drop i piece)
 
-  ran : Ran o (g .reached .state) ρ (h .reader)
+  ran : RunReached o (g .reached .state) ρ (h .reader)
   ran = a .ran o (g .reached .state) (g .reached .represents)
 
   there : steps o start (σ ++ ρ) ≡ more (ran .next)

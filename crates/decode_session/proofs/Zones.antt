@@ -13,7 +13,7 @@ use Rattle.ext.specs.Bytewise.{valueFault}
 use Rattle.header.specs.Settings.{Settings}
 use Rattle.header_reader.specs.Machine.{State, inType, atFix, inOctets, atOctet, atPair, inIdentifier, inValue, inWidth, inHeight, inFields, Step, more, done, refused, onByte, stepOf}
 use Rattle.header_reader.specs.Represents.{Sound}
-use Rattle.header_reader.proofs.Taken.{taken}
+use Rattle.header_reader.proofs.BytesTaken.{taken}
 
 -- before the fields, in those that start at an offset, or behind those with a span
 pub data Zone : Type 0 where

@@ -7,7 +7,7 @@ use lib.Seq.{sets}
 use Rattle.header.specs.Settings.{Settings}
 use Rattle.header_reader.specs.Machine.{State}
 use Rattle.header_reader.specs.Represents.{Represents}
-use Rattle.header_reader.specs.Run.{Ran}
+use Rattle.header_reader.specs.Run.{RunReached}
 use Rattle.header_reader.specs.declared.reader.HeaderReader.{HeaderReader}
 use Rattle.decode_session.specs.declared.head.HeadRun.{HeadRun}
 
@@ -23,5 +23,5 @@ runOf piece i r = take (r .taken - i) (drop i piece)
 pub record RunsOn (r₀ : HeaderReader) (kept i : ℕ) (piece ext : List ℕ) (r : HeadRun) (ext′ : List ℕ) : Type 0 where
   pub later : i ≤ r .taken
   pub within : r .taken ≤ length piece
-  pub ran : (o : Settings) (st : State) → Represents r₀ o st → Ran o st (runOf piece i r) (r .reader)
+  pub ran : (o : Settings) (st : State) → Represents r₀ o st → RunReached o st (runOf piece i r) (r .reader)
   pub keeps : KeepsRun kept (runOf piece i r) ext (r .kept) ext′

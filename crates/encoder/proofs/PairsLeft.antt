@@ -19,7 +19,7 @@ use Rattle.ext_write.specs.Steps.{putStart, putPairs}
 use Rattle.ext_write.proofs.Begun.{left-put}
 use Rattle.ext_write.proofs.Stores.{sets-left}
 use Rattle.header.specs.Write.{extHeader}
-use Rattle.header.specs.Begin.{Within}
+use Rattle.header.specs.Begin.{HasRoom}
 use Rattle.image.specs.Geometry.{planeBytes}
 use Rattle.image.specs.declared.PixelFormat.{PixelFormat}
 use Rattle.options.specs.declared.EncodeOptions.{EncodeOptions}
@@ -43,7 +43,7 @@ module _ (strict : Bool) (text lengths : List ℕ) (a : Answer (List ℕ)) (body
       length-append last (drop n old) ∙ omega arith
 
   -- what is answered leaves room for the body
-  pub answered-room : (b b′ : PairsBegun) → b′ .answer ≡ b .answer → Within b last → (m : ℕ) → written (b′ .answer) ≡ gives m
+  pub answered-room : (b b′ : PairsBegun) → b′ .answer ≡ b .answer → HasRoom b last → (m : ℕ) → written (b′ .answer) ≡ gives m
       → m + body ≤ length (last ++ drop n old)
   answered-room b b′ f v m g =
       let p = v m (ap written (sym f) ∙ g) in

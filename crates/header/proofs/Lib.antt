@@ -1,4 +1,4 @@
-pub mod Put
-pub mod Descent
+pub mod HeaderBytes
+pub mod HeaderParts
 pub mod Prefix
 pub mod RoundTrip

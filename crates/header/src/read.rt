@@ -62,7 +62,8 @@ fn read_integer(bytes: &[u8], offset: usize, shortest: bool) -> MbiRead
 }
 
 fn read_fields(bytes: &[u8], offset: usize, fix: u8, classes: bool) -> ExtRead
-    ensures { λ r. ⌜ fieldsRead r ≡ map (spanOf offset) (readFields classes (fieldsFollow fix) (kindBits fix) (now (bytes .entry)) offset) ⌝ }
+    ensures { λ r. ⌜ fieldsRead r ≡ map (spanOf offset)
+        (readFields classes (fieldsFollow fix) (kindBits fix) (now (bytes .entry)) offset) ⌝ }
 {
     let fix_header = FixHeaderField::from_byte(fix);
     if classes {

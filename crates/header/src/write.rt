@@ -173,7 +173,8 @@ pub fn write_header_ext_lengths(
     strict: bool,
     out: &mut [u8],
 ) -> Written
-    ensures { λ r. ⌜ Emits (extHeader strict width height ext (now (text .entry)) (now (lengths .entry))) (written r) (now (out .entry)) (now (out .exit)) ⌝ }
+    ensures { λ r. ⌜ Emits (extHeader strict width height ext (now (text .entry)) (now (lengths .entry)))
+        (written r) (now (out .entry)) (now (out .exit)) ⌝ }
 {
     let found = ext_write::check_lengths(text, lengths, strict);
     let begun = begin_header(width, height, ext, text, found, &mut *out);
@@ -190,7 +191,8 @@ pub fn write_header_ext(
     strict: bool,
     out: &mut [u8],
 ) -> Written
-    ensures { λ r. ⌜ Emits (extHeader strict width height ext (now (text .entry)) (flattened (now (parameters .entry)))) (written r) (now (out .entry)) (now (out .exit)) ⌝ }
+    ensures { λ r. ⌜ Emits (extHeader strict width height ext (now (text .entry)) (flattened (now (parameters .entry))))
+        (written r) (now (out .entry)) (now (out .exit)) ⌝ }
 {
     let found = ext_write::check_parameters(text, parameters, strict);
     let begun = begin_header(width, height, ext, text, found, &mut *out);

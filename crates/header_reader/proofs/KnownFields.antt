@@ -22,7 +22,7 @@ use Rattle.header_reader.specs.Known.{spanAtFix, readSpan, unknown, know
 use Rattle.header_reader.specs.Pieces.{onward}
 use Rattle.header_reader.proofs.Machine.{steps-cons}
 use Rattle.header_reader.proofs.Direct.{direct}
-use Rattle.header_reader.proofs.Meets.{finds}
+use Rattle.header_reader.proofs.RefusalMet.{finds}
 
 -- the span of the fields that a reading has the bytes τ left of, in continuation form
 abbrev fixSpan : Settings → List ℕ → ℕ → Answer Span

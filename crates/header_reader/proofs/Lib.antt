@@ -1,11 +1,11 @@
 pub mod Machine
-pub mod Running
+pub mod RunSteps
 pub mod IntegerByte
-pub mod Keeps
-pub mod Taken
-pub mod Ends
-pub mod Meets
-pub mod Represented
+pub mod StepSound
+pub mod BytesTaken
+pub mod EndRefusal
+pub mod RefusalMet
+pub mod ReaderPromises
 pub mod Pieces
 pub mod Direct
 pub mod KnownFields

@@ -9,7 +9,7 @@ use Rattle.mbi.specs.Read.{readByte}
 use Rattle.header.specs.Settings.{Settings, settings}
 use Rattle.header.specs.Read.{Outline, outline, parsed, readHeader}
 use Rattle.header_reader.specs.Machine.{State, start, Step, more, done, refused, stepOf, steps, after, resume}
-use Rattle.header_reader.specs.Represents.{state, Represents, Answers, Stepped}
+use Rattle.header_reader.specs.Represents.{state, Represents, Answers, ReaderStepped}
 use Rattle.header_reader.specs.Pieces.{join, onward, Fed, nothing, byte, last, bad, Run, closed, piece, whole, met}
 use Rattle.header_reader.specs.Phase.{moved}
 use Rattle.header.specs.declared.HeaderMode.{HeaderMode}
@@ -21,8 +21,8 @@ use Rattle.header_reader.specs.declared.phase.PhaseStep.{PhaseStep}
 use Rattle.header_reader.specs.declared.reader.HeaderReader.{HeaderReader}
 use Rattle.header_reader.specs.declared.reader.HeaderStep.{HeaderStep}
 use Rattle.header_reader.proofs.Machine.{steps-cons, steps-law}
-use Rattle.header_reader.proofs.Keeps.{sound-start}
-use Rattle.header_reader.proofs.Represented.{asReader, stepped}
+use Rattle.header_reader.proofs.StepSound.{sound-start}
+use Rattle.header_reader.proofs.ReaderPromises.{asReader, stepped}
 use Rattle.header_reader.proofs.Direct.{direct}
 
 module _ (o : Settings) where
@@ -92,22 +92,23 @@ sized = record { width = 9; height = 2; «data_offset» = 4; «fix_header» = 0;
 abbrev begun : ℕ → PartialInteger
 begun at = record { at = at; value = 0; count = 0 }
 
-takes : (p : Phase) (b : ℕ) (x : PhaseStep) → moved x ≡ stepOf (settings lenient) (state p) b → Stepped (reader p) b (asReader lenient x)
+takes : (p : Phase) (b : ℕ) (x : PhaseStep) → moved x ≡ stepOf (settings lenient) (state p) b
+    → ReaderStepped (reader p) b (asReader lenient x)
 takes p b x e = stepped (reader p) b x x e refl
 
-type : Stepped (reader (Phase.InType (begun 0))) 0 (HeaderStep.More (reader (Phase.AtFix 1)))
+type : ReaderStepped (reader (Phase.InType (begun 0))) 0 (HeaderStep.More (reader (Phase.AtFix 1)))
 unfolding stepOf readByte
 type = takes (Phase.InType (begun 0)) 0 (PhaseStep.More (Phase.AtFix 1)) refl
 
-fix : Stepped (reader (Phase.AtFix 1)) 0 (HeaderStep.More (reader (Phase.InWidth 0 HeaderFields.Absent (begun 2))))
+fix : ReaderStepped (reader (Phase.AtFix 1)) 0 (HeaderStep.More (reader (Phase.InWidth 0 HeaderFields.Absent (begun 2))))
 unfolding stepOf
 fix = takes (Phase.AtFix 1) 0 (PhaseStep.More (Phase.InWidth 0 HeaderFields.Absent (begun 2))) refl
 
-width : Stepped (reader (Phase.InWidth 0 HeaderFields.Absent (begun 2))) 9 (HeaderStep.More (reader (Phase.InHeight 0 HeaderFields.Absent 9 (begun 3))))
+width : ReaderStepped (reader (Phase.InWidth 0 HeaderFields.Absent (begun 2))) 9 (HeaderStep.More (reader (Phase.InHeight 0 HeaderFields.Absent 9 (begun 3))))
 unfolding stepOf readByte
 width = takes (Phase.InWidth 0 HeaderFields.Absent (begun 2)) 9 (PhaseStep.More (Phase.InHeight 0 HeaderFields.Absent 9 (begun 3))) refl
 
-height : Stepped (reader (Phase.InHeight 0 HeaderFields.Absent 9 (begun 3))) 2 (HeaderStep.Done sized)
+height : ReaderStepped (reader (Phase.InHeight 0 HeaderFields.Absent 9 (begun 3))) 2 (HeaderStep.Done sized)
 unfolding stepOf readByte
 height = takes (Phase.InHeight 0 HeaderFields.Absent 9 (begun 3)) 2 (PhaseStep.Done sized) refl
 

@@ -51,6 +51,6 @@ Bounded (inWidth fix f at v n) = IntegerBound at n
 Bounded (inHeight fix f w at v n) = IntegerBound at n
 
 -- r says whether P holds
-pub record Tells (P : Type 0) (r : Bool) : Type 0 where
+pub record Decides (P : Type 0) (r : Bool) : Type 0 where
   pub yes : P → r ≡ true
   pub holds : r ≡ true → P

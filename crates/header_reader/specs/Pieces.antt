@@ -6,7 +6,7 @@ use Rattle.error.specs.declared.WbmpError.{WbmpError}
 use Rattle.header.specs.Settings.{Settings}
 use Rattle.header.specs.Read.{Outline, parsed}
 use Rattle.header_reader.specs.Machine.{Step, more, done, refused, steps}
-use Rattle.header_reader.specs.Represents.{Stepped, Ended}
+use Rattle.header_reader.specs.Represents.{ReaderStepped, ReaderEnded}
 use Rattle.header.specs.declared.ParsedHeader.{ParsedHeader}
 use Rattle.header_reader.specs.declared.reader.HeaderReader.{HeaderReader}
 use Rattle.header_reader.specs.declared.reader.HeaderStep.{HeaderStep}
@@ -26,16 +26,16 @@ onward o (refused code offset) σ = refused code offset
 pub data Fed : HeaderReader → List ℕ → HeaderStep → Type 0 where
   nothing : {r : HeaderReader} → Fed r [] (HeaderStep.More r)
   byte : {r r′ : HeaderReader} {b : ℕ} {σ : List ℕ} {x : HeaderStep}
-      → Stepped r b (HeaderStep.More r′) → Fed r′ σ x → Fed r (b ∷ σ) x
+      → ReaderStepped r b (HeaderStep.More r′) → Fed r′ σ x → Fed r (b ∷ σ) x
   last : {r : HeaderReader} {b : ℕ} {σ : List ℕ} {p : ParsedHeader}
-      → Stepped r b (HeaderStep.Done p) → Fed r (b ∷ σ) (HeaderStep.Done p)
+      → ReaderStepped r b (HeaderStep.Done p) → Fed r (b ∷ σ) (HeaderStep.Done p)
   bad : {r : HeaderReader} {b : ℕ} {σ : List ℕ} {e : WbmpError}
-      → Stepped r b (HeaderStep.Refused e) → Fed r (b ∷ σ) (HeaderStep.Refused e)
+      → ReaderStepped r b (HeaderStep.Refused e) → Fed r (b ∷ σ) (HeaderStep.Refused e)
 
 -- A reader that is fed pieces, and what the reading answers: the header, the refusal that was met, or, where it is still open after the
 -- last piece, that of `ended`.
 pub data Run : HeaderReader → List (List ℕ) → Answer Outline → Type 0 where
-  closed : {r : HeaderReader} {e : WbmpError} → Ended r e → Run r [] (refusal e)
+  closed : {r : HeaderReader} {e : WbmpError} → ReaderEnded r e → Run r [] (refusal e)
   piece : {r r′ : HeaderReader} {σ : List ℕ} {σs : List (List ℕ)} {a : Answer Outline}
       → Fed r σ (HeaderStep.More r′) → Run r′ σs a → Run r (σ ∷ σs) a
   whole : {r : HeaderReader} {σ : List ℕ} {σs : List (List ℕ)} {p : ParsedHeader}

@@ -61,9 +61,9 @@ Answers o (HeaderStep.Refused e) (done h) = ⊥
 Answers o (HeaderStep.Refused e) (refused code offset) = (e .code ≡ code) × (e .offset ≡ offset)
 
 -- `step`: for whatever the reader stands for
-pub record Stepped (r : HeaderReader) (b : ℕ) (x : HeaderStep) : Type 0 where
+pub record ReaderStepped (r : HeaderReader) (b : ℕ) (x : HeaderStep) : Type 0 where
   pub does : (o : Settings) (st : State) → Represents r o st → Answers o x (stepOf o st b)
 
 -- `ended`: the reading of an input that ends here
-pub record Ended (r : HeaderReader) (e : WbmpError) : Type 0 where
+pub record ReaderEnded (r : HeaderReader) (e : WbmpError) : Type 0 where
   pub does : (o : Settings) (st : State) → Represents r o st → refusal e ≡ resume o st []

@@ -32,16 +32,16 @@ pub record Inside (st next : State) : Type 0 where
   pub same : fieldsStart next ≡ fieldsStart st
 
 -- a reading over the bytes ρ, which are none or all the fields', and behind which the fields go on
-pub record Ran (o : Settings) (st : State) (ρ : List ℕ) (r : HeaderReader) : Type 0 where
+pub record RunReached (o : Settings) (st : State) (ρ : List ℕ) (r : HeaderReader) : Type 0 where
   pub next : State
   pub represents : Represents r o next
   pub reached : steps o st ρ ≡ more next
   pub inside : (ρ ≡ []) ⊎ Inside st next
 
 -- `run`: for whatever the reader stands for
-pub record Runs (r : HeaderReader) (piece : List ℕ) (x : HeaderRun) : Type 0 where
+pub record ReaderRuns (r : HeaderReader) (piece : List ℕ) (x : HeaderRun) : Type 0 where
   pub within : x .taken ≤ length piece
-  pub does : (o : Settings) (st : State) → Represents r o st → Ran o st (take (x .taken) piece) (x .reader)
+  pub does : (o : Settings) (st : State) → Represents r o st → RunReached o st (take (x .taken) piece) (x .reader)
 
 -- the same for where in the fields a reading stands
 pub record FieldsRuns (o : Settings) (st : State) (piece : List ℕ) (r : FieldsRun) : Type 0 where
@@ -52,7 +52,8 @@ pub record FieldsRuns (o : Settings) (st : State) (piece : List ℕ) (r : Fields
 -- octets behind which others come, from any place that is `most` bytes or more before the ceiling
 pub record OctetsAhead (most : ℕ) (piece : List ℕ) (n : ℕ) : Type 0 where
   pub within : n ≤ length piece
-  pub reached : (o : Settings) (fix start at : ℕ) → at + most ≤ start + 4096 → steps o (inOctets fix start at) (take n piece) ≡ more (inOctets fix start (at + n))
+  pub reached : (o : Settings) (fix start at : ℕ) → at + most ≤ start + 4096
+      → steps o (inOctets fix start at) (take n piece) ≡ more (inOctets fix start (at + n))
 
 -- the first byte of a pair that another follows, and the size of that pair
 pub record Continued (b size : ℕ) : Type 0 where

@@ -15,7 +15,7 @@ ghost use Rattle.header.specs.Settings.{Settings};
 ghost use Rattle.header_reader.specs.Machine.{inFields, resume};
 ghost use Rattle.header_reader.specs.Represents.{state, fieldsState};
 ghost use Rattle.header_reader.specs.Known.{knownIn, knownMeaning};
-ghost use Rattle.header_reader.specs.Phase.{IntegerBound, FieldsBound, Chained, Bounded, Tells};
+ghost use Rattle.header_reader.specs.Phase.{IntegerBound, FieldsBound, Chained, Bounded, Decides};
 
 // An integer so far: the value of its first `count` bytes.
 pub struct PartialInteger {
@@ -122,14 +122,14 @@ impl PartialInteger {
     }
 
     fn within(self) -> bool
-        ensures { λ r. ⌜ Tells (IntegerBound (self .at) (self .count)) r ⌝ }
+        ensures { λ r. ⌜ Decides (IntegerBound (self .at) (self .count)) r ⌝ }
     {
         if self.at < FAR { self.count < 8 } else { false }
     }
 }
 
 fn fields_within(start: usize, at: usize, pairs: usize) -> bool
-    ensures { λ r. ⌜ Tells (FieldsBound start at pairs) r ⌝ }
+    ensures { λ r. ⌜ Decides (FieldsBound start at pairs) r ⌝ }
 {
     if at < FAR {
         if pairs < FAR { start <= at } else { false }
@@ -153,7 +153,7 @@ impl PairChain {
     }
 
     fn within(self) -> bool
-        ensures { λ r. ⌜ Tells (Chained self) r ⌝ }
+        ensures { λ r. ⌜ Decides (Chained self) r ⌝ }
     {
         fields_within(self.start, self.at, self.pairs)
     }
@@ -176,7 +176,7 @@ impl PairPart {
 
 impl FieldsPhase {
     pub(crate) fn within(self) -> bool
-        ensures { λ r. ⌜ Tells (Bounded (fieldsState self)) r ⌝ }
+        ensures { λ r. ⌜ Decides (Bounded (fieldsState self)) r ⌝ }
     {
         match self {
             FieldsPhase::InOctets { start, at, .. } => fields_within(start, at, 0),
@@ -219,7 +219,7 @@ impl FieldsPhase {
 impl Phase {
     // Whether the sums of a step stay in range. They do wherever a reading can stand.
     pub(crate) fn within(self) -> bool
-        ensures { λ r. ⌜ Tells (Bounded (state self)) r ⌝ }
+        ensures { λ r. ⌜ Decides (Bounded (state self)) r ⌝ }
     {
         match self {
             Phase::InType(integer) => integer.within(),

@@ -11,9 +11,9 @@ use header::ParsedHeader;
 ghost use mathlib.Core.Path.{_≡_};
 ghost use Rattle.header.specs.Settings.{Settings, settings};
 ghost use Rattle.header_reader.specs.Machine.{State, start, inFields};
-ghost use Rattle.header_reader.specs.Represents.{Represents, Stepped, Ended};
+ghost use Rattle.header_reader.specs.Represents.{Represents, ReaderStepped, ReaderEnded};
 ghost use Rattle.header_reader.specs.Known.{Knows};
-ghost use Rattle.header_reader.specs.Run.{Runs};
+ghost use Rattle.header_reader.specs.Run.{ReaderRuns};
 
 pub struct HeaderReader {
     mode: HeaderMode,
@@ -43,7 +43,7 @@ impl HeaderReader {
 
     // One byte more. A reader that no reading comes to stays as it is.
     pub fn step(self, byte: u8) -> HeaderStep
-        ensures { λ r. ⌜ Stepped self byte r ⌝ }
+        ensures { λ r. ⌜ ReaderStepped self byte r ⌝ }
     {
         let mode = self.mode;
         let phase = self.phase;
@@ -61,7 +61,7 @@ impl HeaderReader {
     // Many bytes of extension fields at once, if the fields go on behind them: octets, or whole pairs where no classes are tested. It may
     // take none; `step` then goes on.
     pub fn run(self, piece: &[u8]) -> HeaderRun
-        ensures { λ r. ⌜ Runs self (now (piece .entry)) r ⌝ }
+        ensures { λ r. ⌜ ReaderRuns self (now (piece .entry)) r ⌝ }
     {
         let mode = self.mode;
         let phase = self.phase;
@@ -101,7 +101,7 @@ impl HeaderReader {
 
     // The input ends before the header does.
     pub fn ended(self) -> WbmpError
-        ensures { λ r. ⌜ Ended self r ⌝ }
+        ensures { λ r. ⌜ ReaderEnded self r ⌝ }
     {
         let phase = self.phase;
         phase.ended()

@@ -110,7 +110,8 @@ fn run_octets(fix: u8, start: usize, at: usize, piece: &[u8]) -> FieldsRun
 
 fn run_pairs(chain: PairChain, piece: &[u8]) -> FieldsRun
     requires { ⌜ Chained chain ⌝ }
-    ensures { λ r. ⌜ ((o : Settings) → o .classes ≡ false → FieldsRuns o (fieldsState (FieldsPhase.AtPair chain)) (now (piece .entry)) r) ⌝ }
+    ensures { λ r. ⌜ ((o : Settings) → o .classes ≡ false
+        → FieldsRuns o (fieldsState (FieldsPhase.AtPair chain)) (now (piece .entry)) r) ⌝ }
 {
     if chain.start + MAX_EXT_FIELD_BYTES <= chain.at {
         return stay(FieldsPhase::AtPair(chain));

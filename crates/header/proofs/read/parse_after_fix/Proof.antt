@@ -8,7 +8,7 @@ use Rattle.ext.specs.Read.{readFields}
 use Rattle.ext.specs.declared.ExtRead.{ExtRead}
 use Rattle.header.specs.Settings.{settings}
 use Rattle.header.specs.Read.{outline, readSizes, readAfterFix}
-use Rattle.header.proofs.Descent.{on-fields, fields-end, no-fields, sizesAfter}
+use Rattle.header.proofs.HeaderParts.{on-fields, fields-end, no-fields, sizesAfter}
 use borrow.Author.Needs.{needs}
 use Rattle.header.proofs.read.parse_after_fix.Statement.{statement}
 use Rattle.header.proofs.read.parse_after_fix.Tie as tie

@@ -3,7 +3,7 @@ use borrow.Author.Tests.{eq-eqb, ne-eqb}
 use denote.Ref.{now}
 use Rattle.header.specs.Settings.{settings}
 use Rattle.header.specs.Read.{meaning}
-use Rattle.header.proofs.Descent.{type-on}
+use Rattle.header.proofs.HeaderParts.{type-on}
 use borrow.Author.Needs.{needs}
 use Rattle.header.proofs.read.parse_header_mode.Statement.{statement}
 use Rattle.header.proofs.read.parse_header_mode.Tie as tie

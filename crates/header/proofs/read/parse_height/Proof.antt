@@ -5,7 +5,7 @@ use Rattle.error.specs.Answer.{bind}
 use Rattle.mbi.specs.Read.{meaning as integerRead}
 use Rattle.mbi.specs.declared.MbiRead.{MbiRead}
 use Rattle.header.specs.Read.{meaning, sized, outlineHeight, extSpan}
-use Rattle.header.proofs.Descent.{on-integer}
+use Rattle.header.proofs.HeaderParts.{on-integer}
 use borrow.Author.Needs.{needs}
 use Rattle.header.proofs.read.parse_height.Statement.{statement}
 use Rattle.header.proofs.read.parse_height.Tie as tie

@@ -14,7 +14,7 @@ use Rattle.ext.specs.Kinds.{kindNumber}
 use Rattle.ext_write.specs.Write.{lentBytes}
 use Rattle.ext_write.specs.Steps.{fieldsLength}
 use Rattle.ext_write.specs.Left.{ChecksPairs}
-use Rattle.header.proofs.Put.{sizes-ten, none-within, bytes-within, fits-two, lent-short, lent-refused, lent-left}
+use Rattle.header.proofs.HeaderBytes.{sizes-ten, none-within, bytes-within, fits-two, lent-short, lent-refused, lent-left}
 use borrow.Author.Needs.{needs}
 use Rattle.header.proofs.write.begin_fields_header.Statement.{statement}
 use Rattle.header.proofs.write.begin_fields_header.Tie as tie

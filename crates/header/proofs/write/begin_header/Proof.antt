@@ -3,7 +3,7 @@ use mathlib.Core.Bool.{true, false, _||_}
 use borrow.Author.Tests.{eq-eqb, ne-eqb}
 use lib.Dec.{eqb}
 use denote.Ref.{now}
-use Rattle.header.proofs.Put.{none-within, plain-within, zero-left, presence-left, absent-left}
+use Rattle.header.proofs.HeaderBytes.{none-within, plain-within, zero-left, presence-left, absent-left}
 use borrow.Author.Needs.{needs}
 use Rattle.header.proofs.write.begin_header.Statement.{statement}
 use Rattle.header.proofs.write.begin_header.Tie as tie

@@ -3,7 +3,7 @@ use denote.Ref.{now}
 use Rattle.laws.proofs.Runs.{sets-append}
 use Rattle.mbi.specs.Bytes.{mbiBytes}
 use native.Mathlib.Omega.{arith}
-use Rattle.header.proofs.Put.{sizes-length}
+use Rattle.header.proofs.HeaderBytes.{sizes-length}
 use borrow.Author.Needs.{needs}
 use Rattle.header.proofs.write.put_sizes.Statement.{statement}
 use Rattle.header.proofs.write.put_sizes.Tie as tie

@@ -2,7 +2,7 @@
 use native.Mathlib.Omega.{arith}
 use borrow.Author.Needs.{needs}
 use Rattle.mbi.proofs.Length.{bytes-five}
-use Rattle.header.proofs.Put.{sizes-length}
+use Rattle.header.proofs.HeaderBytes.{sizes-length}
 use Rattle.header.proofs.write.sizes_len.Statement.{statement}
 use Rattle.header.proofs.write.sizes_len.Tie as tie
 

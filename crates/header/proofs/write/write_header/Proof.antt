@@ -5,7 +5,7 @@ use denote.Ref.{now}
 use lib.ListN.{length-set}
 use Rattle.laws.proofs.Writers.{emits-none}
 use Rattle.header.specs.Write.{headerBytes}
-use Rattle.header.proofs.Put.{sizes-ten, header-length, header-put}
+use Rattle.header.proofs.HeaderBytes.{sizes-ten, header-length, header-put}
 use borrow.Author.Needs.{needs}
 use Rattle.header.proofs.write.write_header.Statement.{statement}
 use Rattle.header.proofs.write.write_header.Tie as tie

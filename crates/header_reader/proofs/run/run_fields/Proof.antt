@@ -2,7 +2,7 @@ use mathlib.Core.Path.{subst}
 use Rattle.header_reader.specs.Represents.{fieldsState}
 use Rattle.header_reader.specs.Phase.{Bounded}
 use Rattle.header_reader.specs.declared.phase.FieldsPhase.{FieldsPhase}
-use Rattle.header_reader.proofs.Running.{stayed, phased}
+use Rattle.header_reader.proofs.RunSteps.{stayed, phased}
 use borrow.Author.Needs.{needs}
 use Rattle.header_reader.proofs.run.run_fields.Statement.{statement}
 use Rattle.header_reader.proofs.run.run_fields.Tie as tie

@@ -1,6 +1,6 @@
 use native.Mathlib.Omega.{arith}
 use Rattle.header_reader.specs.declared.phase.FieldsPhase.{FieldsPhase}
-use Rattle.header_reader.proofs.Running.{stayed, octets-run}
+use Rattle.header_reader.proofs.RunSteps.{stayed, octets-run}
 use borrow.Author.Needs.{needs}
 use Rattle.header_reader.proofs.run.run_octets.Statement.{statement}
 use Rattle.header_reader.proofs.run.run_octets.Tie as tie

@@ -1,6 +1,6 @@
 use native.Mathlib.Omega.{arith}
 use Rattle.header_reader.specs.declared.phase.FieldsPhase.{FieldsPhase}
-use Rattle.header_reader.proofs.Running.{stayed, pairs-run}
+use Rattle.header_reader.proofs.RunSteps.{stayed, pairs-run}
 use borrow.Author.Needs.{needs}
 use Rattle.header_reader.proofs.run.run_pairs.Statement.{statement}
 use Rattle.header_reader.proofs.run.run_pairs.Tie as tie

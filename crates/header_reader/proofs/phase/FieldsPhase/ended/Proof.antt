@@ -1,4 +1,4 @@
-use Rattle.header_reader.proofs.Ends.{end-is}
+use Rattle.header_reader.proofs.EndRefusal.{end-is}
 use mathlib.Core.Path.{sym}
 use borrow.Author.Needs.{needs}
 use Rattle.header_reader.proofs.phase.FieldsPhase.ended.Statement.{statement}

@@ -1,4 +1,4 @@
-use Rattle.header_reader.proofs.Represented.{fields-unknown}
+use Rattle.header_reader.proofs.ReaderPromises.{fields-unknown}
 use borrow.Author.Needs.{needs}
 use Rattle.header_reader.proofs.phase.Phase.fields.Statement.{statement}
 use Rattle.header_reader.proofs.phase.Phase.fields.Tie as tie

@@ -1,4 +1,4 @@
-use Rattle.header_reader.proofs.Represented.{fields-in}
+use Rattle.header_reader.proofs.ReaderPromises.{fields-in}
 use borrow.Author.Needs.{needs}
 use Rattle.header_reader.proofs.phase.Phase.in_fields.Statement.{statement}
 use Rattle.header_reader.proofs.phase.Phase.in_fields.Tie as tie

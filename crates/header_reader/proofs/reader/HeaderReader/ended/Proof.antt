@@ -1,4 +1,4 @@
-use Rattle.header_reader.proofs.Represented.{ended-at}
+use Rattle.header_reader.proofs.ReaderPromises.{ended-at}
 use borrow.Author.Needs.{needs}
 use Rattle.header_reader.proofs.reader.HeaderReader.ended.Statement.{statement}
 use Rattle.header_reader.proofs.reader.HeaderReader.ended.Tie as tie

@@ -1,5 +1,5 @@
 use mathlib.Core.Path.{refl}
-use Rattle.header_reader.proofs.Keeps.{sound-start}
+use Rattle.header_reader.proofs.StepSound.{sound-start}
 use borrow.Author.Needs.{needs}
 use Rattle.header_reader.proofs.reader.HeaderReader.new.Statement.{statement}
 use Rattle.header_reader.proofs.reader.HeaderReader.new.Tie as tie

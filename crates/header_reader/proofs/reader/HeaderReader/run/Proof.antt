@@ -1,4 +1,4 @@
-use Rattle.header_reader.proofs.Running.{ran, unmoved}
+use Rattle.header_reader.proofs.RunSteps.{ran, unmoved}
 use borrow.Author.Needs.{needs}
 use Rattle.header_reader.proofs.reader.HeaderReader.run.Statement.{statement}
 use Rattle.header_reader.proofs.reader.HeaderReader.run.Tie as tie

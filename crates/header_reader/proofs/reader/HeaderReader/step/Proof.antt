@@ -1,4 +1,4 @@
-use Rattle.header_reader.proofs.Represented.{stepped, lost}
+use Rattle.header_reader.proofs.ReaderPromises.{stepped, lost}
 use borrow.Author.Needs.{needs}
 use Rattle.header_reader.proofs.reader.HeaderReader.step.Statement.{statement}
 use Rattle.header_reader.proofs.reader.HeaderReader.step.Tie as tie

@@ -14,7 +14,7 @@ use Rattle.header.specs.Settings.{Settings, settings}
 use Rattle.header_reader.specs.Machine.{State, inOctets, atPair, inIdentifier, inValue, inFields, Step, more, stepOf, steps}
 use Rattle.header_reader.specs.Represents.{fieldsState, state, Represents}
 use Rattle.header_reader.specs.Pieces.{onward}
-use Rattle.header_reader.specs.Run.{fieldsStart, Inside, Ran, Runs, FieldsRuns, OctetsAhead, Continued, PairsAhead}
+use Rattle.header_reader.specs.Run.{fieldsStart, Inside, RunReached, ReaderRuns, FieldsRuns, OctetsAhead, Continued, PairsAhead}
 use Rattle.header_reader.specs.declared.phase.FieldsPhase.{FieldsPhase}
 use Rattle.header_reader.specs.declared.phase.PairChain.{PairChain}
 use Rattle.header_reader.specs.declared.phase.Phase.{Phase}
@@ -22,15 +22,17 @@ use Rattle.header_reader.specs.declared.run.PairsRun.{PairsRun}
 use Rattle.header_reader.specs.declared.run.FieldsRun.{FieldsRun}
 use Rattle.header_reader.specs.declared.reader.HeaderReader.{HeaderReader}
 use Rattle.header_reader.proofs.Machine.{steps-cons, steps-append}
-use Rattle.header_reader.proofs.Keeps.{SoundStep, sound-steps}
+use Rattle.header_reader.proofs.StepSound.{SoundStep, sound-steps}
 
 -- ---- octets
 
-octet-step : (o : Settings) (fix start at b : ℕ) → at < start + 4096 → 128 ≤ b → stepOf o (inOctets fix start at) b ≡ more (inOctets fix start (at + 1))
+octet-step : (o : Settings) (fix start at b : ℕ) → at < start + 4096 → 128 ≤ b
+    → stepOf o (inOctets fix start at) b ≡ more (inOctets fix start (at + 1))
 unfolding stepOf
 octet-step o fix start at b n h = simp (lt-leb (start + 4096) at n, le-ltb b 128 h)
 
-octet-only : (o : Settings) (fix start at b : ℕ) → at < start + 4096 → 128 ≤ b → steps o (inOctets fix start at) (b ∷ []) ≡ more (inOctets fix start (at + 1))
+octet-only : (o : Settings) (fix start at b : ℕ) → at < start + 4096 → 128 ≤ b
+    → steps o (inOctets fix start at) (b ∷ []) ≡ more (inOctets fix start (at + 1))
 unfolding steps
 octet-only o fix start at b n h = steps-cons o (inOctets fix start at) b [] ∙ ap (λ (x : Step). onward o x []) (octet-step o fix start at b n h)
 
@@ -141,8 +143,8 @@ module _ (most : ℕ) (piece : List ℕ) where
   pair-bytes : (i m : ℕ) → i < length piece → take (m + 1) (drop i piece) ≡ getD piece i 0 ∷ take m (drop (suc i) piece)
   pair-bytes i m h = ap (λ (k : ℕ). take k (drop i piece)) (add-one m) ∙ ap (take (suc m)) (drop-cons piece i 0 h)
 
-  pub pairs-more : (i n size : ℕ) → PairsAhead most piece (record { taken = i; pairs = n }) → i < length piece → i < most → Continued (getD piece i 0) size
-      → i + size ≤ length piece → PairsAhead most piece (record { taken = i + size; pairs = n + 1 })
+  pub pairs-more : (i n size : ℕ) → PairsAhead most piece (record { taken = i; pairs = n }) → i < length piece → i < most
+      → Continued (getD piece i 0) size → i + size ≤ length piece → PairsAhead most piece (record { taken = i + size; pairs = n + 1 })
   pairs-more i n size a h m k fits =
       let s : size ≡ 1 + getD piece i 0 / 16 % 8 + getD piece i 0 % 16 = k .is in
       let ρ = take (size - 1) (drop (suc i) piece) in
@@ -204,7 +206,7 @@ pairs-run a h o off =
 
 module _ (r : HeaderReader) (piece : List ℕ) where
   pub ran : {p : FieldsPhase} {x : FieldsRun} → r .phase ≡ Phase.InFields p → FieldsRuns (settings (r .mode)) (fieldsState p) piece x
-      → Runs r piece (record { taken = x .taken; reader = record { mode = r .mode; phase = Phase.InFields (x .phase) } })
+      → ReaderRuns r piece (record { taken = x .taken; reader = record { mode = r .mode; phase = Phase.InFields (x .phase) } })
   ran {p} {x} e a =
       record {
         within = a .within;
@@ -231,6 +233,6 @@ module _ (r : HeaderReader) (piece : List ℕ) where
       none-or o st (inr i) = inr i
 
   -- none taken
-  pub unmoved : Runs r piece (record { taken = 0; reader = r })
+  pub unmoved : ReaderRuns r piece (record { taken = 0; reader = r })
   unfolding steps
   unmoved = record { within = omega arith; does = λ o st h. record { next = st; represents = h; reached = refl; inside = inl refl } }

@@ -9,15 +9,15 @@ use Rattle.error.specs.declared.WbmpError.{WbmpError}
 use Rattle.laws.proofs.Tests.{zero-one}
 use Rattle.header.specs.Settings.{Settings, settings}
 use Rattle.header_reader.specs.Machine.{State, inType, atFix, inOctets, atOctet, atPair, inIdentifier, inValue, inWidth, inHeight, Step, inFields, stepOf, resume}
-use Rattle.header_reader.specs.Represents.{fieldsState, state, Sound, Answers, Stepped, Ended}
+use Rattle.header_reader.specs.Represents.{fieldsState, state, Sound, Answers, ReaderStepped, ReaderEnded}
 use Rattle.header_reader.specs.Known.{unknown, knownIn}
-use Rattle.header_reader.specs.Phase.{moved, Bounded, Tells}
+use Rattle.header_reader.specs.Phase.{moved, Bounded, Decides}
 use Rattle.header.specs.declared.HeaderMode.{HeaderMode}
 use Rattle.header_reader.specs.declared.phase.FieldsPhase.{FieldsPhase}
 use Rattle.header_reader.specs.declared.phase.PhaseStep.{PhaseStep}
 use Rattle.header_reader.specs.declared.reader.HeaderReader.{HeaderReader}
 use Rattle.header_reader.specs.declared.reader.HeaderStep.{HeaderStep}
-use Rattle.header_reader.proofs.Keeps.{SoundStep, sound-step}
+use Rattle.header_reader.proofs.StepSound.{SoundStep, sound-step}
 
 -- wherever a reading can stand, the sums of a step stay in range
 pub bounded : (st : State) → Sound st → Bounded st
@@ -52,14 +52,16 @@ asReader mode (PhaseStep.More p) = HeaderStep.More (record { mode = mode; phase 
 asReader mode (PhaseStep.Done h) = HeaderStep.Done h
 asReader mode (PhaseStep.Refused e) = HeaderStep.Refused e
 
-answers : (mode : HeaderMode) (o : Settings) (x : PhaseStep) → settings mode ≡ o → SoundStep (moved x) → Answers o (asReader mode x) (moved x)
+answers : (mode : HeaderMode) (o : Settings) (x : PhaseStep) → settings mode ≡ o → SoundStep (moved x)
+    → Answers o (asReader mode x) (moved x)
 answers mode o (PhaseStep.More p) m s = record { mode-is = m; phase-is = refl; sound = s }
 answers mode o (PhaseStep.Done h) m s = refl
 answers mode o (PhaseStep.Refused e) m s = (refl, refl)
 
 module _ (r : HeaderReader) (b : ℕ) where
   -- x is the case of the phase's step
-  pub stepped : (p x : PhaseStep) → moved p ≡ stepOf (settings (r .mode)) (state (r .phase)) b → p ≡ x → Stepped r b (asReader (r .mode) x)
+  pub stepped : (p x : PhaseStep) → moved p ≡ stepOf (settings (r .mode)) (state (r .phase)) b → p ≡ x
+      → ReaderStepped r b (asReader (r .mode) x)
   stepped p x e c =
       record {
         does = λ o st h.
@@ -71,7 +73,7 @@ module _ (r : HeaderReader) (b : ℕ) where
       }
 
   -- a reader that is out of range stands for nothing
-  pub lost : (t : Bool) (x : HeaderStep) → Tells (Bounded (state (r .phase))) t → t ≡ false → Stepped r b x
+  pub lost : (t : Bool) (x : HeaderStep) → Decides (Bounded (state (r .phase))) t → t ≡ false → ReaderStepped r b x
   lost t x w e =
       record {
         does = λ o st h.
@@ -79,5 +81,5 @@ module _ (r : HeaderReader) (b : ℕ) where
             zero-one (cc);
       }
 
-pub ended-at : (r : HeaderReader) (e : WbmpError) → ((o : Settings) → refusal e ≡ resume o (state (r .phase)) []) → Ended r e
+pub ended-at : (r : HeaderReader) (e : WbmpError) → ((o : Settings) → refusal e ≡ resume o (state (r .phase)) []) → ReaderEnded r e
 ended-at r e p = record { does = λ o st h. p o ∙ ap (λ (k : State). resume o k []) (h .phase-is) }

@@ -11,8 +11,8 @@ use Rattle.header.specs.Settings.{Settings, inner}
 use Rattle.header.specs.Read.{Outline}
 use Rattle.header_reader.specs.Machine.{State, start, Step, more, done, refused, fixFrom, resume, steps, after}
 use Rattle.header_reader.proofs.Machine.{steps-law, steps-all}
-use Rattle.header_reader.proofs.Keeps.{SoundStep, sound-steps, sound-start}
-use Rattle.header_reader.proofs.Ends.{end-is, end-short}
+use Rattle.header_reader.proofs.StepSound.{SoundStep, sound-steps, sound-start}
+use Rattle.header_reader.proofs.EndRefusal.{end-is, end-short}
 
 module _ (o : Settings) (st : State) (σ : List ℕ) where
   -- a refusal that is no end is met

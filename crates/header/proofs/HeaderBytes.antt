@@ -25,10 +25,10 @@ use Rattle.ext_write.specs.Left.{Left, none-left, pairs-left}
 use Rattle.ext_write.specs.declared.PairsBegun.{PairsBegun}
 use Rattle.error.specs.declared.WbmpError.{WbmpError}
 use Rattle.error.specs.declared.Written.{Written}
-use Rattle.ext_write.proofs.Begun.{short-emitted}
-use Rattle.ext_write.proofs.Stores.{sets-before, sets-mid}
+use Rattle.ext.proofs.Begun.{short-emitted}
+use Rattle.ext.proofs.Stores.{sets-before, sets-mid}
 use Rattle.ext_write.specs.Write.{lentFields, lentBytes, fieldsBytes, cutPairs, sum}
-use Rattle.header.specs.Begin.{Within}
+use Rattle.header.specs.Begin.{HasRoom}
 use Rattle.header.specs.Write.{sizeBytes, headerBytes, plainHeader, fixByte, fieldsHeader, lentHeader, presented}
 use Rattle.header.specs.declared.ExtPresence.{ExtPresence}
 use Rattle.header.specs.declared.ExtPresence.the-variants.{Absent}
@@ -203,16 +203,16 @@ module _ (strict : Bool) (w h kind : ℕ) (text lengths : List ℕ) where
           ended end q = emitted-length (lentBytes strict kind text lengths) (midOf 2 (length l - 2) l) n end e q
 
 -- what is answered is within the output
-pub none-within : (new : List ℕ) (b : PairsBegun) (x : Written) (e : WbmpError) (to : ℕ) → b ≡ record { to = to; answer = x } → x ≡ Written.Refused e → Within b new
+pub none-within : (new : List ℕ) (b : PairsBegun) (x : Written) (e : WbmpError) (to : ℕ) → b ≡ record { to = to; answer = x } → x ≡ Written.Refused e → HasRoom b new
 none-within new b x e to q f n g =
     let r : written (b .answer) ≡ refusal e = ap (λ (y : PairsBegun). written (y .answer)) q ∙ ap written f in
     zero-one (cc)
 
-pub bytes-within : (old new : List ℕ) (b : PairsBegun) (n : ℕ) → written (b .answer) ≡ gives n → 0 < n → n ≤ length old → length new ≡ length old → Within b new
+pub bytes-within : (old new : List ℕ) (b : PairsBegun) (n : ℕ) → written (b .answer) ≡ gives n → 0 < n → n ≤ length old → length new ≡ length old → HasRoom b new
 bytes-within old new b n e h k l m f = let q : n ≡ m = cc in (omega arith, omega arith)
 
 pub plain-within : (w h : ℕ) (old new : List ℕ) (b : PairsBegun) (x : Written) (to : ℕ) → b ≡ record { to = to; answer = x } → length new ≡ length old
-    → Emits (plainHeader w h) (written x) old new → Within b new
+    → Emits (plainHeader w h) (written x) old new → HasRoom b new
 plain-within w h old new b x to q l m n e = by-test (leb (length (headerBytes 0 [] w h)) (length old)) refl (sym e ∙ ap (λ (y : PairsBegun). written (y .answer)) q ∙ m .answer)
   where
     by-test : (t : Bool) → leb (length (headerBytes 0 [] w h)) (length old) ≡ t → gives n ≡ if t (gives (length (headerBytes 0 [] w h))) (refuses 25 0) → (0 < n) × (n ≤ length new)
