@@ -25,8 +25,8 @@ use Rattle.ext_write.specs.Left.{Left, none-left, pairs-left}
 use Rattle.ext_write.specs.declared.PairsBegun.{PairsBegun}
 use Rattle.error.specs.declared.WbmpError.{WbmpError}
 use Rattle.error.specs.declared.Written.{Written}
-use Rattle.ext.proofs.Begun.{short-emitted}
-use Rattle.ext.proofs.Stores.{sets-before, sets-mid}
+use Rattle.ext_write.proofs.Begun.{short-emitted}
+use Rattle.ext_write.proofs.Stores.{sets-before, sets-mid}
 use Rattle.ext_write.specs.Write.{lentFields, lentBytes, fieldsBytes, cutPairs, sum}
 use Rattle.header.specs.Begin.{HasRoom}
 use Rattle.header.specs.Write.{sizeBytes, headerBytes, plainHeader, fixByte, fieldsHeader, lentHeader, presented}
