@@ -4,9 +4,25 @@ use api::InfoRead;
 use error::WbmpError;
 
 fn main() {
+    let mut nothing = [0u8; 0];
+    if libc::read(0, &mut nothing) < 0 {
+        io::write_all(2, b"cardinfo: standard input cannot be read\n");
+        return;
+    }
     let mut space = io::large_buffer();
     let n = io::read_full(0, &mut space);
     print_card(&space[..n]);
+    if n == 65536 {
+        warn_if_longer();
+    }
+}
+
+// Says on standard error that bytes are left behind the 65,536 that are read.
+fn warn_if_longer() {
+    let mut next = [0u8; 1];
+    if libc::read(0, &mut next) > 0 {
+        io::write_all(2, b"cardinfo: bytes past 65,536 are not read\n");
+    }
 }
 
 fn print_card(card: &[u8]) {
