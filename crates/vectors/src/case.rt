@@ -89,7 +89,15 @@ fn tried_all(
         return both(none, some);
     }
     let exact = tried(list, start, operation, input, want, n, n);
-    let longer = tried(list, start, operation, input, want, n, std::num::wrapping_add_usize(n, 1));
+    let longer = tried(
+        list,
+        start,
+        operation,
+        input,
+        want,
+        n,
+        std::num::wrapping_add_usize(n, 1),
+    );
     let shorter = tried(list, start, operation, input, want, n, n - 1);
     both(exact, both(longer, shorter))
 }
