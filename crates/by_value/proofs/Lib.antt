@@ -1,3 +1,4 @@
 pub mod LentFront
 pub mod Locals
 pub mod Records
+pub mod WriteFields
