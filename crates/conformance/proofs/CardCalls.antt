@@ -16,7 +16,7 @@ use Rattle.options.specs.Limits.{Mode, lenient, strict, Decoding}
 use Rattle.rules.specs.Rule.{carries}
 use Rattle.quantize.specs.Engine.{Stands as QStands}
 use Rattle.quantize.specs.Machine.{State, carried}
-use Rattle.quantize.proofs.Dotting.{carries-same}
+use Rattle.quantize.proofs.DotsByRule.{carries-same}
 use Rattle.quantize.proofs.Places.{column-is}
 use Rattle.decoder.specs.Image.{headerOf}
 use Rattle.decode_session.specs.Model as Reading

@@ -14,7 +14,7 @@ use Rattle.laws.proofs.Emitted.{emitted-is}
 use Rattle.header.specs.Write.{presented}
 use Rattle.options.specs.Limits.{Decoding, ceilingOf}
 use Rattle.quantize.specs.Finished.{setting, finished}
-use Rattle.quantize.proofs.Joining.{finished-frames}
+use Rattle.quantize.proofs.FramesJoined.{finished-frames}
 use Rattle.encoder.specs.Make.{fileOfScans}
 use Rattle.encoder.proofs.ScanTests.{passes}
 use Rattle.encode_session.specs.Model as Making

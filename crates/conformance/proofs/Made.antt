@@ -20,8 +20,8 @@ use Rattle.options.specs.Limits.{Decoding}
 use Rattle.options.specs.declared.EncodeOptions.{EncodeOptions}
 use Rattle.options.specs.declared.Quantize.{Quantize}
 use Rattle.quantize.specs.Finished.{setting, finished}
-use Rattle.quantize.proofs.Joining.{scans-long, scans-more}
-use Rattle.quantize.proofs.Wholes.{plane-long}
+use Rattle.quantize.proofs.FramesJoined.{scans-long, scans-more}
+use Rattle.quantize.proofs.WholePlanes.{plane-long}
 use Rattle.encoder.specs.File.{fileOf}
 use Rattle.encoder.specs.Make.{checkScans, scanBytes, fileOfScans}
 use Rattle.encoder.proofs.ScanTests.{Passed as Passes, passed as scans-passed}

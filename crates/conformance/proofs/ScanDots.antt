@@ -20,9 +20,9 @@ use Rattle.options.specs.declared.Quantize.{Quantize}
 use Rattle.rules.specs.Bits.{bit, appended, digits}
 use Rattle.rules.specs.Rule.{dot, meaning}
 use Rattle.quantize.specs.Finished.{Setting, count, frame, dotOf, bitAt, byteAt, finished, setting}
-use Rattle.rules.proofs.Appending.{bit-le, appended-lt, appended-add, digits-tail}
-use Rattle.rules.proofs.Grown.{length-upto, upto-at}
-use Rattle.quantize.proofs.Packing.{bit-in, bit-past, byte-at}
+use Rattle.rules.proofs.DigitsAppended.{bit-le, appended-lt, appended-add, digits-tail}
+use Rattle.rules.proofs.UptoList.{length-upto, upto-at}
+use Rattle.quantize.proofs.BytePacked.{bit-in, bit-past, byte-at}
 use Rattle.quantize.proofs.Places.{div-at, mod-at}
 use Rattle.conformance.specs.ReadBack.{scanWhite}
 

@@ -52,10 +52,10 @@ use Rattle.rules.specs.Diffusion.{Direction, Scan, residualAt}
 use Rattle.quantize.specs.Finished.{setting}
 use Rattle.quantize.specs.Finished.{Setting, count, finished}
 use Rattle.rules.specs.Ordered.{bound, numbers}
-use Rattle.rules.proofs.Cells.{table, table-right, product-form}
-use Rattle.quantize.proofs.Growing.{finished-prefix}
-use Rattle.quantize.proofs.Joining.{finished-behind, scans-more}
-use Rattle.rules.proofs.Residuals.{residual-within}
+use Rattle.rules.proofs.OrderedNumbers.{table, table-right, product-form}
+use Rattle.quantize.proofs.FinishedGrows.{finished-prefix}
+use Rattle.quantize.proofs.FramesJoined.{finished-behind, scans-more}
+use Rattle.rules.proofs.ResidualRange.{residual-within}
 use Rattle.decoder.specs.Body.{planeOf, framesIn}
 use Rattle.decoder.specs.Frames.{decoded}
 use Rattle.decoder.specs.Frames as Decoder

@@ -6,7 +6,7 @@ use mathlib.Core.List.{List, [], _∷_, _++_, append-assoc, append-nil}
 use lib.ListN.{length, drop}
 use lib.Seq.{take-append-seam}
 use Rattle.quantize.specs.Finished.{finished}
-use Rattle.quantize.proofs.Growing.{finished-more}
+use Rattle.quantize.proofs.FinishedGrows.{finished-more}
 use Rattle.encode_session.specs.Model.{Opening, settingOf, Model, Call, feed, close, taken, written, Outcome, fedBy, outcome, replies}
 use Rattle.encode_session.specs.Model.{finally}
 use Rattle.encode_session.specs.Trace.{bytesOf, joined}

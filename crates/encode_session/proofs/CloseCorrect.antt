@@ -9,7 +9,7 @@ use Rattle.error.specs.declared.Checked.the-variants.{Accepted}
 use Rattle.laws.proofs.Tests.{zero-one}
 use lib.ListN.{length}
 use Rattle.quantize.specs.Engine.{behindFrames}
-use Rattle.quantize.proofs.Framing.{frames-behind}
+use Rattle.quantize.proofs.FramesDone.{frames-behind}
 use Rattle.encode_session.specs.declared.EncodeSession.{EncodeSession}
 use Rattle.encode_session.specs.declared.EncodeClosed.{EncodeClosed}
 use Rattle.encode_session.specs.Model.{settingOf, Model, shut, close, Told, isWhole, Outcome, closedBy, unaltered, outcome}

@@ -13,8 +13,8 @@ use Rattle.laws.proofs.Tests.{if-true, zero-one}
 use Rattle.quantize.specs.declared.engine.Ran.{Ran}
 use Rattle.quantize.specs.Engine.{roomFor, Counts, Runs, Stands as QStands, Holds as QHolds}
 use Rattle.quantize.specs.Finished.{newly}
-use Rattle.quantize.proofs.Framing.{frames-done, room-behind}
-use Rattle.quantize.proofs.Growing.{length-finished}
+use Rattle.quantize.proofs.FramesDone.{frames-done, room-behind}
+use Rattle.quantize.proofs.FinishedGrows.{length-finished}
 use Rattle.encode_session.specs.declared.EncodeSession.{EncodeSession}
 use Rattle.encode_session.specs.declared.EncodeFed.{EncodeFed}
 use Rattle.encode_session.specs.declared.EncodeFeed.the-variants.{Took}

@@ -12,7 +12,7 @@ use lib.ListN.{length, length-append}
 use lib.Seq.{length-take-le}
 use Rattle.laws.proofs.Tests.{zero-one}
 use Rattle.quantize.specs.Finished.{takes}
-use Rattle.quantize.proofs.Growing.{takes-le, takes-within}
+use Rattle.quantize.proofs.FinishedGrows.{takes-le, takes-within}
 use Rattle.encode_session.specs.Model.{Opening, settingOf, Model, opened, Call, feed, close, taken, isWhole, Outcome, outcome}
 use Rattle.encode_session.specs.Model.{finally}
 use Rattle.encode_session.proofs.OutcomeCases.{by-feed, by-close}

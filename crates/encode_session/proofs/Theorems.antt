@@ -8,7 +8,7 @@ use lib.IntN.{ℤ}
 use lib.ListN.{length}
 use Rattle.error.specs.Answer.{gives, written}
 use Rattle.quantize.specs.Finished.{finished}
-use Rattle.quantize.proofs.Growing.{finished-none}
+use Rattle.quantize.proofs.FinishedGrows.{finished-none}
 use Rattle.encode_session.specs.declared.EncodeSession.{EncodeSession}
 use Rattle.encode_session.specs.declared.EncodeOpened.{EncodeOpened}
 use Rattle.encode_session.specs.Model.{Opening, settingOf, opened, Call, Reply, replies, finally}

@@ -11,7 +11,7 @@ use Rattle.laws.proofs.Tests.{zero-one}
 use Rattle.image.specs.Geometry.{planeBytes}
 use Rattle.header.specs.Write.{extHeader}
 use Rattle.options.specs.declared.EncodeOptions.{EncodeOptions}
-use Rattle.quantize.proofs.Joining.{scans-long}
+use Rattle.quantize.proofs.FramesJoined.{scans-long}
 use Rattle.encoder.specs.File.{fileOf}
 use Rattle.encoder.specs.Make.{checkScans, scanBytes, fileOfScans, Makes}
 use Rattle.encoder.specs.Parts.{Heads}

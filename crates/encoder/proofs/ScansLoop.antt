@@ -20,8 +20,8 @@ use Rattle.options.specs.declared.Quantize.{Quantize}
 use Rattle.rules.specs.Rule.{meaning, carries}
 use Rattle.quantize.specs.Finished.{setting, finished}
 use Rattle.quantize.specs.Whole.{quantized, Quantizes}
-use Rattle.quantize.proofs.Wholes.{refused-none, plane-long}
-use Rattle.quantize.proofs.Joining.{scans-none, scans-long, scans-more}
+use Rattle.quantize.proofs.WholePlanes.{refused-none, plane-long}
+use Rattle.quantize.proofs.FramesJoined.{scans-none, scans-long, scans-more}
 use Rattle.encoder.specs.Make.{scanBytes}
 use Rattle.encoder.specs.Scans.{PutsScans}
 use Rattle.encoder.proofs.ScanTests.{Passed}

@@ -20,7 +20,7 @@ use Rattle.quantize.specs.Finished.{Setting}
 use Rattle.rules.specs.Carry.{clamp, Carry, leftOf, overOf, valueOf, diffused, machineDot, next}
 use Rattle.quantize.specs.Machine.{State, Step, lastOf, byteStep, stepOf, carried}
 use Rattle.rules.specs.Rule.{Rule, threshold, dither, ordered}
-use Rattle.quantize.proofs.Tracing.{carried-long}
+use Rattle.quantize.proofs.MachineSteps.{carried-long}
 
 -- numbers behind those that are kept
 abbrev withRest : List ℤ → Carry → Carry

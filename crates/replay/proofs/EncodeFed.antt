@@ -14,7 +14,7 @@ use Rattle.error.specs.Answer as Answers
 use Rattle.rules.specs.Rule.{carries}
 use Rattle.quantize.specs.Machine.{State, carried}
 use Rattle.quantize.specs.Turn.{stateOf}
-use Rattle.quantize.proofs.Dotting.{carries-same}
+use Rattle.quantize.proofs.DotsByRule.{carries-same}
 use Rattle.encode_session.specs.Model.{Opening, settingOf, serves, Model, feed, Told, Outcome, outcome}
 use Rattle.encode_session.specs.Session.{fedMeaning, Stands, Holds, Feeds}
 use Rattle.encode_session.specs.Trace.{tookOf}

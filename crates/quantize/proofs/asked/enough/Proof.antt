@@ -3,7 +3,7 @@
 use mathlib.Core.Path.{_∙_, ap, sym}
 use Rattle.options.specs.declared.Quantize.{Quantize}
 use Rattle.rules.specs.Rule.{meaning, roomy as roomyOf}
-use Rattle.quantize.proofs.Abilities.{half-leb}
+use Rattle.quantize.proofs.RunTests.{half-leb}
 use borrow.Author.Needs.{needs}
 use Rattle.quantize.proofs.asked.enough.Statement.{statement}
 use Rattle.quantize.proofs.asked.enough.Tie as tie

@@ -7,7 +7,7 @@ use native.Mathlib.Omega.{arith}
 use lib.Pow.{pow-pos}
 use borrow.Author.Tests.{not-true, not-false}
 use Rattle.rules.proofs.Signed.{never}
-use Rattle.quantize.proofs.Abilities.{denied, div-zero, able-if}
+use Rattle.quantize.proofs.RunTests.{denied, div-zero, able-if}
 use borrow.Author.Needs.{needs}
 use Rattle.quantize.proofs.engine.able.Statement.{statement}
 use Rattle.quantize.proofs.engine.able.Tie as tie

@@ -1,6 +1,6 @@
 -- `quantize::engine::table_of` meets its contract.
 -- Assumes nothing.
-use Rattle.quantize.proofs.Opening.{tabled-threshold, tabled-dither, tabled-ordered}
+use Rattle.quantize.proofs.NewHolds.{tabled-threshold, tabled-dither, tabled-ordered}
 use borrow.Author.Needs.{needs}
 use Rattle.quantize.proofs.engine.table_of.Statement.{statement}
 use Rattle.quantize.proofs.engine.table_of.Tie as tie

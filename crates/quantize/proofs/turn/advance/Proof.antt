@@ -1,6 +1,6 @@
 -- `quantize::turn::advance` meets its contract.
 -- Assumes nothing.
-use Rattle.quantize.proofs.Advancing.{advances-on, advances-byte, advances-row, advances-frame}
+use Rattle.quantize.proofs.PlaceAdvanced.{advances-on, advances-byte, advances-row, advances-frame}
 use borrow.Author.Needs.{needs}
 use Rattle.quantize.proofs.turn.advance.Statement.{statement}
 use Rattle.quantize.proofs.turn.advance.Tie as tie

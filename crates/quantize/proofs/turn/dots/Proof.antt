@@ -1,7 +1,7 @@
 -- `quantize::turn::dots` meets its contract.
 -- Assumes nothing.
 use native.Mathlib.Omega.{arith}
-use Rattle.quantize.proofs.Dotting.{dots-threshold, dots-dither, dots-ordered, served-dither, served-ordered}
+use Rattle.quantize.proofs.DotsByRule.{dots-threshold, dots-dither, dots-ordered, served-dither, served-ordered}
 use borrow.Author.Needs.{needs}
 use Rattle.quantize.proofs.turn.dots.Statement.{statement}
 use Rattle.quantize.proofs.turn.dots.Tie as tie

@@ -2,8 +2,8 @@
 -- Assumes nothing.
 use native.Mathlib.Omega.{arith}
 use borrow.Author.Needs.{needs}
-use Rattle.quantize.proofs.Dotting.{served-dither}
-use Rattle.quantize.proofs.Filling.{fills-threshold, fills-dither, fills-none}
+use Rattle.quantize.proofs.DotsByRule.{served-dither}
+use Rattle.quantize.proofs.FillByRule.{fills-threshold, fills-dither, fills-none}
 use Rattle.quantize.proofs.turn.fill.Statement.{statement}
 use Rattle.quantize.proofs.turn.fill.Tie as tie
 

@@ -2,7 +2,7 @@
 -- Assumes nothing.
 use native.Mathlib.Nat.{mod-eq-of-lt, lt-trans}
 use lib.Dec.{lit<}
-use Rattle.rules.proofs.Appending.{shifted-lt}
+use Rattle.rules.proofs.DigitsAppended.{shifted-lt}
 use borrow.Author.Needs.{needs}
 use Rattle.quantize.proofs.turn.pad.Statement.{statement}
 use Rattle.quantize.proofs.turn.pad.Tie as tie

@@ -2,7 +2,7 @@
 -- Assumes nothing.
 use mathlib.Core.Path.{refl}
 use borrow.Author.Needs.{needs}
-use Rattle.rules.proofs.Rowing.{dots-small}
+use Rattle.rules.proofs.DitherDotsLoop.{dots-small}
 use Rattle.quantize.proofs.turn.take.Statement.{statement}
 use Rattle.quantize.proofs.turn.take.Tie as tie
 

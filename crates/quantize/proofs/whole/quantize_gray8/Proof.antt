@@ -3,7 +3,7 @@
 use Prim.Native.Nat.{_+_, _/_}
 use native.Mathlib.Omega.{arith}
 use Rattle.laws.proofs.Products.{product-below}
-use Rattle.quantize.proofs.Wholes.{quantizes-refused, quantizes-short, quantizes-all}
+use Rattle.quantize.proofs.WholePlanes.{quantizes-refused, quantizes-short, quantizes-all}
 use borrow.Author.Needs.{needs}
 use Rattle.quantize.proofs.whole.quantize_gray8.Statement.{statement}
 use Rattle.quantize.proofs.whole.quantize_gray8.Tie as tie

@@ -3,7 +3,7 @@
 use mathlib.Core.Path.{_∙_, sym}
 use borrow.Author.Tests.{not-true, not-false}
 use Rattle.laws.proofs.Products.{product-below}
-use Rattle.quantize.proofs.Wholes.{refused-width, refused-height, refused-rule, refused-work, refused-gray, refused-none}
+use Rattle.quantize.proofs.WholePlanes.{refused-width, refused-height, refused-rule, refused-work, refused-gray, refused-none}
 use borrow.Author.Needs.{needs}
 use Rattle.quantize.proofs.whole.refused.Statement.{statement}
 use Rattle.quantize.proofs.whole.refused.Tie as tie

@@ -2,7 +2,7 @@
 -- Assumes nothing.
 use mathlib.Core.Path.{refl}
 use lib.IntN.{subℕ}
-use Rattle.rules.proofs.Rowing.{corner-on, corner-none}
+use Rattle.rules.proofs.DitherDotsLoop.{corner-on, corner-none}
 use Rattle.rules.proofs.dither.corner_of.Statement.{statement}
 use Rattle.rules.proofs.dither.corner_of.Tie as tie
 

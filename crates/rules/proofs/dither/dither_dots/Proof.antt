@@ -12,8 +12,8 @@ use mir.Val.{toZ, ofZ}
 use mir.ValLaws.{toZ-ofZ}
 use Rattle.rules.specs.Rule.{dither}
 use Rattle.rules.specs.Kernels.{rowBit, carryOf}
-use Rattle.rules.proofs.Appending.{appended-fits}
-use Rattle.rules.proofs.Rowing.{Inv, inv-start, inv-more, inv-end, dot-le, row-bit-le}
+use Rattle.rules.proofs.DigitsAppended.{appended-fits}
+use Rattle.rules.proofs.DitherDotsLoop.{Inv, inv-start, inv-more, inv-end, dot-le, row-bit-le}
 use Rattle.rules.proofs.dither.dither_dots.Statement.{statement}
 use Rattle.rules.proofs.dither.dither_dots.Tie as tie
 

@@ -11,8 +11,8 @@ use mir.Syntax.{w16}
 use mir.ValLaws.{toZ-ofZ}
 use Rattle.rules.specs.Carry.{clamp}
 use Rattle.rules.specs.Kernels.{Biased}
-use Rattle.rules.proofs.Reading.{left-at}
-use Rattle.rules.proofs.Rowing.{biased-zero}
+use Rattle.rules.proofs.CarryRead.{left-at}
+use Rattle.rules.proofs.DitherDotsLoop.{biased-zero}
 use Rattle.rules.proofs.dither.left_of.Statement.{statement}
 use Rattle.rules.proofs.dither.left_of.Tie as tie
 

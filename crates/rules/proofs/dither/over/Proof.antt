@@ -10,8 +10,8 @@ use mir.Syntax.{w16}
 use mir.ValLaws.{toZ-ofZ}
 use Rattle.rules.specs.Carry.{clamp}
 use Rattle.rules.specs.Kernels.{Biased}
-use Rattle.rules.proofs.Reading.{over-in, over-past}
-use Rattle.rules.proofs.Rowing.{biased-zero}
+use Rattle.rules.proofs.CarryRead.{over-in, over-past}
+use Rattle.rules.proofs.DitherDotsLoop.{biased-zero}
 use Rattle.rules.proofs.dither.over.Statement.{statement}
 use Rattle.rules.proofs.dither.over.Tie as tie
 

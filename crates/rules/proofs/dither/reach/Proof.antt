@@ -2,7 +2,7 @@
 -- Assumes nothing.
 use mathlib.Core.Path.{refl, sym, _∙_}
 use native.Mathlib.Omega.{arith}
-use Rattle.rules.proofs.Reading.{over-alike, over-past, over-top}
+use Rattle.rules.proofs.CarryRead.{over-alike, over-past, over-top}
 use Rattle.rules.proofs.dither.reach.Statement.{statement}
 use Rattle.rules.proofs.dither.reach.Tie as tie
 

@@ -6,7 +6,7 @@ use native.Mathlib.Nat.{add-zero}
 use native.Mathlib.Omega.{arith}
 use Rattle.rules.specs.Ordered.{quarter}
 use Rattle.rules.specs.Kernels.{Cell}
-use Rattle.rules.proofs.Cells.{cell-one, cell-more, cell-small, upper-left, upper-right, lower-left, lower-right}
+use Rattle.rules.proofs.OrderedNumbers.{cell-one, cell-more, cell-small, upper-left, upper-right, lower-left, lower-right}
 use borrow.Fn.Kinds.{In}
 use borrow.Fn.PlainCycle.{Measures, is, falls, and}
 use Rattle.rules.proofs.ordered.cell.Reads as cell

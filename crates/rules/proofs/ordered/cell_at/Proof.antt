@@ -1,7 +1,7 @@
 -- `quantize::ordered::cell_at` meets its contract.
 -- Assumes nothing.
 use native.Mathlib.Omega.{arith}
-use Rattle.rules.proofs.Cells.{known-small, index-small}
+use Rattle.rules.proofs.OrderedNumbers.{known-small, index-small}
 use borrow.Author.Needs.{needs}
 use Rattle.rules.proofs.ordered.cell_at.Statement.{statement}
 use Rattle.rules.proofs.ordered.cell_at.Tie as tie

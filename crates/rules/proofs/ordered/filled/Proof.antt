@@ -6,7 +6,7 @@ use native.Mathlib.Omega.{arith}
 use lib.ListN.{length, take, length-set}
 use Rattle.rules.specs.Bits.{upto}
 use Rattle.rules.specs.Ordered.{number, numbers}
-use Rattle.rules.proofs.Cells.{take-more, area-le}
+use Rattle.rules.proofs.OrderedNumbers.{take-more, area-le}
 use Rattle.rules.proofs.ordered.filled.Statement.{statement}
 use Rattle.rules.proofs.ordered.filled.Tie as tie
 

@@ -2,7 +2,7 @@
 -- Assumes nothing.
 use mathlib.Core.Path.{refl}
 use mathlib.Core.Logic.{⊎-elim}
-use Rattle.rules.proofs.Cells.{known-side, table-right}
+use Rattle.rules.proofs.OrderedNumbers.{known-side, table-right}
 use borrow.Author.Needs.{needs}
 use Rattle.rules.proofs.ordered.numbers.Statement.{statement}
 use Rattle.rules.proofs.ordered.numbers.Tie as tie

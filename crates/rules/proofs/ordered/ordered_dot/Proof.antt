@@ -3,8 +3,8 @@
 use Prim.Native.Nat.{_*_}
 use native.Mathlib.Nat.{mul-le-mul}
 use native.Mathlib.Omega.{arith}
-use Rattle.rules.proofs.Appending.{bit-yes, bit-no}
-use Rattle.rules.proofs.Cells.{known-small, area-le, product-white, product-black}
+use Rattle.rules.proofs.DigitsAppended.{bit-yes, bit-no}
+use Rattle.rules.proofs.OrderedNumbers.{known-small, area-le, product-white, product-black}
 use borrow.Author.Needs.{needs}
 use Rattle.rules.proofs.ordered.ordered_dot.Statement.{statement}
 use Rattle.rules.proofs.ordered.ordered_dot.Tie as tie

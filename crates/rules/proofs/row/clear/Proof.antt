@@ -11,7 +11,7 @@ use lib.ListN.{getD}
 use mir.Syntax.{w16}
 use mir.Val.{toZ}
 use mir.ValLaws.{toZ-ofZ}
-use Rattle.rules.proofs.Further.{one-further}
+use Rattle.rules.proofs.BelowGrows.{one-further}
 use Rattle.rules.proofs.row.clear.Statement.{statement}
 use Rattle.rules.proofs.row.clear.Tie as tie
 

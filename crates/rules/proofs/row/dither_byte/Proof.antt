@@ -12,8 +12,8 @@ use mir.Val.{toZ, ofZ}
 use mir.ValLaws.{toZ-ofZ}
 use Rattle.rules.specs.Rule.{dither}
 use Rattle.rules.specs.Kernels.{rowBit, carryOf}
-use Rattle.rules.proofs.Appending.{appended-fits}
-use Rattle.rules.proofs.Rowing.{Inv, inv-start, inv-more, inv-end, inv-near, dot-le, row-bit-le}
+use Rattle.rules.proofs.DigitsAppended.{appended-fits}
+use Rattle.rules.proofs.DitherDotsLoop.{Inv, inv-start, inv-more, inv-end, inv-near, dot-le, row-bit-le}
 use Rattle.rules.proofs.row.dither_byte.Statement.{statement}
 use Rattle.rules.proofs.row.dither_byte.Tie as tie
 

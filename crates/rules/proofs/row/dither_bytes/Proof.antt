@@ -9,9 +9,9 @@ use denote.Ref.{now}
 use lib.ListN.{length}
 use Rattle.rules.specs.Rule.{dither}
 use Rattle.rules.specs.Row.{Near, Bytes}
-use Rattle.rules.proofs.Calming.{calm-all}
-use Rattle.rules.proofs.Chaining.{Chain, bytes-none, chain-start, chain-more, chain-end, byte-small, near-own}
-use Rattle.rules.proofs.Pieces.{piece-length}
+use Rattle.rules.proofs.CalmBytes.{calm-all}
+use Rattle.rules.proofs.DitherBytesLoop.{Chain, bytes-none, chain-start, chain-more, chain-end, byte-small, near-own}
+use Rattle.rules.proofs.ListPiece.{piece-length}
 use Rattle.rules.proofs.row.dither_bytes.Statement.{statement}
 use Rattle.rules.proofs.row.dither_bytes.Tie as tie
 

@@ -7,7 +7,7 @@ use native.Mathlib.Omega.{arith}
 use borrow.Author.Tests.{eqb-true}
 use denote.Ref.{now}
 use lib.ListN.{getD}
-use Rattle.rules.proofs.Further.{one-further}
+use Rattle.rules.proofs.BelowGrows.{one-further}
 use Rattle.rules.proofs.row.plain.Statement.{statement}
 use Rattle.rules.proofs.row.plain.Tie as tie
 

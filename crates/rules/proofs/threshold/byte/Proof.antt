@@ -6,7 +6,7 @@ use lib.ListN.{getD}
 use borrow.Author.Needs.{needs}
 use Rattle.rules.specs.Kernels.{thresholdFrom}
 use Rattle.rules.specs.Words.{samplesFrom}
-use Rattle.rules.proofs.Appending.{bit-le}
+use Rattle.rules.proofs.DigitsAppended.{bit-le}
 use Rattle.rules.proofs.threshold.byte.Statement.{statement}
 use Rattle.rules.proofs.threshold.byte.Tie as tie
 

@@ -1,7 +1,7 @@
 use Prim.Native.Nat.{_%_}
 use native.Mathlib.Omega.{arith}
 use borrow.Author.Needs.{needs}
-use Rattle.rules.proofs.Comparing.{low-fits, dots-below, dots-above}
+use Rattle.rules.proofs.WordCompared.{low-fits, dots-below, dots-above}
 use Rattle.rules.proofs.threshold.compared.Statement.{statement}
 use Rattle.rules.proofs.threshold.compared.Tie as tie
 

@@ -1,6 +1,6 @@
 use native.Mathlib.Omega.{arith}
 use borrow.Author.Needs.{needs}
-use Rattle.rules.proofs.Appending.{bit-yes, bit-no}
+use Rattle.rules.proofs.DigitsAppended.{bit-yes, bit-no}
 use Rattle.rules.proofs.threshold.dot.Statement.{statement}
 use Rattle.rules.proofs.threshold.dot.Tie as tie
 

@@ -1,5 +1,5 @@
 use borrow.Author.Needs.{needs}
-use Rattle.rules.proofs.Gathering.{gather-is}
+use Rattle.rules.proofs.WordGathered.{gather-is}
 use Rattle.rules.proofs.threshold.gathered.Statement.{statement}
 use Rattle.rules.proofs.threshold.gathered.Tie as tie
 

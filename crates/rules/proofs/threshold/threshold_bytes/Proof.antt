@@ -4,7 +4,7 @@ use native.Mathlib.Omega.{arith}
 use denote.Ref.{now}
 use lib.ListN.{length}
 use Rattle.rules.specs.Kernels.{stored}
-use Rattle.rules.proofs.Stored.{stored-length, stored-next}
+use Rattle.rules.proofs.StoredBytes.{stored-length, stored-next}
 use Rattle.rules.proofs.threshold.threshold_bytes.Statement.{statement}
 use Rattle.rules.proofs.threshold.threshold_bytes.Tie as tie
 

@@ -7,8 +7,8 @@ use lib.Dec.{leb}
 use lib.ListN.{length, getD}
 use Rattle.rules.specs.Bits.{appended}
 use Rattle.rules.specs.Kernels.{thresholdBit}
-use Rattle.rules.proofs.Appending.{bit-le, one-more, appended-fits}
-use Rattle.rules.proofs.Stored.{byte-more}
+use Rattle.rules.proofs.DigitsAppended.{bit-le, one-more, appended-fits}
+use Rattle.rules.proofs.StoredBytes.{byte-more}
 use Rattle.rules.proofs.threshold.threshold_dots.Statement.{statement}
 use Rattle.rules.proofs.threshold.threshold_dots.Tie as tie
 

@@ -1,6 +1,6 @@
 -- `quantize::engine::Quantizer::new` meets its contract.
 -- Assumes nothing.
-use Rattle.quantize.proofs.Opening.{opens}
+use Rattle.quantize.proofs.NewHolds.{opens}
 use borrow.Author.Needs.{needs}
 use Rattle.quantize.proofs.engine.Quantizer.new.Statement.{statement}
 use Rattle.quantize.proofs.engine.Quantizer.new.Tie as tie

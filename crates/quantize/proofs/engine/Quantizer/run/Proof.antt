@@ -10,10 +10,10 @@ use Rattle.quantize.specs.declared.engine.Quantizer.{Quantizer}
 use Rattle.quantize.specs.Finished.{Bytewise}
 use Rattle.quantize.specs.Turn.{ruleOf}
 use Rattle.quantize.proofs.Places.{bytewise}
-use Rattle.quantize.proofs.Running.{Loop, loop-start}
-use Rattle.quantize.proofs.Taking.{end-fits, taking, took-room, loop-took}
-use Rattle.quantize.proofs.Bulk.{loop-filled}
-use Rattle.quantize.proofs.Ending.{runs-none, full-byte, runs-end}
+use Rattle.quantize.proofs.RunLoop.{Loop, loop-start}
+use Rattle.quantize.proofs.TurnTakes.{end-fits, taking, took-room, loop-took}
+use Rattle.quantize.proofs.BytesAtOnce.{loop-filled}
+use Rattle.quantize.proofs.RunEnd.{runs-none, full-byte, runs-end}
 use Rattle.quantize.proofs.engine.Quantizer.run.Statement.{statement}
 use Rattle.quantize.proofs.engine.Quantizer.run.Tie as tie
 

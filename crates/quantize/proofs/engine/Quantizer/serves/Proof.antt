@@ -3,7 +3,7 @@
 use mathlib.Core.Path.{sym, ap, _∙_}
 use Rattle.options.specs.declared.Quantize.{Quantize}
 use Rattle.rules.specs.Rule.{meaning, roomy}
-use Rattle.quantize.proofs.Abilities.{half-leb}
+use Rattle.quantize.proofs.RunTests.{half-leb}
 use borrow.Author.Needs.{needs}
 use Rattle.quantize.proofs.engine.Quantizer.serves.Statement.{statement}
 use Rattle.quantize.proofs.engine.Quantizer.serves.Tie as tie

@@ -1,6 +1,6 @@
 -- `quantize::engine::Quantizer::whole_frames` meets its contract.
 -- Assumes nothing.
-use Rattle.quantize.proofs.Framing.{off-row, off-column, at-start}
+use Rattle.quantize.proofs.FramesDone.{off-row, off-column, at-start}
 use Rattle.quantize.proofs.engine.Quantizer.whole_frames.Statement.{statement}
 use Rattle.quantize.proofs.engine.Quantizer.whole_frames.Tie as tie
 

@@ -9,8 +9,8 @@ use lib.Dec.{leb}
 use lib.ListN.{length, set, length-set}
 use Rattle.rules.specs.Bits.{bit, digits, appended}
 use Rattle.rules.specs.Kernels.{thresholdBit, thresholdFrom, stored}
-use Rattle.rules.proofs.Appending.{appended-ext}
-use Rattle.rules.proofs.Pieces.{piece, piece-length, piece-at}
+use Rattle.rules.proofs.DigitsAppended.{appended-ext}
+use Rattle.rules.proofs.ListPiece.{piece, piece-length, piece-at}
 
 -- eight dots after others
 eight-more : (b : ℕ) (f : ℕ → ℕ) → appended b f 8 ≡ b * 256 + digits f 8

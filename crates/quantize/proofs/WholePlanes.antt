@@ -25,8 +25,8 @@ use Rattle.rules.specs.Rule.{meaning, knownRule, roomy}
 use Rattle.quantize.specs.Engine.{Opens, Holds, Runs}
 use Rattle.quantize.specs.Whole.{refusedBy, quantized, Quantizes}
 use Rattle.quantize.proofs.Places.{count-rows}
-use Rattle.quantize.proofs.Counting.{most-is}
-use Rattle.rules.proofs.Grown.{length-upto}
+use Rattle.quantize.proofs.TakenMost.{most-is}
+use Rattle.rules.proofs.UptoList.{length-upto}
 
 -- ---- the refusals
 

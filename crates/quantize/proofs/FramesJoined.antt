@@ -15,10 +15,10 @@ use Rattle.options.specs.declared.Quantize.{Quantize}
 use Rattle.options.specs.declared.Quantize.the-variants.{Dither}
 use Rattle.rules.specs.Bits.{upto}
 use Rattle.quantize.specs.Finished.{Setting, count, frame, dotOf, bitAt, byteAt, finished, setting}
-use Rattle.rules.proofs.Appending.{appended-ext}
+use Rattle.rules.proofs.DigitsAppended.{appended-ext}
 use Rattle.quantize.proofs.Places.{count-rows}
-use Rattle.rules.proofs.Grown.{length-upto, upto-ext, upto-add}
-use Rattle.quantize.proofs.Depending.{byte-counted}
+use Rattle.rules.proofs.UptoList.{length-upto, upto-ext, upto-add}
+use Rattle.quantize.proofs.DotsDepend.{byte-counted}
 
 -- ---- the bytes of rows
 

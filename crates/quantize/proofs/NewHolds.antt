@@ -19,11 +19,11 @@ use Rattle.quantize.specs.Machine.{emitted}
 use Rattle.rules.specs.Kernels.{Table, carryOf}
 use Rattle.quantize.specs.Engine.{Begins, Keeps, Holds, Tabled, Opens}
 use Rattle.laws.proofs.Octets.{octets-by}
-use Rattle.rules.proofs.Range.{Held}
-use Rattle.quantize.proofs.Packing.{begun-none}
-use Rattle.quantize.proofs.Growing.{finished-none}
-use Rattle.quantize.proofs.Emitting.{kept}
-use Rattle.quantize.proofs.Following.{diffusion-frame}
+use Rattle.rules.proofs.HeldRange.{Held}
+use Rattle.quantize.proofs.BytePacked.{begun-none}
+use Rattle.quantize.proofs.FinishedGrows.{finished-none}
+use Rattle.quantize.proofs.EmittedFinished.{kept}
+use Rattle.quantize.proofs.DiffusionFollows.{diffusion-frame}
 
 -- ---- the table
 

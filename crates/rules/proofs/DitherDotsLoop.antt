@@ -15,10 +15,10 @@ use Rattle.rules.specs.Rule.{Rule, dither}
 use Rattle.rules.specs.Carry.{Carry, clamp, leftOf, cornerOf, overOf, valueOf, diffused, machineDot, next}
 use Rattle.rules.specs.Kernels.{Biased, Stepped, rowCarry, rowBit, carryOf, Dots}
 use Rattle.rules.specs.Row.{Near}
-use Rattle.rules.proofs.Range.{within, clamp-same}
-use Rattle.rules.proofs.Reading.{left-at, corner-at, over-set, kept-zero}
+use Rattle.rules.proofs.HeldRange.{within, clamp-same}
+use Rattle.rules.proofs.CarryRead.{left-at, corner-at, over-set, kept-zero}
 use Rattle.rules.proofs.Differences.{stepped-calm}
-use Rattle.rules.proofs.Appending.{bit-le, one-more, appended-lt}
+use Rattle.rules.proofs.DigitsAppended.{bit-le, one-more, appended-lt}
 
 pub biased-zero : Biased (pos 0) 128
 biased-zero = record { is = refl; small = omega arith }

@@ -21,13 +21,13 @@ use Rattle.quantize.specs.Machine.{State, carried, emitted}
 use Rattle.quantize.specs.Turn.{stateOf, ruleOf, Sound, Shares, Served}
 use Rattle.quantize.specs.Engine.{Stands, Keeps, Holds, Counts, Machines, Defined, Ready, Runs}
 use Rattle.rules.proofs.Differences.{lt-or-le}
-use Rattle.rules.proofs.Range.{Held}
-use Rattle.quantize.proofs.Dotting.{roomy-same}
-use Rattle.quantize.proofs.Counting.{takes-all, next-byte}
-use Rattle.quantize.proofs.Tracing.{emitted-count}
-use Rattle.quantize.proofs.Turning.{Moved}
-use Rattle.quantize.proofs.Emitting.{kept}
-use Rattle.quantize.proofs.Running.{Loop}
+use Rattle.rules.proofs.HeldRange.{Held}
+use Rattle.quantize.proofs.DotsByRule.{roomy-same}
+use Rattle.quantize.proofs.TakenMost.{takes-all, next-byte}
+use Rattle.quantize.proofs.MachineSteps.{emitted-count}
+use Rattle.quantize.proofs.TurnMoves.{Moved}
+use Rattle.quantize.proofs.EmittedFinished.{kept}
+use Rattle.quantize.proofs.RunLoop.{Loop}
 
 -- ---- the work buffer
 

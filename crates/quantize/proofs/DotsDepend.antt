@@ -15,9 +15,9 @@ use Rattle.rules.specs.Ordered.{bound, cell}
 use Rattle.rules.specs.Rule.{Rule, threshold, dither, ordered, rightwards, dot}
 use Rattle.quantize.specs.Finished.{Setting, begunBytes, Bytewise, count, frame, dotOf, bitAt, byteAt}
 use Rattle.rules.proofs.Differences.{lt-or-le}
-use Rattle.rules.proofs.Appending.{appended-ext}
-use Rattle.rules.proofs.Causes.{valueAt-ext, residual-is}
-use Rattle.quantize.proofs.Packing.{bit-in, bit-past}
+use Rattle.rules.proofs.DigitsAppended.{appended-ext}
+use Rattle.rules.proofs.DotCauses.{valueAt-ext, residual-is}
+use Rattle.quantize.proofs.BytePacked.{bit-in, bit-past}
 use Rattle.quantize.proofs.Places.{div-at, mod-at, bytewise, begun-within}
 
 -- ---- where sample n is

@@ -17,12 +17,12 @@ use Rattle.quantize.specs.Finished.{Bytewise}
 use Rattle.rules.specs.Kernels.{Dots}
 use Rattle.quantize.specs.Turn.{ruleOf, Wholes, Dotted, Advances}
 use Rattle.rules.specs.Row.{Bytes}
-use Rattle.quantize.proofs.Advancing.{advances-byte}
-use Rattle.rules.proofs.Pieces.{piece, piece-length}
-use Rattle.rules.proofs.Rowing.{dots-small}
-use Rattle.quantize.proofs.Turning.{turn-byte}
-use Rattle.quantize.proofs.Running.{Loop, loop-byte}
-use Rattle.quantize.proofs.Taking.{piece-same}
+use Rattle.quantize.proofs.PlaceAdvanced.{advances-byte}
+use Rattle.rules.proofs.ListPiece.{piece, piece-length}
+use Rattle.rules.proofs.DitherDotsLoop.{dots-small}
+use Rattle.quantize.proofs.TurnMoves.{turn-byte}
+use Rattle.quantize.proofs.RunLoop.{Loop, loop-byte}
+use Rattle.quantize.proofs.TurnTakes.{piece-same}
 
 module _ (q : Quantizer) (samples out₀ : List ℕ) (work₀ : List ℤ) (high : q .height < 2 ^ 64) where
   abbrev rule : Rule

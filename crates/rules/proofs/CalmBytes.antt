@@ -17,9 +17,9 @@ use Rattle.rules.specs.Carry.{leftOf, cornerOf, overOf}
 use Rattle.rules.specs.Kernels.{Biased, Dots, thresholdFrom, stored}
 use Rattle.rules.specs.Row.{Near, Calm, Bytes}
 use Rattle.rules.proofs.Differences.{lt-or-le}
-use Rattle.rules.proofs.Pieces.{piece, piece-length, piece-at}
-use Rattle.rules.proofs.Reading.{left-at, over-in}
-use Rattle.rules.proofs.Rowing.{Inv, biased-zero, corner-on, inv-start, inv-calm, inv-end}
+use Rattle.rules.proofs.ListPiece.{piece, piece-length, piece-at}
+use Rattle.rules.proofs.CarryRead.{left-at, over-in}
+use Rattle.rules.proofs.DitherDotsLoop.{Inv, biased-zero, corner-on, inv-start, inv-calm, inv-end}
 
 -- the dot of a byte at 128
 half : (g : ℕ) → g < 256 → g / 128 ≡ bit (leb 128 g)

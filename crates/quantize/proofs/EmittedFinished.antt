@@ -20,13 +20,13 @@ use Rattle.quantize.specs.Machine.{State, Step, byteStep, stepOf, carrie
 use Rattle.rules.specs.Carry.{machineDot, next}
 use Rattle.quantize.specs.Place.{begunBy, Begun}
 use Rattle.quantize.specs.Engine.{Begins, Keeps}
-use Rattle.rules.proofs.Range.{Held}
+use Rattle.rules.proofs.HeldRange.{Held}
 use Rattle.quantize.proofs.Places.{bytewise, on-column, end-column, count-last, count-open}
-use Rattle.quantize.proofs.Packing.{begun-none, begun-ext, begun-more, byte-last, begun-on}
-use Rattle.quantize.proofs.Tracing.{last-or, byte-shut, byte-open, carry-after, carried-long}
-use Rattle.quantize.proofs.Depending.{dotOf-begun}
-use Rattle.quantize.proofs.Growing.{finished-add}
-use Rattle.quantize.proofs.Keeping.{here, value-next, corner-next, keeps-next}
+use Rattle.quantize.proofs.BytePacked.{begun-none, begun-ext, begun-more, byte-last, begun-on}
+use Rattle.quantize.proofs.MachineSteps.{last-or, byte-shut, byte-open, carry-after, carried-long}
+use Rattle.quantize.proofs.DotsDepend.{dotOf-begun}
+use Rattle.quantize.proofs.FinishedGrows.{finished-add}
+use Rattle.quantize.proofs.DiffusionKept.{here, value-next, corner-next, keeps-next}
 
 -- ---- its byte, where the row is finished byte after byte
 

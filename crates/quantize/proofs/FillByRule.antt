@@ -13,10 +13,10 @@ use Rattle.rules.specs.Rule.{threshold, dither}
 use Rattle.rules.specs.Kernels.{thresholdFrom, stored}
 use Rattle.quantize.specs.Turn.{ruleOf, AtOnce, Fills}
 use Rattle.rules.specs.Row.{Bytes}
-use Rattle.rules.proofs.Chaining.{bytes-none}
-use Rattle.quantize.proofs.Dotting.{dots-threshold}
-use Rattle.rules.proofs.Pieces.{piece}
-use Rattle.rules.proofs.Stored.{byte-piece}
+use Rattle.rules.proofs.DitherBytesLoop.{bytes-none}
+use Rattle.quantize.proofs.DotsByRule.{dots-threshold}
+use Rattle.rules.proofs.ListPiece.{piece}
+use Rattle.rules.proofs.StoredBytes.{byte-piece}
 
 module _ (rule : Quantize) (w y x : ℕ) (samples : List ℕ) (at : ℕ) (out : List ℕ) (to corner : ℕ) (work : List ℤ) where
   threshold-bytes : (t k : ℕ) → corner ≤ 256 → at + 8 * k ≤ length samples → Bytes (threshold t) w y x samples at out to corner work k (stored t samples at out to k) corner work

@@ -13,7 +13,7 @@ use lib.Seq.{append-snoc, length-take-le, drop-drop, set-split, take-at, drop-at
 use Rattle.quantize.specs.declared.engine.Quantizer.{Quantizer}
 use Rattle.quantize.specs.declared.turn.Place.{Place}
 use Rattle.quantize.specs.Turn.{Sound}
-use Rattle.quantize.proofs.Turning.{Turn, turn-none, turn-turn}
+use Rattle.quantize.proofs.TurnMoves.{Turn, turn-none, turn-turn}
 
 module _ (q : Quantizer) (samples out₀ : List ℕ) (work₀ : List ℤ) where
   pub record Loop (out : List ℕ) (work : List ℤ) (p : Place) (taken written : ℕ) : Type 0 where

@@ -8,7 +8,7 @@ use lib.IntN.{ℤ, pos, natAbs}
 use Rattle.error.specs.Choice.{if}
 use Rattle.rules.specs.Diffusion.{Scan, Direction, toRight, toLeft, residual, onLeft, onRight, before, after, visited, valueFrom, handed, rowValue, above, residualAt}
 use Rattle.rules.specs.Rule.{rightwards}
-use Rattle.rules.proofs.Range.{Held, held, within, residual-held}
+use Rattle.rules.proofs.HeldRange.{Held, held, within, residual-held}
 
 -- ---- one row, below a row within the range
 

@@ -12,10 +12,10 @@ use Rattle.rules.specs.Diffusion.{Scan, Direction, toRight, residualAt, valueAt
 use Rattle.quantize.specs.Finished.{frame}
 use Rattle.rules.specs.Carry.{Carry, valueOf, diffused}
 use Rattle.quantize.specs.Engine.{Diffusion}
-use Rattle.rules.proofs.Range.{Held}
+use Rattle.rules.proofs.HeldRange.{Held}
 use Rattle.quantize.proofs.Places.{div-at, mod-at, next-row}
-use Rattle.quantize.proofs.Depending.{place-of, earlier, residual-same}
-use Rattle.quantize.proofs.Following.{follows, corner-small, diffusion-on, diffusion-row, diffusion-frame}
+use Rattle.quantize.proofs.DotsDepend.{place-of, earlier, residual-same}
+use Rattle.quantize.proofs.DiffusionFollows.{follows, corner-small, diffusion-on, diffusion-row, diffusion-frame}
 
 module _ (w h : ℕ) (xs : List ℕ) (g : ℕ) (wide : 0 < w) (high : 0 < h) (byte : g < 256) where
   abbrev f : ℕ

@@ -17,9 +17,9 @@ use Rattle.quantize.specs.declared.turn.Taken.{Taken}
 use Rattle.quantize.specs.Finished.{Bytewise}
 use Rattle.quantize.specs.Turn.{ruleOf, Shares, Advances, Taking, Takes}
 use Rattle.rules.proofs.Differences.{lt-or-le}
-use Rattle.rules.proofs.Pieces.{piece, piece-at, piece-length}
-use Rattle.quantize.proofs.Turning.{turn-on, turn-byte}
-use Rattle.quantize.proofs.Running.{Loop, begun-small, loop-on, loop-byte}
+use Rattle.rules.proofs.ListPiece.{piece, piece-at, piece-length}
+use Rattle.quantize.proofs.TurnMoves.{turn-on, turn-byte}
+use Rattle.quantize.proofs.RunLoop.{Loop, begun-small, loop-on, loop-byte}
 
 -- a piece has the samples from its start on
 pub piece-same : (samples : List ℕ) (taken m i : ℕ) → i < m → getD (drop taken samples) i 0 ≡ getD (piece samples taken m) i 0

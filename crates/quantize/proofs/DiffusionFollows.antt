@@ -15,9 +15,9 @@ use Rattle.rules.specs.Diffusion.{Scan, Direction, toRight, toLeft, value, resi
 use Rattle.rules.specs.Carry.{Carry, clamp, leftOf, cornerOf, overOf, valueOf, diffused}
 use Rattle.quantize.specs.Engine.{Diffusion}
 use Rattle.rules.proofs.Differences.{lt-or-le}
-use Rattle.rules.proofs.Range.{Held, within, held, clamp-same, clamp-held, residual-held}
-use Rattle.rules.proofs.Reading.{over-in, over-past, over-top}
-use Rattle.rules.proofs.Causes.{above-ext, residual-is, value-is, above-top}
+use Rattle.rules.proofs.HeldRange.{Held, within, held, clamp-same, clamp-held, residual-held}
+use Rattle.rules.proofs.CarryRead.{over-in, over-past, over-top}
+use Rattle.rules.proofs.DotCauses.{above-ext, residual-is, value-is, above-top}
 
 held-zero : Held (pos 0)
 held-zero = held (pos 0) (omega arith)

@@ -18,8 +18,8 @@ use Rattle.rules.specs.Rule.{threshold, ordered, meaning, knownRule, carries, r
 use Rattle.rules.specs.Carry.{Carry, machineDot, next}
 use Rattle.rules.specs.Kernels.{rowCarry, rowBit, thresholdBit, orderedBit, carryOf, Diffuses}
 use Rattle.quantize.specs.Turn.{ruleOf, Dotted, Served}
-use Rattle.rules.proofs.Appending.{appended-ext}
-use Rattle.rules.proofs.Cells.{known-small, cell-front}
+use Rattle.rules.proofs.DigitsAppended.{appended-ext}
+use Rattle.rules.proofs.OrderedNumbers.{known-small, cell-front}
 
 module _ (w y x : ℕ) (gray : List ℕ) (c : Carry) where
   pub threshold-carry : (t i : ℕ) → rowCarry (threshold t) w y x gray c i ≡ c

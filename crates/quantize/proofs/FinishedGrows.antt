@@ -14,9 +14,9 @@ use Rattle.image.specs.Geometry.{rowBytes}
 use Rattle.rules.specs.Bits.{upto}
 use Rattle.quantize.specs.Finished.{Setting, count, dotOf, byteAt, finished, newly, most, takes}
 use Rattle.quantize.proofs.Places.{count-rows}
-use Rattle.quantize.proofs.Counting.{count-mono}
-use Rattle.rules.proofs.Grown.{length-upto, upto-ext, upto-add}
-use Rattle.quantize.proofs.Depending.{byte-counted}
+use Rattle.quantize.proofs.TakenMost.{count-mono}
+use Rattle.rules.proofs.UptoList.{length-upto, upto-ext, upto-add}
+use Rattle.quantize.proofs.DotsDepend.{byte-counted}
 
 -- ---- how many are taken
 

@@ -20,9 +20,9 @@ use Rattle.rules.specs.Carry.{Carry}
 use Rattle.quantize.specs.Machine.{State, carried, emitted}
 use Rattle.quantize.specs.Place.{At}
 use Rattle.rules.specs.Kernels.{rowCarry, rowBit, carryOf}
-use Rattle.quantize.proofs.Dotting.{carries-same}
+use Rattle.quantize.proofs.DotsByRule.{carries-same}
 use Rattle.rules.proofs.RowKept.{row-beyond, row-long, row-spared}
-use Rattle.quantize.proofs.Tracing.{carried-add, emitted-add, part-on, part-last}
+use Rattle.quantize.proofs.MachineSteps.{carried-add, emitted-add, part-on, part-last}
 
 -- a quantizer's setting, wherever it stands
 pub record Suits (q : Quantizer) (s : Setting) : Type 0 where

@@ -10,7 +10,7 @@ use borrow.Author.Tests.{eqb-true}
 use Rattle.laws.proofs.Tests.{both-true}
 use Rattle.rules.specs.Bits.{appended, digits}
 use Rattle.rules.specs.Words.{bytes, Below}
-use Rattle.rules.proofs.Appending.{appended-lt}
+use Rattle.rules.proofs.DigitsAppended.{appended-lt}
 use Rattle.rules.proofs.Differences.{lt-or-le}
 
 -- what `gathered` computes

@@ -14,9 +14,9 @@ use Rattle.rules.specs.Rule.{Rule, dither}
 use Rattle.rules.specs.Carry.{Carry, cornerOf, valueOf, diffused, machineDot, next}
 use Rattle.rules.specs.Kernels.{rowCarry, rowBit, carryOf, Dots}
 use Rattle.rules.specs.Row.{Near, Diffused, Bytes}
-use Rattle.rules.proofs.Appending.{appended-ext}
-use Rattle.rules.proofs.Pieces.{piece, piece-length}
-use Rattle.rules.proofs.Rowing.{dots-small}
+use Rattle.rules.proofs.DigitsAppended.{appended-ext}
+use Rattle.rules.proofs.ListPiece.{piece, piece-length}
+use Rattle.rules.proofs.DitherDotsLoop.{dots-small}
 use Rattle.rules.proofs.RowKept.{row-long}
 
 pub bytes-none : (rule : Rule) (w y x : ℕ) (samples : List ℕ) (at : ℕ) (out : List ℕ) (to corner : ℕ) (work : List ℤ) (k : ℕ) → k ≡ 0 → Bytes rule w y x samples at out to corner work k out corner work

@@ -13,7 +13,7 @@ use Rattle.rules.specs.Rule.{Rule, roomy}
 use Rattle.quantize.specs.Finished.{Setting, wholeFrames}
 use Rattle.quantize.specs.Place.{At}
 use Rattle.quantize.specs.Engine.{Stands, spotOf, roomFor, behindFrames}
-use Rattle.quantize.proofs.Dotting.{roomy-same}
+use Rattle.quantize.proofs.DotsByRule.{roomy-same}
 use Rattle.quantize.proofs.Places.{mod-at, div-at}
 
 and-false : (a b : Bool) → b ≡ false → false ≡ (a && b)

@@ -11,7 +11,7 @@ use Rattle.image.specs.Geometry.{rowBytes}
 use Rattle.rules.specs.Bits.{appended, digits}
 use Rattle.quantize.specs.Finished.{Setting, Bytewise, count, bitAt, byteAt}
 use Rattle.quantize.specs.Place.{begunBy, Begun}
-use Rattle.rules.proofs.Appending.{appended-ext, digits-tail}
+use Rattle.rules.proofs.DigitsAppended.{appended-ext, digits-tail}
 use Rattle.quantize.proofs.Places.{div-at, mod-at, col-row, on-row, on-column, count-now}
 
 pub bit-in : (w : ℕ) (d : ℕ → ℕ) (r c : ℕ) → c < w → bitAt w d r c ≡ d (r * w + c)
