@@ -1,7 +1,8 @@
 #!/bin/sh
 # Builds the oracle into target/oracle/ with plain rustc: the unchanged Rust files as a
 # library with our own lib.rs around them, and the generator over it.
-# WBMP_RUST names the folder of the Rust files; they are linked to, never copied.
+# WBMP_RUST names the folder of the Rust files. They are copied below target/, which is never committed: a formatter that
+# follows lib.rs to its modules would alter them through a link.
 set -eu
 cd "$(dirname "$0")/../.."
 rust=${WBMP_RUST:-../shared/docs/src/src}
@@ -12,7 +13,9 @@ fi
 rust=$(cd "$rust" && pwd)
 out=target/oracle
 mkdir -p "$out"
-ln -sfn "$rust" "$out/rust"
+rm -rf "$out/rust"
+mkdir "$out/rust"
+cp "$rust"/*.rs "$out/rust/"
 rustc --edition 2024 -O --crate-type rlib --crate-name oracle \
     tools/oracle/src/lib.rs -o "$out/liboracle.rlib"
 rustc --edition 2024 -O --crate-name generate \

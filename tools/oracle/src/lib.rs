@@ -1,6 +1,6 @@
 //! The Rust codec, built unchanged, and its answers as numbers.
 //!
-//! `build.sh` links `target/oracle/rust` to the folder of the Rust files.
+//! `build.sh` copies the Rust files to `target/oracle/rust`.
 
 #[allow(dead_code)]
 #[path = "../../../target/oracle/rust/api.rs"]
