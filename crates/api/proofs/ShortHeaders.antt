@@ -18,7 +18,7 @@ use Rattle.header.specs.Read.{outline, readHeader, readFix, readAfterFix, outli
 use Rattle.header.proofs.HeaderParts.{no-fields}
 use Rattle.api.specs.declared.front.Front.{Front}
 use Rattle.api.specs.declared.front.Front.the-variants.{Sizes, Unread}
-use Rattle.api.specs.Parts.{plain, Heights, Fronts}
+use Rattle.api.specs.Internal.Parts.{plain, Heights, Fronts}
 
 -- ---- an integer of one or two bytes
 

@@ -1,3 +1,3 @@
 pub mod Info
 pub mod Sniff
-pub mod Parts
+pub mod Internal

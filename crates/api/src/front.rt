@@ -1,5 +1,5 @@
 // Short headers, which most files have: 00 00, and sizes of one or two bytes each. Other headers are left to the header's reader.
-ghost use Rattle.api.specs.Parts.{Reads, Heights, Fronts};
+ghost use Rattle.api.specs.Internal.Parts.{Reads, Heights, Fronts};
 
 pub(crate) enum Front {
     Sizes {

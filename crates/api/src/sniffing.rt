@@ -8,7 +8,7 @@ ghost use mathlib.Core.Path.{_≡_};
 ghost use Prim.Native.Nat.{_<_, _+_, _-_, _*_, _/_};
 ghost use lib.ListN.{length};
 ghost use Rattle.api.specs.Sniff.{isClear, areClear, sniffLength, sniffBody, sniffed, isExact, sniffSizes};
-ghost use Rattle.api.specs.Parts.{Rows, Sized};
+ghost use Rattle.api.specs.Internal.Parts.{Rows, Sized};
 
 // The largest width and height that are taken for an image's.
 pub const PROBE_MAX_DIMENSION: u32 = 16384;

@@ -16,7 +16,7 @@ use Rattle.options.specs.Settings.{defaults, withFormat}
 use Rattle.options.specs.declared.EncodeOptions.{EncodeOptions}
 use Rattle.options.specs.declared.Quantize.{Quantize}
 use Rattle.options.specs.declared.Quantize.the-variants.{Threshold, Dither}
-use Rattle.quantize.specs.Turn.{stateOf}
+use Rattle.quantize.specs.Internal.Turn.{stateOf}
 use Rattle.encoder.specs.Make.{Makes}
 use Rattle.encode_session.specs.Model as Making
 use Rattle.encode_session.specs.declared.EncodeSession.{EncodeSession}

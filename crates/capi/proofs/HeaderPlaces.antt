@@ -12,12 +12,12 @@ use Rattle.laws.proofs.Tests.{zero-one, if-elim}
 use Rattle.mbi.specs.Read.{ByteRead, goes, ends, wrong, readByte}
 use Rattle.ext.specs.Kinds.{fieldsFollow, kindBits}
 use Rattle.ext.specs.Classes.{isChar, isAlphaDigit}
-use Rattle.ext.specs.Bytewise.{identifierFault, valueFault}
+use Rattle.ext.specs.Internal.Bytewise.{identifierFault, valueFault}
 use Rattle.header.specs.Settings.{Settings}
 use Rattle.header.specs.Read.{Outline, outline, readHeader}
-use Rattle.header_reader.specs.Machine.{State, inType, atFix, inOctets, atOctet, atPair, inIdentifier, inValue, inWidth, inHeight, start, Step, more, done, refused, onByte, resume, stepOf, steps, after}
-use Rattle.header_reader.specs.Represents.{Sound}
-use Rattle.header_reader.specs.Pieces.{onward}
+use Rattle.header_reader.specs.Internal.Machine.{State, inType, atFix, inOctets, atOctet, atPair, inIdentifier, inValue, inWidth, inHeight, start, Step, more, done, refused, onByte, resume, stepOf, steps, after}
+use Rattle.header_reader.specs.Internal.Represents.{Sound}
+use Rattle.header_reader.specs.Internal.Pieces.{onward}
 use Rattle.header_reader.proofs.Machine.{steps-cons, steps-all}
 use Rattle.header_reader.proofs.StepSound.{SoundStep, sound-step, sound-start}
 use Rattle.header_reader.proofs.EndRefusal.{endCode, endOffset, end-is}

@@ -14,8 +14,8 @@ use Rattle.mbi.specs.Read.{readRest, readByte}
 use Rattle.header.specs.Read.{readHeader}
 use Rattle.options.specs.Limits.{Mode, lenient, strict, Decoding}
 use Rattle.rules.specs.Rule.{carries}
-use Rattle.quantize.specs.Engine.{Stands as QStands}
-use Rattle.quantize.specs.Machine.{State, carried}
+use Rattle.quantize.specs.Internal.Engine.{Stands as QStands}
+use Rattle.quantize.specs.Internal.Machine.{State, carried}
 use Rattle.quantize.proofs.DotsByRule.{carries-same}
 use Rattle.quantize.proofs.Places.{column-is}
 use Rattle.decoder.specs.Image.{headerOf}

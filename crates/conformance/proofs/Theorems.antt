@@ -25,10 +25,10 @@ use Rattle.ext.proofs.Bounds as FieldBounds
 use Rattle.ext.proofs.Prefix.{settled}
 use Rattle.ext.proofs.Prefix as FieldPrefix
 use Rattle.ext_write.proofs.ReadBack.{read-back}
-use Rattle.header_reader.specs.Machine.{start}
-use Rattle.header_reader.specs.Pieces.{join, Run}
+use Rattle.header_reader.specs.Internal.Machine.{start}
+use Rattle.header_reader.specs.Internal.Pieces.{join, Run}
 use Rattle.header.specs.Read.{Outline, outline, readHeader}
-use Rattle.header_reader.specs.Represents.{Represents}
+use Rattle.header_reader.specs.Internal.Represents.{Represents}
 use Rattle.header.specs.Settings.{Settings}
 use Rattle.header.specs.Write.{fixByte, headerBytes, extHeader, presented}
 use Rattle.header.specs.declared.ExtPresence.the-variants.{Absent}

@@ -9,7 +9,7 @@ use Rattle.error.specs.Answer.{gives, refuses, written, checked}
 use Rattle.error.specs.Emits.{Emits}
 use Rattle.options.specs.Limits.{Decoding}
 use Rattle.rules.specs.Rule.{meaning, carries}
-use Rattle.quantize.specs.Machine.{carried}
+use Rattle.quantize.specs.Internal.Machine.{carried}
 use Rattle.encode_session.specs.Model as Making
 use Rattle.encode_session.specs.Session as MakingSession
 use Rattle.encode_session.specs.Trace as MakingTrace

@@ -21,7 +21,7 @@ use Rattle.decoder.specs.Image.{imageSettings, headerOf}
 use Rattle.decoder.proofs.Shaped.{outline-shape}
 use Rattle.decode_session.specs.Model.{Met, metAt, Model, meets, stored, fedBy}
 use Rattle.decode_session.specs.Session.{BeforeHeader, Settled}
-use Rattle.decode_session.specs.Stages.{metIn, Agrees, Enters, Planes, Ended, Begins}
+use Rattle.decode_session.specs.Internal.Stages.{metIn, Agrees, Enters, Planes, Ended, Begins}
 use Rattle.decode_session.specs.declared.DecodeFed.{DecodeFed}
 use Rattle.decode_session.proofs.Headers.{header-later}
 use Rattle.decode_session.proofs.StageFacts.{ceiling-some}

@@ -12,7 +12,7 @@ use Rattle.error.specs.Answer.{Answer, gives, refuses, map}
 use Rattle.error.specs.declared.WbmpError.{WbmpError}
 use Rattle.laws.proofs.Tests.{if-true, if-false}
 use Rattle.header.specs.Read.{Outline}
-use Rattle.header_reader.specs.Represents.{ReaderEnded}
+use Rattle.header_reader.specs.Internal.Represents.{ReaderEnded}
 use Rattle.header_reader.specs.declared.FieldsSeen.{FieldsSeen}
 use Rattle.header.specs.declared.ParsedHeader.{ParsedHeader}
 use Rattle.header_reader.specs.declared.reader.HeaderReader.{HeaderReader}
@@ -23,7 +23,7 @@ use Rattle.decoder.proofs.Headed.{image-by, image-limited}
 use Rattle.decoder.proofs.Counted.{few, many}
 use Rattle.decode_session.specs.Model.{nothing, Model, Told, frames, closing}
 use Rattle.decode_session.specs.Session.{InBody, Settled}
-use Rattle.decode_session.specs.Stages.{Finishes}
+use Rattle.decode_session.specs.Internal.Stages.{Finishes}
 use Rattle.decode_session.specs.declared.Stage.{Stage}
 use Rattle.decode_session.specs.declared.DecodeClose.{DecodeClose}
 use Rattle.decode_session.proofs.Headers.{unread}

@@ -7,7 +7,7 @@ use Rattle.error.specs.declared.WbmpError.{WbmpError}
 use Rattle.laws.proofs.Tests.{if-true, if-false}
 use Rattle.decode_session.specs.Model.{Model, close, Outcome, closing, shut, unaltered, outcome}
 use Rattle.decode_session.specs.Session.{closedMeaning, StageOf, Stands, Closes}
-use Rattle.decode_session.specs.Stages.{Finishes}
+use Rattle.decode_session.specs.Internal.Stages.{Finishes}
 use Rattle.decode_session.specs.declared.Stage.{Stage}
 use Rattle.decode_session.specs.declared.DecodeClose.{DecodeClose}
 use Rattle.decode_session.specs.declared.DecodeSession.{DecodeSession}

@@ -12,7 +12,7 @@ use Rattle.header_reader.specs.declared.reader.HeaderReader.{HeaderReader}
 use Rattle.decoder.specs.Image.{imageSettings}
 use Rattle.decode_session.specs.Model.{Met, nothing, Model, feed, stored, fedBy, unaltered, outcome}
 use Rattle.decode_session.specs.Session.{InBody, Stands, Feeds}
-use Rattle.decode_session.specs.Stages.{Agrees, having, Enters, Planes}
+use Rattle.decode_session.specs.Internal.Stages.{Agrees, having, Enters, Planes}
 use Rattle.decode_session.specs.declared.Stage.{Stage}
 use Rattle.decode_session.specs.declared.DecodeFeed.{DecodeFeed}
 use Rattle.decode_session.specs.declared.DecodeSession.{DecodeSession}

@@ -16,12 +16,12 @@ use Rattle.mbi.specs.Read.{ByteRead, goes, ends, wrong, readByte, readMbi, inte
 use Rattle.mbi.proofs.Continuation.{integer-mbi}
 use Rattle.ext.specs.Kinds.{Fields, Span, absent, span, fieldsFollow, kindBits}
 use Rattle.ext.specs.Read.{readFields}
-use Rattle.ext.specs.Bytewise.{octets, octet, pairsFrom, identifierFrom, valueFrom, fieldsFrom, valueFault}
+use Rattle.ext.specs.Internal.Bytewise.{octets, octet, pairsFrom, identifierFrom, valueFrom, fieldsFrom, valueFault}
 use Rattle.ext.proofs.Continuation.{fields-in}
 use Rattle.header.specs.Settings.{Settings}
-use Rattle.header_reader.specs.Machine.{State, inType, atFix, inOctets, atOctet, atPair, inIdentifier, inValue, inWidth, inHeight, start, Step, more, done, refused, onByte, stepOf, steps}
-use Rattle.header_reader.specs.Represents.{Sound}
-use Rattle.header_reader.specs.Pieces.{onward}
+use Rattle.header_reader.specs.Internal.Machine.{State, inType, atFix, inOctets, atOctet, atPair, inIdentifier, inValue, inWidth, inHeight, start, Step, more, done, refused, onByte, stepOf, steps}
+use Rattle.header_reader.specs.Internal.Represents.{Sound}
+use Rattle.header_reader.specs.Internal.Pieces.{onward}
 use Rattle.header_reader.proofs.Machine.{steps-cons}
 use Rattle.header_reader.proofs.StepSound.{SoundStep, sound-step, value-kept}
 use Rattle.decode_session.specs.Extension.{fieldsEnd, fieldBytesAt, afterType, fieldBytes}

@@ -15,9 +15,9 @@ use Rattle.mbi.specs.Read.{readRest, readByte}
 use Rattle.ext.specs.Kinds.{Span, absent, span}
 use Rattle.ext.specs.Read.{readFields, readPairs, readPair}
 use Rattle.header.specs.Settings.{Settings, extInner}
-use Rattle.header_reader.specs.Machine.{State, start, inFields, Step, more, done, refused, stepOf, steps, atPair, inIdentifier}
-use Rattle.header_reader.specs.Represents.{Sound}
-use Rattle.header_reader.specs.Pieces.{onward}
+use Rattle.header_reader.specs.Internal.Machine.{State, start, inFields, Step, more, done, refused, stepOf, steps, atPair, inIdentifier}
+use Rattle.header_reader.specs.Internal.Represents.{Sound}
+use Rattle.header_reader.specs.Internal.Pieces.{onward}
 use Rattle.header_reader.proofs.Machine.{steps-cons}
 use Rattle.header_reader.proofs.StepSound.{SoundStep, sound-step, sound-steps, sound-start}
 use Rattle.header_reader.proofs.BytesTaken.{taken, Moves, moves-step, taken-steps}

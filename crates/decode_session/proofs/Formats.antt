@@ -15,7 +15,7 @@ use Rattle.image.specs.Rows.{invert, convertFormat}
 use Rattle.image.specs.declared.PixelFormat.the-variants.{MonoBlack, MonoWhite}
 use Rattle.image.proofs.InvertedBytes.{invert-length, invert-at}
 use Rattle.decode_session.specs.Sequence.{padded, bodyFrom}
-use Rattle.decode_session.specs.Body.{Cleared}
+use Rattle.decode_session.specs.Internal.Body.{Cleared}
 use Rattle.decode_session.proofs.BodyBytes.{body-length, body-at, body-black}
 
 -- bytes that fill their output

@@ -12,9 +12,9 @@ use Rattle.error.specs.Answer.{gives, map}
 use Rattle.error.specs.declared.WbmpError.{WbmpError}
 use Rattle.header.specs.Settings.{Settings}
 use Rattle.header.specs.Read.{Outline, outline, readHeader}
-use Rattle.header_reader.specs.Machine.{State, start, inFields, Step, more, done, refused, stepOf, steps, after, resume}
-use Rattle.header_reader.specs.Represents.{Represents, Answers, ReaderStepped}
-use Rattle.header_reader.specs.Pieces.{onward}
+use Rattle.header_reader.specs.Internal.Machine.{State, start, inFields, Step, more, done, refused, stepOf, steps, after, resume}
+use Rattle.header_reader.specs.Internal.Represents.{Represents, Answers, ReaderStepped}
+use Rattle.header_reader.specs.Internal.Pieces.{onward}
 use Rattle.header.specs.declared.ParsedHeader.{ParsedHeader}
 use Rattle.header_reader.specs.declared.reader.HeaderReader.{HeaderReader}
 use Rattle.header_reader.specs.declared.reader.HeaderStep.{HeaderStep}
@@ -23,7 +23,7 @@ use Rattle.header_reader.proofs.Direct.{direct}
 use Rattle.header_reader.proofs.StepSound.{SoundStep, sound-step}
 use Rattle.header_reader.proofs.BytesTaken.{Moves, taken, moves-step}
 use Rattle.decode_session.specs.Extension.{fieldBytes}
-use Rattle.decode_session.specs.Head.{Reached, Ends, Heads, isKept, Keeps}
+use Rattle.decode_session.specs.Internal.Head.{Reached, Ends, Heads, isKept, Keeps}
 use Rattle.decode_session.specs.declared.head.HeadFed.{HeadFed}
 use Rattle.decode_session.specs.declared.head.HeadEnd.{HeadEnd}
 use Rattle.decode_session.proofs.FieldsGrown.{stores, Follow, grown, taken-so}

@@ -22,9 +22,9 @@ use Rattle.decoder.specs.Image.{imageSettings, headerOf}
 use Rattle.decode_session.specs.Sequence.{sequenceOf, sequence}
 use Rattle.decode_session.specs.Extension.{fieldBytes}
 use Rattle.decode_session.specs.Model.{Met, nothing, Model, meets, takes, grown, written, stored, fedBy}
-use Rattle.decode_session.specs.Head.{Reached, Ends, Heads}
+use Rattle.decode_session.specs.Internal.Head.{Reached, Ends, Heads}
 use Rattle.decode_session.specs.Session.{Stands, Feeds}
-use Rattle.decode_session.specs.Stages.{takenIn, metIn, Agrees, Ended, Begins}
+use Rattle.decode_session.specs.Internal.Stages.{takenIn, metIn, Agrees, Ended, Begins}
 use Rattle.decode_session.specs.declared.Stage.{Stage}
 use Rattle.decode_session.specs.declared.DecodeSession.{DecodeSession}
 use Rattle.decode_session.specs.declared.DecodeFed.{DecodeFed}

@@ -8,16 +8,16 @@ use Rattle.error.specs.Answer.{gives, refuses, map}
 use Rattle.laws.proofs.Tests.{zero-one}
 use Rattle.header.specs.Settings.{Settings}
 use Rattle.header.specs.Read.{Outline, outline, readHeader}
-use Rattle.header_reader.specs.Machine.{State, inType, atFix, inOctets, atOctet, atPair, inIdentifier, inValue, inWidth, inHeight, Step, more, done, refused, start, steps, stepOf, resume, after}
-use Rattle.header_reader.specs.Pieces.{onward}
-use Rattle.header_reader.specs.Represents.{Sound}
+use Rattle.header_reader.specs.Internal.Machine.{State, inType, atFix, inOctets, atOctet, atPair, inIdentifier, inValue, inWidth, inHeight, Step, more, done, refused, start, steps, stepOf, resume, after}
+use Rattle.header_reader.specs.Internal.Pieces.{onward}
+use Rattle.header_reader.specs.Internal.Represents.{Sound}
 use Rattle.header_reader.specs.declared.reader.HeaderReader.{HeaderReader}
 use Rattle.header_reader.proofs.Machine.{steps-cons, steps-law, steps-all}
 use Rattle.header_reader.proofs.Direct.{direct}
 use Rattle.header_reader.proofs.RefusalMet.{finds, found}
 use Rattle.header_reader.proofs.EndRefusal.{endCode, endOffset, end-is}
 use Rattle.header_reader.proofs.BytesTaken.{taken, Moves, moves-step, taken-steps}
-use Rattle.decode_session.specs.Head.{Reached}
+use Rattle.decode_session.specs.Internal.Head.{Reached}
 
 module _ (o : Settings) where
   -- a header that is done has its body behind the bytes taken before

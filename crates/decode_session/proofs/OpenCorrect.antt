@@ -13,8 +13,8 @@ use Rattle.error.specs.declared.WbmpError.{WbmpError}
 use Rattle.laws.proofs.Tests.{if-true, if-false, zero-one}
 use Rattle.mbi.specs.Read.{readRest}
 use Rattle.header.specs.Settings.{Settings}
-use Rattle.header_reader.specs.Machine.{start, steps}
-use Rattle.header_reader.specs.Represents.{Represents}
+use Rattle.header_reader.specs.Internal.Machine.{start, steps}
+use Rattle.header_reader.specs.Internal.Represents.{Represents}
 use Rattle.header_reader.specs.declared.reader.HeaderReader.{HeaderReader}
 use Rattle.options.specs.Limits.{Decoding, modeOf, decoding}
 use Rattle.options.specs.declared.DecodeOptions.{DecodeOptions}
@@ -22,7 +22,7 @@ use Rattle.options.proofs.Ceilings.{passes}
 use Rattle.decoder.specs.Image.{imageSettings}
 use Rattle.decode_session.specs.Extension.{fieldBytes}
 use Rattle.decode_session.specs.Model.{opened, opening}
-use Rattle.decode_session.specs.Head.{Reached}
+use Rattle.decode_session.specs.Internal.Head.{Reached}
 use Rattle.decode_session.specs.Session.{StageOf, Opens}
 use Rattle.decode_session.specs.declared.Stage.{Stage}
 

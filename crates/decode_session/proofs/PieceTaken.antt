@@ -11,9 +11,9 @@ use Rattle.header.specs.Read.{Outline}
 use Rattle.options.specs.Limits.{ceilingOf}
 use Rattle.decoder.specs.Body.{planeOf}
 use Rattle.decode_session.specs.Sequence.{bodyFrom, sequence}
-use Rattle.decode_session.specs.Body.{Advanced, Advances}
+use Rattle.decode_session.specs.Internal.Body.{Advanced, Advances}
 use Rattle.decode_session.specs.Model.{Model, takes, grown, written}
-use Rattle.decode_session.specs.Stages.{Enters}
+use Rattle.decode_session.specs.Internal.Stages.{Enters}
 use Rattle.decode_session.specs.declared.body.BodyFed.{BodyFed}
 use Rattle.decode_session.proofs.BodyBytes.{body-length}
 use Rattle.decode_session.proofs.MostTaken.{shownWith, most-is}

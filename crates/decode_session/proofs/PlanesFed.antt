@@ -14,11 +14,11 @@ use Rattle.options.specs.declared.DecodeOptions.{DecodeOptions}
 use Rattle.decoder.specs.Body.{planeOf}
 use Rattle.decoder.specs.Image.{imageSettings}
 use Rattle.decode_session.specs.Sequence.{bodyFrom}
-use Rattle.decode_session.specs.Body.{Advanced, Bodies}
+use Rattle.decode_session.specs.Internal.Body.{Advanced, Bodies}
 use Rattle.decode_session.specs.Extension.{fieldBytes}
 use Rattle.decode_session.specs.Model.{Model, nothing, grown, written, stored, fedBy}
 use Rattle.decode_session.specs.Session.{InBody, Settled}
-use Rattle.decode_session.specs.Stages.{takenIn, Agrees, having, Enters, Planes}
+use Rattle.decode_session.specs.Internal.Stages.{takenIn, Agrees, having, Enters, Planes}
 use Rattle.decode_session.specs.declared.Stage.{Stage}
 use Rattle.decode_session.specs.declared.DecodeFed.{DecodeFed}
 use Rattle.decode_session.specs.declared.body.BodyFed.{BodyFed}

@@ -14,7 +14,7 @@ use Rattle.decode_session.specs.Extension.{fieldBytes}
 use Rattle.decode_session.specs.Model.{nothing, metAt, Model, feed, Told, Reply, Outcome, meets, stored, fedBy, unaltered, afterMet}
 use Rattle.decode_session.specs.Model.{outcome}
 use Rattle.decode_session.specs.Session.{fedMeaning, Stands}
-use Rattle.decode_session.specs.Stages.{Agrees}
+use Rattle.decode_session.specs.Internal.Stages.{Agrees}
 use Rattle.decode_session.specs.declared.DecodeFed.{DecodeFed}
 
 pub replied : {a a′ : Answer Told} {o o′ e e′ : List ℕ} → a ≡ a′ → o ≡ o′ → e ≡ e′

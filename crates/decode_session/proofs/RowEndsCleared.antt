@@ -17,7 +17,7 @@ use Rattle.image.specs.Geometry.{rowBytes, paddingBits, paddingMask}
 use Rattle.image.specs.Rows.{clearLow}
 use Rattle.image.proofs.MaskClears.{mask-low}
 use Rattle.decode_session.specs.Sequence.{padded}
-use Rattle.decode_session.specs.Body.{Cleared}
+use Rattle.decode_session.specs.Internal.Body.{Cleared}
 
 -- two row ends are a row or more apart
 apart : (row x y : ℕ) → x % row + 1 ≡ row → y % row + 1 ≡ row → x < y → x + row ≤ y

@@ -11,17 +11,17 @@ use lib.Seq.{sets, take-suc, take-all, take-add, drop-append-le, length-take-le}
 use Rattle.laws.proofs.Tests.{zero-one}
 use Rattle.laws.proofs.Runs.{sets-append}
 use Rattle.header.specs.Settings.{Settings}
-use Rattle.header_reader.specs.Machine.{State, start, inType, atFix, inOctets, atOctet, atPair, inIdentifier, inValue, inWidth, inHeight, inFields, Step, more, steps}
-use Rattle.header_reader.specs.Represents.{Sound}
-use Rattle.header_reader.specs.Pieces.{onward}
-use Rattle.header_reader.specs.Run.{fieldsStart, Inside, RunReached, ReaderRuns}
+use Rattle.header_reader.specs.Internal.Machine.{State, start, inType, atFix, inOctets, atOctet, atPair, inIdentifier, inValue, inWidth, inHeight, inFields, Step, more, steps}
+use Rattle.header_reader.specs.Internal.Represents.{Sound}
+use Rattle.header_reader.specs.Internal.Pieces.{onward}
+use Rattle.header_reader.specs.Internal.Run.{fieldsStart, Inside, RunReached, ReaderRuns}
 use Rattle.header_reader.specs.declared.reader.HeaderReader.{HeaderReader}
 use Rattle.header_reader.specs.declared.reader.HeaderRun.{HeaderRun}
 use Rattle.header_reader.proofs.Machine.{steps-append}
 use Rattle.header_reader.proofs.BytesTaken.{taken}
 use Rattle.decode_session.specs.Extension.{fieldBytes}
-use Rattle.decode_session.specs.Head.{Reached}
-use Rattle.decode_session.specs.HeadRun.{KeepsRun, RunsOn}
+use Rattle.decode_session.specs.Internal.Head.{Reached}
+use Rattle.decode_session.specs.Internal.HeadRun.{KeepsRun, RunsOn}
 use Rattle.decode_session.specs.declared.head.HeadRun.{HeadRun}
 use Rattle.decode_session.proofs.Zones.{Zone, inside, zone}
 use Rattle.decode_session.proofs.FieldsBytewise.{zoneBytes}

@@ -14,7 +14,7 @@ use Rattle.error.specs.Answer.{Answer, gives}
 use Rattle.laws.proofs.Lists.{length-part}
 use Rattle.header.specs.Read.{Outline}
 use Rattle.image.specs.Geometry.{rowBytes, planeBytes, paddingBits}
-use Rattle.image.specs.Parts.{clearRows}
+use Rattle.image.specs.Internal.Parts.{clearRows}
 use Rattle.image.specs.Rows.{clearLow, invert, convertFormat}
 use Rattle.image.specs.declared.PixelFormat.{PixelFormat}
 use Rattle.image.specs.declared.PixelFormat.the-variants.{MonoBlack, MonoWhite}

@@ -9,10 +9,10 @@ use lib.Dec.{ltb, leb, eqb}
 use Rattle.error.specs.Choice.{if}
 use Rattle.mbi.specs.Read.{ByteRead, goes, ends, wrong, readByte}
 use Rattle.ext.specs.Kinds.{Span, absent, span, fieldsFollow, kindBits}
-use Rattle.ext.specs.Bytewise.{valueFault}
+use Rattle.ext.specs.Internal.Bytewise.{valueFault}
 use Rattle.header.specs.Settings.{Settings}
-use Rattle.header_reader.specs.Machine.{State, inType, atFix, inOctets, atOctet, atPair, inIdentifier, inValue, inWidth, inHeight, inFields, Step, more, done, refused, onByte, stepOf}
-use Rattle.header_reader.specs.Represents.{Sound}
+use Rattle.header_reader.specs.Internal.Machine.{State, inType, atFix, inOctets, atOctet, atPair, inIdentifier, inValue, inWidth, inHeight, inFields, Step, more, done, refused, onByte, stepOf}
+use Rattle.header_reader.specs.Internal.Represents.{Sound}
 use Rattle.header_reader.proofs.BytesTaken.{taken}
 
 -- before the fields, in those that start at an offset, or behind those with a span

@@ -1,9 +1,6 @@
 pub mod Sequence
 pub mod Extension
 pub mod Model
-pub mod Head
-pub mod HeadRun
-pub mod Body
 pub mod Session
-pub mod Stages
 pub mod Trace
+pub mod Internal

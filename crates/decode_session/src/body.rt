@@ -5,7 +5,7 @@ use image::PlaneLayout;
 ghost use mathlib.Core.Path.{_≡_};
 ghost use mathlib.Core.Logic.{_⊎_};
 ghost use Prim.Native.Nat.{_≤_};
-ghost use Rattle.decode_session.specs.Body.{Advances, Bodies};
+ghost use Rattle.decode_session.specs.Internal.Body.{Advances, Bodies};
 
 // How many bytes of the piece are taken and written, and the whole planes and the bytes of the begun one after them.
 pub struct BodyFed {

@@ -5,7 +5,7 @@ use crate::body::least;
 use decoder::MAX_READ_FRAMES;
 use error::PLANE_TOO_SHORT;
 use error::WbmpError;
-ghost use Rattle.decode_session.specs.Stages.{Finishes};
+ghost use Rattle.decode_session.specs.Internal.Stages.{Finishes};
 
 // What closing answers: the refusal met, that of a file which ends in its header or its first plane, or how many planes are whole.
 pub(crate) fn finish(stage: Stage) -> DecodeClose

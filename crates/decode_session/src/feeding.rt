@@ -22,7 +22,7 @@ ghost use mathlib.Core.Bool.{true};
 ghost use Prim.Native.Nat.{_≤_};
 ghost use lib.ListN.{length};
 ghost use Rattle.decode_session.specs.Session.{Feeds};
-ghost use Rattle.decode_session.specs.Stages.{takenIn, metIn, Planes, Begins};
+ghost use Rattle.decode_session.specs.Internal.Stages.{takenIn, metIn, Planes, Begins};
 
 // The session after a call that takes and writes so many bytes.
 fn took(options: DecodeOptions, stage: Stage, taken: usize, written: usize) -> DecodeFed

@@ -7,8 +7,8 @@ use header_reader::HeaderStep;
 ghost use Prim.Native.Nat.{_+_, _≤_};
 ghost use mathlib.Core.Path.{_≡_};
 ghost use lib.ListN.{length};
-ghost use Rattle.decode_session.specs.Head.{isKept, Keeps, Heads};
-ghost use Rattle.decode_session.specs.HeadRun.{KeepsRun, RunsOn};
+ghost use Rattle.decode_session.specs.Internal.Head.{isKept, Keeps, Heads};
+ghost use Rattle.decode_session.specs.Internal.HeadRun.{KeepsRun, RunsOn};
 
 // How the header's part of a piece ends: the header goes on, it ended, or it is refused.
 pub enum HeadEnd {

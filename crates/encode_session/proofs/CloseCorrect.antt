@@ -8,7 +8,7 @@ use Rattle.error.specs.Answer.{gives, refuses}
 use Rattle.error.specs.declared.Checked.the-variants.{Accepted}
 use Rattle.laws.proofs.Tests.{zero-one}
 use lib.ListN.{length}
-use Rattle.quantize.specs.Engine.{behindFrames}
+use Rattle.quantize.specs.Internal.Engine.{behindFrames}
 use Rattle.quantize.proofs.FramesDone.{frames-behind}
 use Rattle.encode_session.specs.declared.EncodeSession.{EncodeSession}
 use Rattle.encode_session.specs.declared.EncodeClosed.{EncodeClosed}

@@ -11,7 +11,7 @@ use lib.Seq.{length-take-le}
 use Rattle.error.specs.Answer.{gives, refuses}
 use Rattle.laws.proofs.Tests.{if-true, zero-one}
 use Rattle.quantize.specs.declared.engine.Ran.{Ran}
-use Rattle.quantize.specs.Engine.{roomFor, Counts, Runs, Stands as QStands, Holds as QHolds}
+use Rattle.quantize.specs.Internal.Engine.{roomFor, Counts, Runs, Stands as QStands, Holds as QHolds}
 use Rattle.quantize.specs.Finished.{newly}
 use Rattle.quantize.proofs.FramesDone.{frames-done, room-behind}
 use Rattle.quantize.proofs.FinishedGrows.{length-finished}

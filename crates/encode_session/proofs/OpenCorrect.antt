@@ -14,7 +14,7 @@ use Rattle.error.specs.Choice.{if}
 use Rattle.error.specs.Answer.{Answer, gives, refuses, written}
 use Rattle.error.specs.Emits.{Emits, emitted}
 use Rattle.error.specs.declared.Written.{Written}
-use Rattle.ext_write.specs.Left.{Left, none-left}
+use Rattle.ext_write.specs.Internal.Left.{Left, none-left}
 use Rattle.ext_write.specs.declared.PairsBegun.{PairsBegun}
 use Rattle.laws.proofs.Tests.{zero-one}
 use Rattle.header.specs.Write.{extHeader}
@@ -22,7 +22,7 @@ use Rattle.options.specs.declared.Quantize.{Quantize}
 use Rattle.options.specs.declared.Quantize.the-variants.{Threshold, Dither, Ordered}
 use Rattle.quantize.specs.declared.engine.Quantizer.{Quantizer}
 use Rattle.rules.specs.Rule.{meaning, roomy, knownRule}
-use Rattle.quantize.specs.Engine.{Opens as QOpens, Holds as QHolds}
+use Rattle.quantize.specs.Internal.Engine.{Opens as QOpens, Holds as QHolds}
 use Rattle.encode_session.specs.declared.EncodeOpened.{EncodeOpened}
 use Rattle.encode_session.specs.Model.{Opening, settingOf, serves, header, opened}
 use Rattle.encode_session.specs.Session.{isGiven, Opens}

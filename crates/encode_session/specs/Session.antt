@@ -9,12 +9,12 @@ use Rattle.error.specs.Answer.{Answer, gives, refuses, refusal, written as mean
 use Rattle.error.specs.Emits.{Emits}
 use Rattle.error.specs.declared.Checked.{Checked}
 use Rattle.error.specs.declared.Written.{Written}
-use Rattle.ext_write.specs.Left.{Left, ChecksPairs}
+use Rattle.ext_write.specs.Internal.Left.{Left, ChecksPairs}
 use Rattle.ext_write.specs.declared.FieldsCheck.{FieldsCheck}
 use Rattle.ext_write.specs.declared.PairsBegun.{PairsBegun}
 use Rattle.options.specs.Settings.{madeFrames}
 use Rattle.options.specs.declared.EncodeOptions.{EncodeOptions}
-use Rattle.quantize.specs.Engine.{Runs, Stands as QStands, Holds as QHolds}
+use Rattle.quantize.specs.Internal.Engine.{Runs, Stands as QStands, Holds as QHolds}
 use Rattle.encode_session.specs.Model.{Opening, opening, settingOf, header, Model, opened, framesDone, shut, feed, close, Told, took}
 use Rattle.encode_session.specs.Model.{closed, outcome}
 use Rattle.encode_session.specs.declared.EncodeSession.{EncodeSession}

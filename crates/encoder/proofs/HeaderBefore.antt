@@ -21,7 +21,7 @@ use Rattle.ext.specs.Kinds.{Fields}
 use Rattle.ext_write.specs.Write.{fieldsBytes}
 use Rattle.header.specs.Write.{fixByte, sizeBytes, headerBytes, fieldsHeader, presented, extHeader}
 use Rattle.header.specs.declared.ExtPresence.{ExtPresence}
-use Rattle.encoder.specs.Parts.{Heads}
+use Rattle.encoder.specs.Internal.Parts.{Heads}
 
 module _ (a : Answer (List ℕ)) (body : ℕ) (old : List ℕ) where
   abbrev room : ℕ

@@ -13,21 +13,21 @@ use Rattle.error.specs.Emits.{Emits}
 use Rattle.error.specs.declared.WbmpError.{WbmpError}
 use Rattle.error.specs.declared.Written.{Written}
 use Rattle.laws.proofs.Tests.{zero-one}
-use Rattle.ext_write.specs.Left.{Left, none-left, pairs-left}
+use Rattle.ext_write.specs.Internal.Left.{Left, none-left, pairs-left}
 use Rattle.ext_write.specs.declared.PairsBegun.{PairsBegun}
-use Rattle.ext_write.specs.Steps.{putStart, putPairs}
+use Rattle.ext_write.specs.Internal.Steps.{putStart, putPairs}
 use Rattle.ext_write.proofs.Begun.{left-put}
 use Rattle.ext_write.proofs.Stores.{sets-left}
 use Rattle.header.specs.Write.{extHeader}
-use Rattle.header.specs.Begin.{HasRoom}
+use Rattle.header.specs.Internal.Begin.{HasRoom}
 use Rattle.image.specs.Geometry.{planeBytes}
 use Rattle.image.specs.declared.PixelFormat.{PixelFormat}
 use Rattle.options.specs.declared.EncodeOptions.{EncodeOptions}
 use Rattle.encoder.specs.File.{fileOf}
 use Rattle.encoder.specs.Write.{checkPlanes, wirePlanes, fileOfPlanes}
 use Rattle.encoder.specs.Make.{checkScans, Makes}
-use Rattle.encoder.specs.Parts.{Heads}
-use Rattle.encoder.specs.Scans.{PutsScans}
+use Rattle.encoder.specs.Internal.Parts.{Heads}
+use Rattle.encoder.specs.Internal.Scans.{PutsScans}
 use Rattle.encoder.proofs.HeaderBefore.{headed}
 use Rattle.encoder.proofs.PlanesFile.{start-room, planes-filed, planes-refused, tests-accept, tests-refuse}
 use Rattle.encoder.proofs.ScansFile.{unmade, not-headed, made}

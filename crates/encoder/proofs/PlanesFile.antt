@@ -14,7 +14,7 @@ use Rattle.image.specs.declared.PixelFormat.{PixelFormat}
 use Rattle.options.specs.declared.EncodeOptions.{EncodeOptions}
 use Rattle.encoder.specs.File.{fileOf}
 use Rattle.encoder.specs.Write.{checkPlanes, wirePlanes, fileOfPlanes}
-use Rattle.encoder.specs.Parts.{Heads}
+use Rattle.encoder.specs.Internal.Parts.{Heads}
 use Rattle.encoder.proofs.HeaderBefore.{header-some, body-room, file-written, file-refused, behind}
 use Rattle.encoder.proofs.PlanesLoop.{planes-length}
 

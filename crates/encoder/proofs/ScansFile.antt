@@ -14,8 +14,8 @@ use Rattle.options.specs.declared.EncodeOptions.{EncodeOptions}
 use Rattle.quantize.proofs.FramesJoined.{scans-long}
 use Rattle.encoder.specs.File.{fileOf}
 use Rattle.encoder.specs.Make.{checkScans, scanBytes, fileOfScans, Makes}
-use Rattle.encoder.specs.Parts.{Heads}
-use Rattle.encoder.specs.Scans.{PutsScans}
+use Rattle.encoder.specs.Internal.Parts.{Heads}
+use Rattle.encoder.specs.Internal.Scans.{PutsScans}
 use Rattle.encoder.proofs.PlanesFile.{filed, unfiled}
 use Rattle.encoder.proofs.ScanTests.{Passed, passed}
 

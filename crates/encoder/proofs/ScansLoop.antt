@@ -23,7 +23,7 @@ use Rattle.quantize.specs.Whole.{quantized, Quantizes}
 use Rattle.quantize.proofs.WholePlanes.{refused-none, plane-long}
 use Rattle.quantize.proofs.FramesJoined.{scans-none, scans-long, scans-more}
 use Rattle.encoder.specs.Make.{scanBytes}
-use Rattle.encoder.specs.Scans.{PutsScans}
+use Rattle.encoder.specs.Internal.Scans.{PutsScans}
 use Rattle.encoder.proofs.ScanTests.{Passed}
 
 -- a plane is no longer than its scan, and so many are no longer than their scans

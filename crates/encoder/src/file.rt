@@ -11,7 +11,7 @@ ghost use mathlib.Core.Path.{_≡_};
 ghost use Prim.Native.Nat.{_-_};
 ghost use Rattle.error.specs.Answer.{checked, refuses};
 ghost use Rattle.encoder.specs.File.{checkCount};
-ghost use Rattle.encoder.specs.Begin.{BeginsBefore};
+ghost use Rattle.encoder.specs.Internal.Begin.{BeginsBefore};
 
 const MAX_FRAMES: usize = MAX_MADE_FRAMES as usize;
 

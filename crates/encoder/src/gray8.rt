@@ -18,10 +18,10 @@ ghost use Prim.Native.Nat.{_*_, _≤_};
 ghost use lib.ListN.{length};
 ghost use Rattle.error.specs.Answer.{checked, gives, written};
 ghost use Rattle.image.specs.Geometry.{planeBytes};
-ghost use Rattle.image.specs.Parts.{Laid};
+ghost use Rattle.image.specs.Internal.Parts.{Laid};
 ghost use Rattle.encoder.specs.Make.{checkScans, Makes};
-ghost use Rattle.encoder.specs.Scans.{PutsScans};
-ghost use Rattle.encoder.specs.Begin.{BeginsMade};
+ghost use Rattle.encoder.specs.Internal.Scans.{PutsScans};
+ghost use Rattle.encoder.specs.Internal.Begin.{BeginsMade};
 ghost use Rattle.ext_write.specs.Write.{flattened};
 
 // Scans of one size, end to end: their planes' layout, and how many they are.

@@ -18,9 +18,9 @@ ghost use lib.ListN.{length, drop};
 ghost use Rattle.error.specs.Answer.{gives, checked, written};
 ghost use Rattle.error.specs.Emits.{Emits};
 ghost use Rattle.image.specs.Geometry.{neededBytes, planeBytes};
-ghost use Rattle.image.specs.Parts.{Laid};
+ghost use Rattle.image.specs.Internal.Parts.{Laid};
 ghost use Rattle.ext_write.specs.Write.{flattened};
-ghost use Rattle.encoder.specs.Begin.{BeginsFile, BeginsImages};
+ghost use Rattle.encoder.specs.Internal.Begin.{BeginsFile, BeginsImages};
 ghost use Rattle.encoder.specs.Write.{checkPlanes, wirePlanes, fileOfPlanes};
 
 // Planes of one size, stride and format, end to end: their layout in a file, and how many they are.

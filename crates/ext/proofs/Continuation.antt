@@ -13,7 +13,7 @@ use Rattle.laws.proofs.Lists.{tail-drop}
 use Rattle.ext.specs.Kinds.{Pair, Fields}
 use Rattle.ext.specs.Find.{pairsIn}
 use Rattle.ext.specs.Read.{PairAt, readOctets, readOctet, readPair, readPairs, readFields}
-use Rattle.ext.specs.Bytewise.{octets, octet, pairsFrom, fieldsFrom}
+use Rattle.ext.specs.Internal.Bytewise.{octets, octet, pairsFrom, fieldsFrom}
 use Rattle.ext.proofs.PairExtent.{pair-in}
 use Rattle.ext.proofs.FieldsCases.{by-kind}
 use Rattle.ext.proofs.PairsBytewise.{bind-map, afterPair, pairs-end, pairs-over, pairs-pair}

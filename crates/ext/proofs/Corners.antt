@@ -9,7 +9,7 @@ use Rattle.error.specs.Answer.{gives, refuses}
 use Rattle.ext.specs.Kinds.{pairs}
 use Rattle.ext.specs.Classes.{all, isAlphaDigit}
 use Rattle.ext.specs.Read.{readOctets, readPair, readPairs, readFields}
-use Rattle.ext.specs.Bytewise.{pairsFrom}
+use Rattle.ext.specs.Internal.Bytewise.{pairsFrom}
 use Rattle.ext.specs.Find.{pairAt, valueStart, nothing, valueAt, Looked}
 
 -- a pair past the ceiling is refused with 10, whatever its lengths

@@ -6,7 +6,7 @@ use borrow.Author.Tests.{lt-ltb, le-ltb, lt-leb, le-leb}
 use lib.ListN.{length, drop, getD, drop-of-length-le}
 use Rattle.error.specs.Answer.{Answer, refuses}
 use Rattle.laws.proofs.Lists.{drop-at}
-use Rattle.ext.specs.Bytewise.{octets}
+use Rattle.ext.specs.Internal.Bytewise.{octets}
 
 module _ {A : Type 0} (s : List ℕ) (start at : ℕ) (k : ℕ → ℕ → List ℕ → Answer A) where
   pub octets-end : length s ≤ at → octets (drop at s) start at k ≡ refuses 9 at

@@ -15,7 +15,7 @@ use Rattle.laws.proofs.Tests.{zero-one}
 use Rattle.ext.specs.Classes.{isChar, isAlphaDigit, inClass}
 use Rattle.ext.specs.Read.{PairAt, readPair, classed}
 use Rattle.ext.specs.Kinds.{pairHeader}
-use Rattle.ext.specs.Pairwise.{pairStep, pairBehind}
+use Rattle.ext.specs.Internal.Pairwise.{pairStep, pairBehind}
 use Rattle.ext.specs.declared.PairHeader.{PairHeader}
 
 -- the lengths in a pair's header byte

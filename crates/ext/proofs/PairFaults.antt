@@ -6,7 +6,7 @@ use mathlib.Core.Bool.{Bool, true, false, _&&_}
 use lib.Dec.{eqb}
 use Rattle.error.specs.Choice.{if}
 use Rattle.ext.specs.Classes.{isChar, isAlphaDigit, all, inClass}
-use Rattle.ext.specs.Bytewise.{identifierFault, valueFault}
+use Rattle.ext.specs.Internal.Bytewise.{identifierFault, valueFault}
 
 -- the fault after some bytes of an identifier, and of a value
 unfoldable pub identifierFaults : Bool → ℕ → List ℕ → ℕ

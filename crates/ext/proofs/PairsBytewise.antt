@@ -13,8 +13,8 @@ use Rattle.error.specs.Answer.{Answer, gives, refuses, bind, map}
 use Rattle.laws.proofs.Lists.{drop-at, take-slice}
 use Rattle.ext.specs.Classes.{isChar, isAlphaDigit, inClass}
 use Rattle.ext.specs.Read.{PairAt, readPair, pairParts, classed}
-use Rattle.ext.specs.Bytewise.{pairsFrom, identifierFrom, valueFrom, identifierFault, valueFault}
-use Rattle.ext.specs.Pairwise.{pairStep}
+use Rattle.ext.specs.Internal.Bytewise.{pairsFrom, identifierFrom, valueFrom, identifierFault, valueFault}
+use Rattle.ext.specs.Internal.Pairwise.{pairStep}
 use Rattle.ext.proofs.PairFaults.{identifierFaults, valueFaults, pair-fault}
 
 pub bind-map : {A B C : Type 0} (x : Answer A) (f : A → B) (g : B → Answer C) → bind (map f x) g ≡ bind x (λ a. g (f a))

@@ -8,7 +8,7 @@ use Rattle.error.specs.Answer.{Answer, gives, refuses, bind, map}
 use Rattle.laws.proofs.Answers.{map-gives}
 use Rattle.ext.specs.Kinds.{Fields, Span, span, spanOf}
 use Rattle.ext.specs.Read.{readOctets, readOctet, readPairs, readFields}
-use Rattle.ext.specs.Bytewise.{fieldsFrom}
+use Rattle.ext.specs.Internal.Bytewise.{fieldsFrom}
 use Rattle.ext.proofs.FieldsCases.{by-kind}
 use Rattle.ext.proofs.Continuation.{pairCount, fields-in}
 

@@ -16,7 +16,7 @@ ghost use lib.ListN.{length};
 ghost use Rattle.error.specs.Answer.{gives, refuses, map};
 ghost use Rattle.ext.specs.Kinds.{kindNumber, span, spanOf, meaning};
 ghost use Rattle.ext.specs.Read.{readPair, readFields};
-ghost use Rattle.ext.specs.Pairwise.{pairMeaning, pairStep, pairBehind};
+ghost use Rattle.ext.specs.Internal.Pairwise.{pairMeaning, pairStep, pairBehind};
 
 fn refused(code: u8, offset: usize) -> ExtRead
     ensures { λ r. ⌜ meaning r ≡ refuses code offset ⌝ }

@@ -17,8 +17,8 @@ use Rattle.laws.proofs.Tests.{if-false}
 use Rattle.laws.proofs.Runs.{sets-front}
 use Rattle.laws.proofs.Emitted.{emits-short, emits-bytes, emits-refused}
 use Rattle.ext_write.specs.Write.{octetsBytes, octetBytes, sum, lentBytes}
-use Rattle.ext_write.specs.Steps.{canPut, putStart, putStep, putOutput, putPairs, continued, Small}
-use Rattle.ext_write.specs.Left.{Left, none-left, pairs-left}
+use Rattle.ext_write.specs.Internal.Steps.{canPut, putStart, putStep, putOutput, putPairs, continued, Small}
+use Rattle.ext_write.specs.Internal.Left.{Left, none-left, pairs-left}
 use Rattle.ext_write.specs.declared.PairsPut.{PairsPut}
 use Rattle.ext_write.specs.declared.PairsBegun.{PairsBegun}
 use Rattle.ext_write.proofs.OctetsWritten.{accepted-small, accepted-bytes, length-continued}

@@ -16,7 +16,7 @@ use Rattle.laws.proofs.Lists.{length-part}
 use Rattle.laws.proofs.Tests.{if-true, if-false}
 use Rattle.ext.specs.Kinds.{Pair, Fields}
 use Rattle.ext_write.specs.Write.{checkPair, pairBytes, pairsBytes, cutPairs, sum, lentFields, lentBytes, fieldsBytes}
-use Rattle.ext_write.specs.Steps.{lentPair, codeOf, startAfter, checkStart, checkStep, checkPairs}
+use Rattle.ext_write.specs.Internal.Steps.{lentPair, codeOf, startAfter, checkStart, checkStep, checkPairs}
 use Rattle.ext_write.specs.declared.PairsCheck.{PairsCheck}
 use Rattle.ext_write.proofs.PairVerdict.{Verdict, verdict, pair-passed}
 use Rattle.ext_write.proofs.PairsLaid.{laid, pairs-laid, laid-cons}

@@ -10,7 +10,7 @@ use Rattle.error.specs.Answer.{Answer, gives, refuses, bind, map}
 use Rattle.laws.proofs.Tests.{if-false, zero-one}
 use Rattle.ext.specs.Kinds.{Fields, kindNumber}
 use Rattle.ext_write.specs.Write.{octetsBytes, octetBytes, cutPairs, sum, lentFields, lentBytes, fieldsBytes}
-use Rattle.ext_write.specs.Steps.{octetLength}
+use Rattle.ext_write.specs.Internal.Steps.{octetLength}
 use Rattle.ext.specs.declared.ExtFieldType.{ExtFieldType}
 use Rattle.ext.specs.declared.ExtFieldType.the-variants.{Reserved01, Reserved10}
 use Rattle.ext_write.proofs.PairsLaid.{laid, pairs-laid, pairs-some}

@@ -11,7 +11,7 @@ use borrow.Author.Tests.{lt-ltb, le-ltb, lt-leb}
 use Rattle.error.specs.Choice.{if}
 use Rattle.error.specs.Answer.{gives, refuses, map}
 use Rattle.ext.specs.Read.{readOctets}
-use Rattle.ext_write.specs.Steps.{Small, continued}
+use Rattle.ext_write.specs.Internal.Steps.{Small, continued}
 
 module _ (τ : List ℕ) (start at : ℕ) (below : at < start + 4096) (b : ℕ) where
   octet-in : readOctets (b ∷ τ) start at

@@ -16,7 +16,7 @@ use Rattle.laws.proofs.Answers.{map-gives, when}
 use Rattle.laws.proofs.Lists.{drop-at}
 use Rattle.laws.proofs.Tests.{if-true, if-false, zero-one}
 use Rattle.ext_write.specs.Write.{octetsBytes}
-use Rattle.ext_write.specs.Steps.{octetLength, Small, continued}
+use Rattle.ext_write.specs.Internal.Steps.{octetLength, Small, continued}
 use Rattle.ext_write.proofs.PairSteps.{left-more}
 
 pub length-continued : (s : List ℕ) → length (continued s) ≡ length s

@@ -15,7 +15,7 @@ use Rattle.error.specs.Answer.{Answer}
 use Rattle.laws.proofs.Lists.{drop-at, length-part}
 use Rattle.laws.proofs.Tests.{if-true, if-false}
 use Rattle.ext_write.specs.Write.{checkPair, pairBytes}
-use Rattle.ext_write.specs.Steps.{lentPair, codeOf, startAfter, checkStep, checkPairs, canPut, putStep, putOutput, putPairs}
+use Rattle.ext_write.specs.Internal.Steps.{lentPair, codeOf, startAfter, checkStep, checkPairs, canPut, putStep, putOutput, putPairs}
 use Rattle.ext_write.specs.declared.PairsCheck.{PairsCheck}
 use Rattle.ext_write.specs.declared.PairsPut.{PairsPut}
 

@@ -12,7 +12,7 @@ use Rattle.laws.proofs.Lists.{length-part}
 use Rattle.laws.proofs.Runs.{sets-append}
 use Rattle.ext.specs.Kinds.{Pair}
 use Rattle.ext_write.specs.Write.{checkPair, pairBytes, cutPairs, sum}
-use Rattle.ext_write.specs.Steps.{lentPair, canPut, putStep, putOutput, putPairs}
+use Rattle.ext_write.specs.Internal.Steps.{lentPair, canPut, putStep, putOutput, putPairs}
 use Rattle.ext_write.specs.declared.PairsPut.{PairsPut}
 use Rattle.ext_write.proofs.PairVerdict.{pair-passed}
 use Rattle.ext_write.proofs.PairSteps.{room, put-bytes, put-next}

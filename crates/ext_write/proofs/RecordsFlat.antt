@@ -11,7 +11,7 @@ use borrow.Author.Tests.{lt-ltb, le-ltb, eq-eqb, ne-eqb, eqb-true, eqb-false, lt
 use Rattle.error.specs.Answer.{map}
 use Rattle.laws.proofs.Tests.{if-false}
 use Rattle.ext_write.specs.Write.{flattened, lentBytes}
-use Rattle.ext_write.specs.Steps.{fieldsLength, checkStart, checkStep, checkPairs, pairsLength, putStep, putOutput, putPairs}
+use Rattle.ext_write.specs.Internal.Steps.{fieldsLength, checkStart, checkStep, checkPairs, pairsLength, putStep, putOutput, putPairs}
 use Rattle.ext_write.specs.declared.Parameter.{Parameter}
 use Rattle.ext_write.specs.declared.PairsCheck.{PairsCheck}
 use Rattle.ext_write.specs.declared.PairsPut.{PairsPut}

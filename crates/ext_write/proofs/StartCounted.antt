@@ -12,7 +12,7 @@ use Rattle.error.specs.Choice.{if}
 use Rattle.error.specs.Answer.{gives}
 use Rattle.ext.specs.Kinds.{Pair}
 use Rattle.ext_write.specs.Write.{cutPairs, sum, lentBytes}
-use Rattle.ext_write.specs.Steps.{startAfter, checkStart, checkPairs}
+use Rattle.ext_write.specs.Internal.Steps.{startAfter, checkStart, checkPairs}
 use Rattle.ext_write.specs.declared.PairsCheck.{PairsCheck}
 use Rattle.ext_write.proofs.PairVerdict.{pair-passed}
 use Rattle.ext_write.proofs.PairsLaid.{laid, laid-cons}

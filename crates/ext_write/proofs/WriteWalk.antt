@@ -48,8 +48,8 @@ use Rattle.error.proofs.Written as Wr
 use Rattle.error.proofs.Written.Laws as Wr′
 use Rattle.ext.specs.Kinds.{kindNumber}
 use Rattle.ext_write.specs.Write.{flattened, lentBytes}
-use Rattle.ext_write.specs.Steps.{putStart, putPairs}
-use Rattle.ext_write.specs.Left.{ChecksPairs, BeginsFields}
+use Rattle.ext_write.specs.Internal.Steps.{putStart, putPairs}
+use Rattle.ext_write.specs.Internal.Left.{ChecksPairs, BeginsFields}
 use Rattle.ext.specs.declared.ExtFieldType.{ExtFieldType}
 use Rattle.ext_write.specs.declared.Parameter.{Parameter}
 use Rattle.ext_write.specs.declared.FieldsCheck.{FieldsCheck}

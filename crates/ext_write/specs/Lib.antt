@@ -1,4 +1,3 @@
 pub mod Write
-pub mod Steps
-pub mod Left
 pub mod Ceiling
+pub mod Internal

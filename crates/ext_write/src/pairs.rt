@@ -11,8 +11,8 @@ ghost use mathlib.Core.Path.{_≡_};
 ghost use lib.ListN.{length, take, drop, getD};
 ghost use lib.Seq.{sets};
 ghost use Rattle.error.specs.Choice.{if};
-ghost use Rattle.ext_write.specs.Steps.{checkStart, startAfter, checkStep, checkPairs, pairsLength};
-ghost use Rattle.ext_write.specs.Steps.{putStart, putStep, putOutput, putPairs};
+ghost use Rattle.ext_write.specs.Internal.Steps.{checkStart, startAfter, checkStep, checkPairs, pairsLength};
+ghost use Rattle.ext_write.specs.Internal.Steps.{putStart, putStep, putOutput, putPairs};
 
 pub(crate) fn check_start() -> PairsCheck
     ensures { λ r. ⌜ r ≡ checkStart ⌝ }

@@ -16,8 +16,8 @@ ghost use Rattle.error.specs.Answer.{written};
 ghost use Rattle.error.specs.Emits.{Emits};
 ghost use Rattle.ext.specs.Kinds.{kindNumber};
 ghost use Rattle.ext_write.specs.Write.{flattened, lentBytes};
-ghost use Rattle.ext_write.specs.Steps.{putStart, putPairs};
-ghost use Rattle.ext_write.specs.Left.{ChecksPairs};
+ghost use Rattle.ext_write.specs.Internal.Steps.{putStart, putPairs};
+ghost use Rattle.ext_write.specs.Internal.Left.{ChecksPairs};
 
 // How many bytes the pairs are, or why they are refused.
 pub fn check_parameters(text: &[u8], parameters: &[Parameter], strict: bool) -> FieldsCheck

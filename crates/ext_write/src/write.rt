@@ -18,8 +18,8 @@ ghost use Rattle.error.specs.Answer.{map, written};
 ghost use Rattle.error.specs.Emits.{Emits};
 ghost use Rattle.ext.specs.Kinds.{kindNumber};
 ghost use Rattle.ext_write.specs.Write.{octetsBytes, octetBytes, lentBytes};
-ghost use Rattle.ext_write.specs.Left.{ChecksPairs, ChecksFields, BeginsPairs, BeginsFields};
-ghost use Rattle.ext_write.specs.Steps.{fieldsLength, octetLength, putStart, putPairs, continued, Small};
+ghost use Rattle.ext_write.specs.Internal.Left.{ChecksPairs, ChecksFields, BeginsPairs, BeginsFields};
+ghost use Rattle.ext_write.specs.Internal.Steps.{fieldsLength, octetLength, putStart, putPairs, continued, Small};
 
 // Kind 00.
 fn check_octets(text: &[u8]) -> FieldsCheck

@@ -21,14 +21,14 @@ use Rattle.mbi.specs.Bytes.{mbiBytes, groups}
 use Rattle.mbi.proofs.Length.{bytes-five}
 use Rattle.laws.proofs.Tests.{zero-one}
 use Rattle.ext.specs.Kinds.{Fields, bitfield, reserved, pairs}
-use Rattle.ext_write.specs.Left.{Left, none-left, pairs-left}
+use Rattle.ext_write.specs.Internal.Left.{Left, none-left, pairs-left}
 use Rattle.ext_write.specs.declared.PairsBegun.{PairsBegun}
 use Rattle.error.specs.declared.WbmpError.{WbmpError}
 use Rattle.error.specs.declared.Written.{Written}
 use Rattle.ext_write.proofs.Begun.{short-emitted}
 use Rattle.ext_write.proofs.Stores.{sets-before, sets-mid}
 use Rattle.ext_write.specs.Write.{lentFields, lentBytes, fieldsBytes, cutPairs, sum}
-use Rattle.header.specs.Begin.{HasRoom}
+use Rattle.header.specs.Internal.Begin.{HasRoom}
 use Rattle.header.specs.Write.{sizeBytes, headerBytes, plainHeader, fixByte, fieldsHeader, lentHeader, presented}
 use Rattle.header.specs.declared.ExtPresence.{ExtPresence}
 use Rattle.header.specs.declared.ExtPresence.the-variants.{Absent}

@@ -1,4 +1,4 @@
 pub mod Settings
 pub mod Read
 pub mod Write
-pub mod Begin
+pub mod Internal

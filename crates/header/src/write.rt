@@ -17,7 +17,7 @@ ghost use Rattle.error.specs.Answer.{written};
 ghost use Rattle.error.specs.Emits.{Emits};
 ghost use Rattle.mbi.specs.Bytes.{mbiBytes};
 ghost use Rattle.header.specs.Write.{plainHeader, sizeBytes, extHeader};
-ghost use Rattle.header.specs.Begin.{BeginsLent, BeginsHeader};
+ghost use Rattle.header.specs.Internal.Begin.{BeginsLent, BeginsHeader};
 ghost use Rattle.ext.specs.Kinds.{kindNumber};
 ghost use Rattle.ext_write.specs.Write.{flattened};
 

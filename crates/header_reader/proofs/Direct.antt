@@ -11,14 +11,14 @@ use Rattle.error.specs.Answer.{Answer, gives, refuses, bind, map}
 use Rattle.laws.proofs.Lists.{drop-at}
 use Rattle.mbi.specs.Read.{readMbi}
 use Rattle.mbi.proofs.Continuation.{integer-mbi}
-use Rattle.ext.specs.Bytewise.{fieldsFrom}
+use Rattle.ext.specs.Internal.Bytewise.{fieldsFrom}
 use Rattle.ext.specs.Kinds.{Fields, none, Span, absent, spanOf, fieldsFollow, kindBits}
 use Rattle.ext.specs.Read.{readFields}
 use Rattle.ext.proofs.Continuation.{fields-in}
 use Rattle.ext.proofs.Spans.{span-is}
 use Rattle.header.specs.Settings.{Settings}
 use Rattle.header.specs.Read.{Outline, outline, readHeight, readSizes, readAfterFix, readFix, readHeader}
-use Rattle.header_reader.specs.Machine.{start, afterHeight, afterWidth, sizesFrom, afterFields, fixFrom, afterType, resume}
+use Rattle.header_reader.specs.Internal.Machine.{start, afterHeight, afterWidth, sizesFrom, afterFields, fixFrom, afterType, resume}
 
 -- two continuations of a reading, alike wherever it gives something
 then : {A B C : Type 0} (f : B → C) (x : Answer A) (g : A → Answer B) (k : A → Answer C)

@@ -4,7 +4,7 @@ use mathlib.Core.Path.{_≡_, _∙_, sym, ap}
 use mathlib.Core.Bool.{Bool}
 use native.Mathlib.Omega.{arith}
 use Rattle.mbi.specs.Read.{readByte, stepMeaning}
-use Rattle.mbi.specs.Step.{Stepped}
+use Rattle.mbi.specs.Internal.Step.{Stepped}
 use Rattle.mbi.proofs.Step.{word-is}
 use Rattle.mbi.specs.declared.MbiStep.{MbiStep}
 

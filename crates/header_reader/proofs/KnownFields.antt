@@ -13,13 +13,13 @@ use Rattle.mbi.specs.Read.{ByteRead, goes, ends, wrong, readByte, readRest, rea
 use Rattle.mbi.proofs.Continuation.{integer-mbi}
 use Rattle.ext.specs.Kinds.{Span, absent, span, spanOf, fieldsFollow, kindBits}
 use Rattle.ext.specs.Read.{readFields, readPairs, readPair}
-use Rattle.ext.specs.Bytewise.{octets, octet, pairsFrom, identifierFrom, valueFrom, fieldsFrom, valueFault}
+use Rattle.ext.specs.Internal.Bytewise.{octets, octet, pairsFrom, identifierFrom, valueFrom, fieldsFrom, valueFault}
 use Rattle.ext.proofs.Spans.{spanTo, spans}
 use Rattle.header.specs.Settings.{Settings, extInner}
 use Rattle.header.specs.Read.{Outline, outline, readHeader}
-use Rattle.header_reader.specs.Machine.{State, inType, atFix, inOctets, atOctet, atPair, inIdentifier, inValue, inWidth, inHeight, start, Step, more, done, refused, onByte, stepOf, steps}
+use Rattle.header_reader.specs.Internal.Machine.{State, inType, atFix, inOctets, atOctet, atPair, inIdentifier, inValue, inWidth, inHeight, start, Step, more, done, refused, onByte, stepOf, steps}
 use Rattle.header_reader.specs.Known.{spanAtFix, readSpan, unknown, known, knownBy, fieldsKnown, knownIn}
-use Rattle.header_reader.specs.Pieces.{onward}
+use Rattle.header_reader.specs.Internal.Pieces.{onward}
 use Rattle.header_reader.proofs.Machine.{steps-cons}
 use Rattle.header_reader.proofs.Direct.{direct}
 use Rattle.header_reader.proofs.RefusalMet.{finds}

@@ -8,11 +8,11 @@ use Rattle.error.specs.Choice.{if}
 use Rattle.error.specs.Answer.{Answer}
 use Rattle.mbi.specs.Read.{ByteRead, goes, ends, wrong, readByte, integer, upon}
 use Rattle.ext.specs.Kinds.{fieldsFollow, kindBits}
-use Rattle.ext.specs.Bytewise.{octets, octet, pairsFrom, fieldsFrom, valueFault}
+use Rattle.ext.specs.Internal.Bytewise.{octets, octet, pairsFrom, fieldsFrom, valueFault}
 use Rattle.header.specs.Settings.{Settings}
 use Rattle.header.specs.Read.{Outline}
-use Rattle.header_reader.specs.Machine.{State, inType, atFix, inOctets, atOctet, atPair, inIdentifier, inValue, inWidth, inHeight, Step, more, done, refused, onByte, fixFrom, resume, stepOf, steps, after}
-use Rattle.header_reader.specs.Pieces.{onward}
+use Rattle.header_reader.specs.Internal.Machine.{State, inType, atFix, inOctets, atOctet, atPair, inIdentifier, inValue, inWidth, inHeight, Step, more, done, refused, onByte, fixFrom, resume, stepOf, steps, after}
+use Rattle.header_reader.specs.Internal.Pieces.{onward}
 
 module _ (o : Settings) (τ : List ℕ) where
   pick : (t : Bool) (u v : Answer Outline) (x y : Step) → u ≡ after o x τ → v ≡ after o y τ

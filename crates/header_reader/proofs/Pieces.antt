@@ -8,10 +8,10 @@ use Rattle.error.specs.declared.WbmpError.{WbmpError}
 use Rattle.mbi.specs.Read.{readByte}
 use Rattle.header.specs.Settings.{Settings, settings}
 use Rattle.header.specs.Read.{Outline, outline, parsed, readHeader}
-use Rattle.header_reader.specs.Machine.{State, start, Step, more, done, refused, stepOf, steps, after, resume}
-use Rattle.header_reader.specs.Represents.{state, Represents, Answers, ReaderStepped}
-use Rattle.header_reader.specs.Pieces.{join, onward, Fed, nothing, byte, last, bad, Run, closed, piece, whole, met}
-use Rattle.header_reader.specs.Phase.{moved}
+use Rattle.header_reader.specs.Internal.Machine.{State, start, Step, more, done, refused, stepOf, steps, after, resume}
+use Rattle.header_reader.specs.Internal.Represents.{state, Represents, Answers, ReaderStepped}
+use Rattle.header_reader.specs.Internal.Pieces.{join, onward, Fed, nothing, byte, last, bad, Run, closed, piece, whole, met}
+use Rattle.header_reader.specs.Internal.Phase.{moved}
 use Rattle.header.specs.declared.HeaderMode.{HeaderMode}
 use Rattle.header.specs.declared.HeaderFields.{HeaderFields}
 use Rattle.header.specs.declared.ParsedHeader.{ParsedHeader}

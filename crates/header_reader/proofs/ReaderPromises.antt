@@ -8,10 +8,10 @@ use Rattle.error.specs.Answer.{refusal}
 use Rattle.error.specs.declared.WbmpError.{WbmpError}
 use Rattle.laws.proofs.Tests.{zero-one}
 use Rattle.header.specs.Settings.{Settings, settings}
-use Rattle.header_reader.specs.Machine.{State, inType, atFix, inOctets, atOctet, atPair, inIdentifier, inValue, inWidth, inHeight, Step, inFields, stepOf, resume}
-use Rattle.header_reader.specs.Represents.{fieldsState, state, Sound, Answers, ReaderStepped, ReaderEnded}
+use Rattle.header_reader.specs.Internal.Machine.{State, inType, atFix, inOctets, atOctet, atPair, inIdentifier, inValue, inWidth, inHeight, Step, inFields, stepOf, resume}
+use Rattle.header_reader.specs.Internal.Represents.{fieldsState, state, Sound, Answers, ReaderStepped, ReaderEnded}
 use Rattle.header_reader.specs.Known.{unknown, knownIn}
-use Rattle.header_reader.specs.Phase.{moved, Bounded, Decides}
+use Rattle.header_reader.specs.Internal.Phase.{moved, Bounded, Decides}
 use Rattle.header.specs.declared.HeaderMode.{HeaderMode}
 use Rattle.header_reader.specs.declared.phase.FieldsPhase.{FieldsPhase}
 use Rattle.header_reader.specs.declared.phase.PhaseStep.{PhaseStep}

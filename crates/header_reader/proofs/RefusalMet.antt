@@ -9,7 +9,7 @@ use Rattle.mbi.specs.Read.{readByte, integer}
 use Rattle.ext.specs.Kinds.{absent}
 use Rattle.header.specs.Settings.{Settings, inner}
 use Rattle.header.specs.Read.{Outline}
-use Rattle.header_reader.specs.Machine.{State, start, Step, more, done, refused, fixFrom, resume, steps, after}
+use Rattle.header_reader.specs.Internal.Machine.{State, start, Step, more, done, refused, fixFrom, resume, steps, after}
 use Rattle.header_reader.proofs.Machine.{steps-law, steps-all}
 use Rattle.header_reader.proofs.StepSound.{SoundStep, sound-steps, sound-start}
 use Rattle.header_reader.proofs.EndRefusal.{end-is, end-short}

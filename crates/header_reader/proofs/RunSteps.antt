@@ -9,12 +9,12 @@ use native.Mathlib.Omega.{arith}
 use borrow.Author.Tests.{lt-ltb, le-ltb, le-leb, lt-leb, ne-eqb}
 use lib.ListN.{length, take, drop, getD, length-take, length-drop, take-append-drop}
 use lib.Seq.{take-suc, take-add, drop-cons}
-use Rattle.ext.specs.Bytewise.{identifierFault, valueFault}
+use Rattle.ext.specs.Internal.Bytewise.{identifierFault, valueFault}
 use Rattle.header.specs.Settings.{Settings, settings}
-use Rattle.header_reader.specs.Machine.{State, inOctets, atPair, inIdentifier, inValue, inFields, Step, more, stepOf, steps}
-use Rattle.header_reader.specs.Represents.{fieldsState, state, Represents}
-use Rattle.header_reader.specs.Pieces.{onward}
-use Rattle.header_reader.specs.Run.{fieldsStart, Inside, RunReached, ReaderRuns, FieldsRuns, OctetsAhead, Continued, PairsAhead}
+use Rattle.header_reader.specs.Internal.Machine.{State, inOctets, atPair, inIdentifier, inValue, inFields, Step, more, stepOf, steps}
+use Rattle.header_reader.specs.Internal.Represents.{fieldsState, state, Represents}
+use Rattle.header_reader.specs.Internal.Pieces.{onward}
+use Rattle.header_reader.specs.Internal.Run.{fieldsStart, Inside, RunReached, ReaderRuns, FieldsRuns, OctetsAhead, Continued, PairsAhead}
 use Rattle.header_reader.specs.declared.phase.FieldsPhase.{FieldsPhase}
 use Rattle.header_reader.specs.declared.phase.PairChain.{PairChain}
 use Rattle.header_reader.specs.declared.phase.Phase.{Phase}

@@ -12,11 +12,11 @@ use Rattle.mbi.specs.Read.{ByteRead, goes, ends, wrong, readByte}
 use Rattle.mbi.proofs.Step.{known}
 use Rattle.ext.specs.Classes.{isChar, isAlphaDigit}
 use Rattle.ext.specs.Kinds.{fieldsFollow, kindBits}
-use Rattle.ext.specs.Bytewise.{identifierFault, valueFault}
+use Rattle.ext.specs.Internal.Bytewise.{identifierFault, valueFault}
 use Rattle.header.specs.Settings.{Settings}
-use Rattle.header_reader.specs.Machine.{State, inType, atFix, inOctets, atOctet, atPair, inIdentifier, inValue, inWidth, inHeight, start, Step, more, done, refused, onByte, stepOf, steps}
-use Rattle.header_reader.specs.Represents.{Sound}
-use Rattle.header_reader.specs.Pieces.{onward}
+use Rattle.header_reader.specs.Internal.Machine.{State, inType, atFix, inOctets, atOctet, atPair, inIdentifier, inValue, inWidth, inHeight, start, Step, more, done, refused, onByte, stepOf, steps}
+use Rattle.header_reader.specs.Internal.Represents.{Sound}
+use Rattle.header_reader.specs.Internal.Pieces.{onward}
 use Rattle.header_reader.proofs.Machine.{steps-cons}
 
 -- a fault that waits is 14 or 15

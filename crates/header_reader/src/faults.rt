@@ -2,7 +2,7 @@
 use error::IDENTIFIER_CLASS;
 use error::VALUE_CLASS;
 ghost use mathlib.Core.Path.{_≡_};
-ghost use Rattle.ext.specs.Bytewise.{identifierFault, valueFault};
+ghost use Rattle.ext.specs.Internal.Bytewise.{identifierFault, valueFault};
 
 pub(crate) fn identifier_fault(strict: bool, fault: u8, byte: u8) -> u8
     ensures { λ r. ⌜ r ≡ identifierFault strict fault byte ⌝ }

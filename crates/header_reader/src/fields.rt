@@ -25,9 +25,9 @@ ghost use Rattle.error.specs.Choice.{if};
 ghost use Rattle.ext.specs.Kinds.{absent, fieldsFollow, kindBits, kindNumber};
 ghost use Rattle.header.specs.Settings.{Settings, settings};
 ghost use Rattle.header.specs.Read.{extSpan};
-ghost use Rattle.header_reader.specs.Machine.{atFix, inOctets, atOctet, toWidth, toFields, found, stepOf};
-ghost use Rattle.header_reader.specs.Represents.{fieldsState};
-ghost use Rattle.header_reader.specs.Phase.{moved, afterPair, Bounded, Chained};
+ghost use Rattle.header_reader.specs.Internal.Machine.{atFix, inOctets, atOctet, toWidth, toFields, found, stepOf};
+ghost use Rattle.header_reader.specs.Internal.Represents.{fieldsState};
+ghost use Rattle.header_reader.specs.Internal.Phase.{moved, afterPair, Bounded, Chained};
 ghost use Rattle.header_reader.specs.declared.phase.FieldsPhase.{FieldsPhase};
 
 // The width comes next.

@@ -13,9 +13,9 @@ use mbi::mbi_step;
 ghost use mathlib.Core.Path.{_≡_};
 ghost use Rattle.header.specs.Settings.{settings};
 ghost use Rattle.header.specs.Read.{extSpan};
-ghost use Rattle.header_reader.specs.Machine.{stepOf};
-ghost use Rattle.header_reader.specs.Represents.{state};
-ghost use Rattle.header_reader.specs.Phase.{moved, afterSizes, IntegerBound};
+ghost use Rattle.header_reader.specs.Internal.Machine.{stepOf};
+ghost use Rattle.header_reader.specs.Internal.Represents.{state};
+ghost use Rattle.header_reader.specs.Internal.Phase.{moved, afterSizes, IntegerBound};
 ghost use Rattle.header_reader.specs.declared.phase.Phase.{Phase};
 
 pub(crate) fn in_type(mode: HeaderMode, integer: PartialInteger, byte: u8) -> PhaseStep

@@ -12,10 +12,10 @@ ghost use mathlib.Core.List.{[]};
 ghost use Prim.Native.Nat.{_+_, _-_, _<_};
 ghost use Rattle.error.specs.Answer.{refusal};
 ghost use Rattle.header.specs.Settings.{Settings};
-ghost use Rattle.header_reader.specs.Machine.{inFields, resume};
-ghost use Rattle.header_reader.specs.Represents.{state, fieldsState};
+ghost use Rattle.header_reader.specs.Internal.Machine.{inFields, resume};
+ghost use Rattle.header_reader.specs.Internal.Represents.{state, fieldsState};
 ghost use Rattle.header_reader.specs.Known.{knownIn, knownMeaning};
-ghost use Rattle.header_reader.specs.Phase.{IntegerBound, FieldsBound, Chained, Bounded, Decides};
+ghost use Rattle.header_reader.specs.Internal.Phase.{IntegerBound, FieldsBound, Chained, Bounded, Decides};
 
 // An integer so far: the value of its first `count` bytes.
 pub struct PartialInteger {

@@ -10,10 +10,10 @@ use header::HeaderMode;
 use header::ParsedHeader;
 ghost use mathlib.Core.Path.{_≡_};
 ghost use Rattle.header.specs.Settings.{Settings, settings};
-ghost use Rattle.header_reader.specs.Machine.{State, start, inFields};
-ghost use Rattle.header_reader.specs.Represents.{Represents, ReaderStepped, ReaderEnded};
+ghost use Rattle.header_reader.specs.Internal.Machine.{State, start, inFields};
+ghost use Rattle.header_reader.specs.Internal.Represents.{Represents, ReaderStepped, ReaderEnded};
 ghost use Rattle.header_reader.specs.Known.{Knows};
-ghost use Rattle.header_reader.specs.Run.{ReaderRuns};
+ghost use Rattle.header_reader.specs.Internal.Run.{ReaderRuns};
 
 pub struct HeaderReader {
     mode: HeaderMode,

@@ -8,10 +8,10 @@ ghost use mathlib.Core.Bool.{false};
 ghost use mathlib.Core.Logic.{_⊎_};
 ghost use Prim.Native.Nat.{_≤_};
 ghost use Rattle.header.specs.Settings.{Settings, settings};
-ghost use Rattle.header_reader.specs.Machine.{inOctets};
-ghost use Rattle.header_reader.specs.Represents.{fieldsState};
-ghost use Rattle.header_reader.specs.Phase.{Bounded, Chained};
-ghost use Rattle.header_reader.specs.Run.{OctetsAhead, Continued, PairsAhead, FieldsRuns};
+ghost use Rattle.header_reader.specs.Internal.Machine.{inOctets};
+ghost use Rattle.header_reader.specs.Internal.Represents.{fieldsState};
+ghost use Rattle.header_reader.specs.Internal.Phase.{Bounded, Chained};
+ghost use Rattle.header_reader.specs.Internal.Run.{OctetsAhead, Continued, PairsAhead, FieldsRuns};
 ghost use Rattle.header_reader.specs.declared.phase.FieldsPhase.{FieldsPhase};
 
 // How many bytes of a piece are taken, and where in the fields the reading stands then.

@@ -14,9 +14,9 @@ use crate::phase::PhaseStep;
 use header::HeaderMode;
 ghost use mathlib.Core.Path.{_≡_};
 ghost use Rattle.header.specs.Settings.{settings};
-ghost use Rattle.header_reader.specs.Machine.{stepOf};
-ghost use Rattle.header_reader.specs.Represents.{state, fieldsState};
-ghost use Rattle.header_reader.specs.Phase.{moved, Bounded};
+ghost use Rattle.header_reader.specs.Internal.Machine.{stepOf};
+ghost use Rattle.header_reader.specs.Internal.Represents.{state, fieldsState};
+ghost use Rattle.header_reader.specs.Internal.Phase.{moved, Bounded};
 
 fn step_fields(phase: FieldsPhase, mode: HeaderMode, byte: u8) -> PhaseStep
     requires { ⌜ Bounded (fieldsState phase) ⌝ }

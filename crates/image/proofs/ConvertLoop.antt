@@ -8,7 +8,7 @@ use borrow.Rule.Slice.PartMut.{midOf, putMid, post-is, same-len-mid}
 use lib.ListN.{length, length-set}
 use Rattle.image.specs.Format.{whiteBit}
 use Rattle.image.specs.Geometry.{rowBytes, paddingMask, layoutOf}
-use Rattle.image.specs.Parts.{maskLast}
+use Rattle.image.specs.Internal.Parts.{maskLast}
 use Rattle.image.specs.Rows.{invert, rowAt, clearPadding, convertRow, convertRows, convertFormat}
 use Rattle.image.specs.declared.PixelFormat.{PixelFormat}
 use Rattle.image.specs.declared.PlaneLayout.{PlaneLayout}

@@ -8,7 +8,7 @@ use Rattle.error.specs.Answer.{gives, refuses}
 use Rattle.laws.proofs.Octets.{Octets, octets-by}
 use Rattle.image.specs.Dots.{bitAt, isWhite}
 use Rattle.image.specs.Geometry.{checkGeometry}
-use Rattle.image.specs.Parts.{clearRows}
+use Rattle.image.specs.Internal.Parts.{clearRows}
 use Rattle.image.specs.Rows.{clearPadding, invert, convertRow, convertRows, convertFormat, wireRow, wireBits}
 use Rattle.image.specs.declared.PixelFormat.the-variants.{MonoBlack, MonoWhite}
 use Rattle.image.proofs.PackedAsRows.{converts-at-once, wires-at-once}

@@ -10,7 +10,7 @@ use lib.Pow.{shr-mod}
 use Rattle.error.specs.Choice.{if}
 use Rattle.laws.proofs.Octets.{Octets, octets-drop}
 use Rattle.image.specs.Geometry.{paddingBits, paddingMask}
-use Rattle.image.specs.Parts.{maskLast}
+use Rattle.image.specs.Internal.Parts.{maskLast}
 use Rattle.image.specs.Rows.{clearLow, clearPadding, invert, rowAt, isPresent, sourceRow, toNative}
 use Rattle.image.specs.declared.PixelFormat.{PixelFormat}
 use Rattle.image.specs.declared.PixelFormat.the-variants.{MonoBlack, MonoWhite}

@@ -14,7 +14,7 @@ use lib.ListN.{length, getD, set, take, drop, length-append, length-drop, length
 use lib.Seq.{length-take-le, take-all, drop-length, getD-append-add, getD-take, getD-drop, getD-set-same, getD-set-other, set-getD, ext-getD}
 use Rattle.laws.proofs.Products.{up-to, some-size}
 use Rattle.image.specs.Geometry.{rowBytes, planeBytes, paddingBits, paddingMask}
-use Rattle.image.specs.Parts.{clearRows}
+use Rattle.image.specs.Internal.Parts.{clearRows}
 use Rattle.image.specs.Rows.{clearLow, invert, sourceRow, toNative, convertRows, wireBits}
 use Rattle.image.specs.declared.PixelFormat.{PixelFormat}
 use Rattle.image.specs.declared.PixelFormat.the-variants.{MonoBlack, MonoWhite}

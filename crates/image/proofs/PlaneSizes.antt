@@ -5,7 +5,7 @@ use native.Mathlib.Nat.{mul-comm, mul-assoc, mul-pos, mul-add-mod-self-left}
 use native.Mathlib.Omega.{arith}
 use Rattle.laws.proofs.Products.{up-to}
 use Rattle.image.specs.Geometry.{rowBytes, planeBytes, paddingMask, layoutOf}
-use Rattle.image.specs.Parts.{Laid}
+use Rattle.image.specs.Internal.Parts.{Laid}
 use Rattle.image.specs.declared.PlaneLayout.{PlaneLayout}
 
 module _ (w h : ℕ) where

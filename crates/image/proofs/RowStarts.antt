@@ -6,7 +6,7 @@ use borrow.Author.Tests.{leb-true, leb-false, le-leb, lt-leb}
 use lib.Dec.{leb}
 use Rattle.error.specs.Choice.{if}
 use Rattle.laws.proofs.Tests.{zero-one}
-use Rattle.image.specs.Parts.{rowStart}
+use Rattle.image.specs.Internal.Parts.{rowStart}
 use Rattle.image.specs.declared.RowStart.{RowStart}
 use Rattle.image.specs.declared.RowStart.the-variants.{At, Missing}
 

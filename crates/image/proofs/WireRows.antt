@@ -15,7 +15,7 @@ use Rattle.laws.proofs.Lists.{length-part}
 use Rattle.laws.proofs.Octets.{Octets}
 use Rattle.laws.proofs.Products.{up-to}
 use Rattle.image.specs.Geometry.{rowBytes, planeBytes, paddingMask, layoutOf}
-use Rattle.image.specs.Parts.{maskLast}
+use Rattle.image.specs.Internal.Parts.{maskLast}
 use Rattle.image.specs.Rows.{clearPadding, rowAt, isPresent, sourceRow, toNative, wireRow, wireBits}
 use Rattle.image.specs.declared.PixelFormat.{PixelFormat}
 use Rattle.image.specs.declared.PixelFormat.the-variants.{MonoBlack, MonoWhite}

@@ -2,4 +2,4 @@ pub mod Format
 pub mod Geometry
 pub mod Dots
 pub mod Rows
-pub mod Parts
+pub mod Internal

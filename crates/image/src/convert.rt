@@ -16,7 +16,7 @@ ghost use lib.ListN.{length};
 ghost use Rattle.error.specs.Answer.{gives, written};
 ghost use Rattle.error.specs.Emits.{Emits};
 ghost use Rattle.image.specs.Geometry.{rowBytes, planeBytes};
-ghost use Rattle.image.specs.Parts.{Laid, maskLast, clearRows};
+ghost use Rattle.image.specs.Internal.Parts.{Laid, maskLast, clearRows};
 ghost use Rattle.image.specs.Rows.{convertFormat, convertRows, invert};
 
 fn invert_row(row: &mut [u8], mask: u8)

@@ -11,7 +11,7 @@ ghost use Prim.Native.Nat.{_+_, _*_};
 ghost use lib.Dec.{leb};
 ghost use Rattle.error.specs.Answer.{checked, refuses};
 ghost use Rattle.image.specs.Geometry.{rowBytes, paddingMask, checkGeometry};
-ghost use Rattle.image.specs.Parts.{rowStart};
+ghost use Rattle.image.specs.Internal.Parts.{rowStart};
 
 // The bytes of a row.
 pub fn row_stride(width: u32) -> usize

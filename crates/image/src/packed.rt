@@ -4,7 +4,7 @@ ghost use mathlib.Core.Path.{_≡_};
 ghost use Prim.Native.Nat.{_≤_};
 ghost use lib.ListN.{length};
 ghost use Rattle.image.specs.Geometry.{planeBytes};
-ghost use Rattle.image.specs.Parts.{Laid, clearRows};
+ghost use Rattle.image.specs.Internal.Parts.{Laid, clearRows};
 
 // The padding of each row is cleared.
 pub(crate) fn clear_rows(plane: &mut [u8], layout: PlaneLayout)

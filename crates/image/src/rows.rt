@@ -1,7 +1,7 @@
 // Work on bytes: those of a row, or of many.
 ghost use mathlib.Core.Path.{_≡_};
 ghost use lib.ListN.{length, replicate};
-ghost use Rattle.image.specs.Parts.{maskLast};
+ghost use Rattle.image.specs.Internal.Parts.{maskLast};
 ghost use Rattle.image.specs.Rows.{invert};
 
 pub(crate) fn zero(row: &mut [u8])

@@ -19,7 +19,7 @@ ghost use lib.ListN.{length, drop};
 ghost use Rattle.error.specs.Answer.{gives, written};
 ghost use Rattle.error.specs.Emits.{Emits};
 ghost use Rattle.image.specs.Geometry.{planeBytes};
-ghost use Rattle.image.specs.Parts.{Laid, maskLast, clearRows};
+ghost use Rattle.image.specs.Internal.Parts.{Laid, maskLast, clearRows};
 ghost use Rattle.image.specs.Rows.{sourceRow, toNative, wireBits};
 
 // Row y of a plane, or zeros where it is not wholly there.

@@ -9,7 +9,7 @@ use Rattle.error.specs.Choice.{if}
 use Rattle.error.specs.Answer.{isEnd}
 use Rattle.laws.proofs.Tests.{zero-one}
 use Rattle.mbi.specs.Read.{ByteRead, goes, ends, wrong, readByte}
-use Rattle.mbi.specs.Step.{inWord}
+use Rattle.mbi.specs.Internal.Step.{inWord}
 
 -- a byte b that was taken after n others, the value going from v to w
 pub record Taken (strict : Bool) (v n b w : ℕ) : Type 0 where

@@ -1,3 +1,3 @@
 pub mod Bytes
 pub mod Read
-pub mod Step
+pub mod Internal

@@ -14,7 +14,7 @@ ghost use Rattle.error.specs.Answer.{gives, written};
 ghost use Rattle.error.specs.Emits.{Emits};
 ghost use Rattle.mbi.specs.Bytes.{mbiBytes};
 ghost use Rattle.mbi.specs.Read.{readMbi, meaning};
-ghost use Rattle.mbi.specs.Step.{Stepped};
+ghost use Rattle.mbi.specs.Internal.Step.{Stepped};
 
 // An integer that was read, with the offset after it, or a refusal.
 pub enum MbiRead {

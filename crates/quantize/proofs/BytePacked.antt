@@ -10,7 +10,7 @@ use borrow.Author.Tests.{lt-ltb, le-ltb}
 use Rattle.image.specs.Geometry.{rowBytes}
 use Rattle.rules.specs.Bits.{appended, digits}
 use Rattle.quantize.specs.Finished.{Setting, Bytewise, count, bitAt, byteAt}
-use Rattle.quantize.specs.Place.{begunBy, Begun}
+use Rattle.quantize.specs.Internal.Place.{begunBy, Begun}
 use Rattle.rules.proofs.DigitsAppended.{appended-ext, digits-tail}
 use Rattle.quantize.proofs.Places.{div-at, mod-at, col-row, on-row, on-column, count-now}
 

@@ -14,9 +14,9 @@ use Rattle.quantize.specs.declared.turn.Next.{Next}
 use Rattle.quantize.specs.declared.turn.Place.{Place}
 use Rattle.rules.specs.Rule.{Rule}
 use Rattle.quantize.specs.Finished.{Bytewise}
-use Rattle.rules.specs.Kernels.{Dots}
-use Rattle.quantize.specs.Turn.{ruleOf, Wholes, Dotted, Advances}
-use Rattle.rules.specs.Row.{Bytes}
+use Rattle.rules.specs.Internal.Kernels.{Dots}
+use Rattle.quantize.specs.Internal.Turn.{ruleOf, Wholes, Dotted, Advances}
+use Rattle.rules.specs.Internal.Row.{Bytes}
 use Rattle.quantize.proofs.PlaceAdvanced.{advances-byte}
 use Rattle.rules.proofs.ListPiece.{piece, piece-length}
 use Rattle.rules.proofs.DitherDotsLoop.{dots-small}

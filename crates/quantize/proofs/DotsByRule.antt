@@ -15,9 +15,9 @@ use Rattle.rules.specs.declared.dither.Dithered.{Dithered}
 use Rattle.rules.specs.Bits.{bit, appended}
 use Rattle.rules.specs.Ordered.{bound, knownSide}
 use Rattle.rules.specs.Rule.{threshold, ordered, meaning, knownRule, carries, roomy}
-use Rattle.rules.specs.Carry.{Carry, machineDot, next}
-use Rattle.rules.specs.Kernels.{rowCarry, rowBit, thresholdBit, orderedBit, carryOf, Diffuses}
-use Rattle.quantize.specs.Turn.{ruleOf, Dotted, Served}
+use Rattle.rules.specs.Internal.Carry.{Carry, machineDot, next}
+use Rattle.rules.specs.Internal.Kernels.{rowCarry, rowBit, thresholdBit, orderedBit, carryOf, Diffuses}
+use Rattle.quantize.specs.Internal.Turn.{ruleOf, Dotted, Served}
 use Rattle.rules.proofs.DigitsAppended.{appended-ext}
 use Rattle.rules.proofs.OrderedNumbers.{known-small, cell-front}
 

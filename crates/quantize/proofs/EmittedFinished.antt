@@ -16,10 +16,10 @@ use Rattle.rules.specs.Diffusion.{white}
 use Rattle.rules.specs.Ordered.{bound, cell}
 use Rattle.rules.specs.Rule.{Rule, threshold, dither, ordered, rightwards, dot, roomy}
 use Rattle.quantize.specs.Finished.{Setting, Bytewise, count, frame, dotOf, byteAt, finished}
-use Rattle.quantize.specs.Machine.{State, Step, byteStep, stepOf, carried, emitted}
-use Rattle.rules.specs.Carry.{machineDot, next}
-use Rattle.quantize.specs.Place.{begunBy, Begun}
-use Rattle.quantize.specs.Engine.{Begins, Keeps}
+use Rattle.quantize.specs.Internal.Machine.{State, Step, byteStep, stepOf, carried, emitted}
+use Rattle.rules.specs.Internal.Carry.{machineDot, next}
+use Rattle.quantize.specs.Internal.Place.{begunBy, Begun}
+use Rattle.quantize.specs.Internal.Engine.{Begins, Keeps}
 use Rattle.rules.proofs.HeldRange.{Held}
 use Rattle.quantize.proofs.Places.{bytewise, on-column, end-column, count-last, count-open}
 use Rattle.quantize.proofs.BytePacked.{begun-none, begun-ext, begun-more, byte-last, begun-on}

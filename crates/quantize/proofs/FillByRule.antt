@@ -10,9 +10,9 @@ use Rattle.options.specs.declared.Quantize.{Quantize}
 use Rattle.options.specs.declared.Quantize.the-variants.{Threshold, Dither, Ordered}
 use Rattle.rules.specs.Bits.{digits}
 use Rattle.rules.specs.Rule.{threshold, dither}
-use Rattle.rules.specs.Kernels.{thresholdFrom, stored}
-use Rattle.quantize.specs.Turn.{ruleOf, AtOnce, Fills}
-use Rattle.rules.specs.Row.{Bytes}
+use Rattle.rules.specs.Internal.Kernels.{thresholdFrom, stored}
+use Rattle.quantize.specs.Internal.Turn.{ruleOf, AtOnce, Fills}
+use Rattle.rules.specs.Internal.Row.{Bytes}
 use Rattle.rules.proofs.DitherBytesLoop.{bytes-none}
 use Rattle.quantize.proofs.DotsByRule.{dots-threshold}
 use Rattle.rules.proofs.ListPiece.{piece}

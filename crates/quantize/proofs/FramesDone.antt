@@ -11,8 +11,8 @@ use Rattle.quantize.specs.declared.engine.Quantizer.{Quantizer}
 use Rattle.quantize.specs.declared.engine.Spot.{Spot}
 use Rattle.rules.specs.Rule.{Rule, roomy}
 use Rattle.quantize.specs.Finished.{Setting, wholeFrames}
-use Rattle.quantize.specs.Place.{At}
-use Rattle.quantize.specs.Engine.{Stands, spotOf, roomFor, behindFrames}
+use Rattle.quantize.specs.Internal.Place.{At}
+use Rattle.quantize.specs.Internal.Engine.{Stands, spotOf, roomFor, behindFrames}
 use Rattle.quantize.proofs.DotsByRule.{roomy-same}
 use Rattle.quantize.proofs.Places.{mod-at, div-at}
 

@@ -14,10 +14,10 @@ use Rattle.options.specs.declared.Quantize.{Quantize}
 use Rattle.options.specs.declared.Quantize.the-variants.{Threshold, Dither, Ordered}
 use Rattle.rules.specs.Rule.{Rule, threshold, dither, ordered, rightwards, meaning, roomy}
 use Rattle.quantize.specs.Finished.{Setting, frame, dotOf, finished, setting}
-use Rattle.rules.specs.Carry.{Carry}
-use Rattle.quantize.specs.Machine.{emitted}
-use Rattle.rules.specs.Kernels.{Table, carryOf}
-use Rattle.quantize.specs.Engine.{Begins, Keeps, Holds, Tabled, Opens}
+use Rattle.rules.specs.Internal.Carry.{Carry}
+use Rattle.quantize.specs.Internal.Machine.{emitted}
+use Rattle.rules.specs.Internal.Kernels.{Table, carryOf}
+use Rattle.quantize.specs.Internal.Engine.{Begins, Keeps, Holds, Tabled, Opens}
 use Rattle.laws.proofs.Octets.{octets-by}
 use Rattle.rules.proofs.HeldRange.{Held}
 use Rattle.quantize.proofs.BytePacked.{begun-none}

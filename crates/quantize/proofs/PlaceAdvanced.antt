@@ -8,7 +8,7 @@ use native.Mathlib.Omega.{arith}
 use lib.Pow.{pow-pos}
 use Rattle.quantize.specs.declared.turn.Next.{Next}
 use Rattle.quantize.specs.Finished.{Setting}
-use Rattle.quantize.specs.Turn.{Advancing, Advances}
+use Rattle.quantize.specs.Internal.Turn.{Advancing, Advances}
 use Rattle.rules.proofs.Signed.{never}
 use Rattle.quantize.proofs.Places.{at-inside, at-row, at-frame}
 

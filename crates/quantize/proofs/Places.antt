@@ -8,7 +8,7 @@ use native.Mathlib.Omega.{arith}
 use Rattle.image.specs.Geometry.{rowBytes}
 use Rattle.rules.specs.Rule.{Rule, threshold, dither, ordered}
 use Rattle.quantize.specs.Finished.{Setting, begunBytes, Bytewise, count}
-use Rattle.quantize.specs.Place.{At}
+use Rattle.quantize.specs.Internal.Place.{At}
 
 -- ---- a number by row and column
 

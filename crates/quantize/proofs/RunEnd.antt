@@ -17,9 +17,9 @@ use Rattle.quantize.specs.declared.engine.Ran.{Ran}
 use Rattle.quantize.specs.declared.turn.Place.{Place}
 use Rattle.rules.specs.Rule.{Rule, meaning, knownRule, roomy}
 use Rattle.quantize.specs.Finished.{Setting, Bytewise, count, finished, takes}
-use Rattle.quantize.specs.Machine.{State, carried, emitted}
-use Rattle.quantize.specs.Turn.{stateOf, ruleOf, Sound, Shares, Served}
-use Rattle.quantize.specs.Engine.{Stands, Keeps, Holds, Counts, Machines, Defined, Ready, Runs}
+use Rattle.quantize.specs.Internal.Machine.{State, carried, emitted}
+use Rattle.quantize.specs.Internal.Turn.{stateOf, ruleOf, Sound, Shares, Served}
+use Rattle.quantize.specs.Internal.Engine.{Stands, Keeps, Holds, Counts, Machines, Defined, Ready, Runs}
 use Rattle.rules.proofs.Differences.{lt-or-le}
 use Rattle.rules.proofs.HeldRange.{Held}
 use Rattle.quantize.proofs.DotsByRule.{roomy-same}

@@ -12,7 +12,7 @@ use lib.ListN.{length, take, drop, set, length-append, length-drop, take-append-
 use lib.Seq.{append-snoc, length-take-le, drop-drop, set-split, take-at, drop-at}
 use Rattle.quantize.specs.declared.engine.Quantizer.{Quantizer}
 use Rattle.quantize.specs.declared.turn.Place.{Place}
-use Rattle.quantize.specs.Turn.{Sound}
+use Rattle.quantize.specs.Internal.Turn.{Sound}
 use Rattle.quantize.proofs.TurnMoves.{Turn, turn-none, turn-turn}
 
 module _ (q : Quantizer) (samples out₀ : List ℕ) (work₀ : List ℤ) where

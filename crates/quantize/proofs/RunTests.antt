@@ -10,7 +10,7 @@ use borrow.Author.Tests.{le-leb, lt-leb}
 use lib.Dec.{leb}
 use Rattle.options.specs.declared.Quantize.{Quantize}
 use Rattle.rules.specs.Rule.{meaning, knownRule, roomy}
-use Rattle.quantize.specs.Turn.{Served, Sound, Able}
+use Rattle.quantize.specs.Internal.Turn.{Served, Sound, Able}
 use Rattle.rules.proofs.Differences.{lt-or-le}
 use Rattle.rules.proofs.Signed.{never}
 

@@ -10,7 +10,7 @@ use borrow.Author.Tests.{le-leb, lt-leb}
 use Rattle.image.specs.Geometry.{rowBytes}
 use Rattle.laws.proofs.Tests.{if-true, if-false}
 use Rattle.quantize.specs.Finished.{Setting, Bytewise, count, most, takes}
-use Rattle.quantize.specs.Place.{At}
+use Rattle.quantize.specs.Internal.Place.{At}
 use Rattle.quantize.proofs.Places.{next-row, begun-within, begun-up, count-at, count-rows, count-last, column-is, frame-row-is}
 
 count-up : (s : Setting) (n : ℕ) → 0 < s .width → count s n ≤ count s (n + 1)

@@ -22,7 +22,7 @@ use Rattle.quantize.specs.declared.engine.Quantizer.{Quantizer}
 use Rattle.quantize.specs.declared.engine.Ran.{Ran}
 use Rattle.quantize.specs.Finished.{Setting, count, byteAt, dotOf, finished, takes, setting}
 use Rattle.rules.specs.Rule.{meaning, knownRule, roomy}
-use Rattle.quantize.specs.Engine.{Opens, Holds, Runs}
+use Rattle.quantize.specs.Internal.Engine.{Opens, Holds, Runs}
 use Rattle.quantize.specs.Whole.{refusedBy, quantized, Quantizes}
 use Rattle.quantize.proofs.Places.{count-rows}
 use Rattle.quantize.proofs.TakenMost.{most-is}

@@ -8,8 +8,8 @@ use crate::turn::take;
 use options::Quantize;
 use rules::numbers;
 ghost use mathlib.Core.Path.{_≡_};
-ghost use Rattle.quantize.specs.Engine.{Opens, Runs, Tabled, spotOf, roomFor, behindFrames};
-ghost use Rattle.quantize.specs.Turn.{Able};
+ghost use Rattle.quantize.specs.Internal.Engine.{Opens, Runs, Tabled, spotOf, roomFor, behindFrames};
+ghost use Rattle.quantize.specs.Internal.Turn.{Able};
 
 // Samples of at most so many frames on their way to bytes.
 pub struct Quantizer {

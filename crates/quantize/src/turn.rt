@@ -8,8 +8,8 @@ use rules::threshold_dots;
 ghost use mathlib.Core.Path.{_≡_};
 ghost use Prim.Native.Nat.{_+_, _-_, _*_, _^_, _≤_, _<_};
 ghost use lib.ListN.{length};
-ghost use Rattle.quantize.specs.Turn.{Served, Wholes, AtOnce, Shares, Dotting, Dotted, Advancing, Advances, Taking, Takes, Fills, RowFilling, RowFilled};
-ghost use Rattle.rules.specs.Row.{Filling};
+ghost use Rattle.quantize.specs.Internal.Turn.{Served, Wholes, AtOnce, Shares, Dotting, Dotted, Advancing, Advances, Taking, Takes, Fills, RowFilling, RowFilled};
+ghost use Rattle.rules.specs.Internal.Row.{Filling};
 
 // Where the next sample goes, and what is kept for it.
 pub struct Place {

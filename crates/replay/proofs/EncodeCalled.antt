@@ -9,7 +9,7 @@ use lib.ListN.{take, drop, take-append-drop}
 use lib.Seq.{drop-at}
 use Rattle.error.specs.Answer.{refuses}
 use Rattle.laws.proofs.Tests.{zero-one}
-use Rattle.quantize.specs.Machine.{State}
+use Rattle.quantize.specs.Internal.Machine.{State}
 use Rattle.encode_session.specs.Model.{Model, close, Outcome, outcome}
 use Rattle.encode_session.specs.Session.{fedMeaning, closedMeaning, Stands, Closes}
 use Rattle.encode_session.specs.declared.EncodeFed.{EncodeFed}

@@ -12,8 +12,8 @@ use lib.Seq.{length-take-le, take-all, take-take, take-at}
 use Rattle.error.specs.Answer.{gives, refuses}
 use Rattle.error.specs.Answer as Answers
 use Rattle.rules.specs.Rule.{carries}
-use Rattle.quantize.specs.Machine.{State, carried}
-use Rattle.quantize.specs.Turn.{stateOf}
+use Rattle.quantize.specs.Internal.Machine.{State, carried}
+use Rattle.quantize.specs.Internal.Turn.{stateOf}
 use Rattle.quantize.proofs.DotsByRule.{carries-same}
 use Rattle.encode_session.specs.Model.{Opening, settingOf, serves, Model, feed, Told, Outcome, outcome}
 use Rattle.encode_session.specs.Session.{fedMeaning, Stands, Holds, Feeds}

@@ -7,8 +7,8 @@ use native.Mathlib.Omega.{arith}
 use lib.IntN.{ℤ}
 use lib.ListN.{length, drop, length-append}
 use lib.Seq.{drop-drop}
-use Rattle.quantize.specs.Machine.{State}
-use Rattle.quantize.specs.Turn.{stateOf}
+use Rattle.quantize.specs.Internal.Machine.{State}
+use Rattle.quantize.specs.Internal.Turn.{stateOf}
 use Rattle.encode_session.specs.Model.{Model, Call, Reply, outcome, replies, finally}
 use Rattle.encode_session.specs.Session.{Stands, Holds}
 use Rattle.encode_session.specs.declared.EncodeSession.{EncodeSession}

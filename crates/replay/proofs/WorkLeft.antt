@@ -13,10 +13,10 @@ use Rattle.laws.proofs.Tests.{zero-one}
 use Rattle.quantize.specs.declared.engine.Quantizer.{Quantizer}
 use Rattle.quantize.specs.declared.engine.Ran.{Ran}
 use Rattle.rules.specs.Rule.{meaning, carries}
-use Rattle.quantize.specs.Engine.{Machines}
+use Rattle.quantize.specs.Internal.Engine.{Machines}
 use Rattle.quantize.specs.Finished.{Setting}
-use Rattle.quantize.specs.Machine.{State, carried}
-use Rattle.quantize.specs.Turn.{stateOf}
+use Rattle.quantize.specs.Internal.Machine.{State, carried}
+use Rattle.quantize.specs.Internal.Turn.{stateOf}
 use Rattle.encode_session.specs.Model.{Opening, serves, Model, Call, feed, close, Outcome, taken, fedBy, unaltered, outcome}
 use Rattle.encode_session.specs.Model as Machine
 use Rattle.encode_session.proofs.OutcomeCases.{by-feed, by-close}

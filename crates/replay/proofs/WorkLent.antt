@@ -16,10 +16,10 @@ use Rattle.error.specs.Choice.{if}
 use Rattle.laws.proofs.Tests.{if-true, zero-one}
 use Rattle.quantize.specs.declared.engine.Quantizer.{Quantizer}
 use Rattle.rules.specs.Rule.{carries, roomy, Rule, threshold, dither, ordered}
-use Rattle.quantize.specs.Engine.{Keeps, Holds as QHolds}
+use Rattle.quantize.specs.Internal.Engine.{Keeps, Holds as QHolds}
 use Rattle.quantize.specs.Finished.{Setting}
-use Rattle.rules.specs.Carry.{clamp}
-use Rattle.quantize.specs.Turn.{stateOf}
+use Rattle.rules.specs.Internal.Carry.{clamp}
+use Rattle.quantize.specs.Internal.Turn.{stateOf}
 use Rattle.encode_session.specs.declared.EncodeSession.{EncodeSession}
 use Rattle.encode_session.specs.Model.{serves, settingOf, Model, feed, Told, fedBy, unaltered, outcome}
 use Rattle.encode_session.specs.Session.{Holds}

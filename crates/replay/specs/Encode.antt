@@ -7,8 +7,8 @@ use lib.IntN.{ℤ}
 use lib.ListN.{length, take, drop}
 use Rattle.error.specs.Answer.{Answer, gives, refuses}
 use Rattle.rules.specs.Rule.{meaning, carries}
-use Rattle.quantize.specs.Machine.{State, carried}
-use Rattle.quantize.specs.Turn.{stateOf}
+use Rattle.quantize.specs.Internal.Machine.{State, carried}
+use Rattle.quantize.specs.Internal.Turn.{stateOf}
 use Rattle.encode_session.specs.Model.{settingOf, Model, Call, feed, close, Told, took, closed, Reply, outcome, replies, finally}
 use Rattle.encode_session.specs.Session.{Stands, Holds, Feeds}
 use Rattle.encode_session.specs.Trace.{tookOf}

@@ -13,9 +13,9 @@ use lib.IntN.{ℤ, subℕ}
 use lib.ListN.{length, getD}
 use Rattle.rules.specs.Bits.{bit, digits, appended}
 use Rattle.rules.specs.Rule.{dither}
-use Rattle.rules.specs.Carry.{leftOf, cornerOf, overOf}
-use Rattle.rules.specs.Kernels.{Biased, Dots, thresholdFrom, stored}
-use Rattle.rules.specs.Row.{Near, Calm, Bytes}
+use Rattle.rules.specs.Internal.Carry.{leftOf, cornerOf, overOf}
+use Rattle.rules.specs.Internal.Kernels.{Biased, Dots, thresholdFrom, stored}
+use Rattle.rules.specs.Internal.Row.{Near, Calm, Bytes}
 use Rattle.rules.proofs.Differences.{lt-or-le}
 use Rattle.rules.proofs.ListPiece.{piece, piece-length, piece-at}
 use Rattle.rules.proofs.CarryRead.{left-at, over-in}

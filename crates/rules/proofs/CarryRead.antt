@@ -9,7 +9,7 @@ use borrow.Author.Tests.{lt-ltb, le-ltb}
 use lib.IntN.{ℤ, pos, negsuc, natAbs}
 use lib.ListN.{getD, set}
 use lib.Seq.{getD-set-other}
-use Rattle.rules.specs.Carry.{clamp, leftOf, cornerOf, overOf}
+use Rattle.rules.specs.Internal.Carry.{clamp, leftOf, cornerOf, overOf}
 
 pub left-at : (kept : List ℤ) (x i : ℕ) → x ≡ i + 1 → leftOf kept x ≡ clamp (getD kept i (pos 0))
 left-at kept x i e = rw (e, add-one)

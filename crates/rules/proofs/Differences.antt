@@ -11,7 +11,7 @@ use lib.IntN.{ℤ, pos, negsuc, negℤ, subℕ, _+ℤ_}
 use borrow.Author.Tests.{lt-ltb, le-ltb, le-leb, lt-leb}
 use Rattle.rules.specs.Diffusion.{round16, part, value, white, residual}
 use Rattle.rules.specs.Bits.{bit}
-use Rattle.rules.specs.Kernels.{Stepped}
+use Rattle.rules.specs.Internal.Kernels.{Stepped}
 
 pub lt-or-le : (a b : ℕ) → (a < b) ⊎ (b ≤ a)
 lt-or-le a b = elim (decLt a b) [ yes h ↦ inl h | no h ↦ inr (omega arith) ]

@@ -10,7 +10,7 @@ use lib.Pow.{pow-mono, pow-add, pow-pos}
 use lib.Dec.{leb}
 use borrow.Author.Tests.{le-leb, lt-leb}
 use Rattle.rules.specs.Bits.{bit, appended, digits}
-use Rattle.rules.specs.Kernels.{Packs}
+use Rattle.rules.specs.Internal.Kernels.{Packs}
 
 pub bit-le : (b : Bool) → bit b ≤ 1
 bit-le true = omega arith

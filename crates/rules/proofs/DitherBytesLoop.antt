@@ -11,9 +11,9 @@ use lib.ListN.{length, getD, set, length-set}
 use Rattle.rules.specs.declared.row.Eight.{Eight}
 use Rattle.rules.specs.Bits.{bit}
 use Rattle.rules.specs.Rule.{Rule, dither}
-use Rattle.rules.specs.Carry.{Carry, cornerOf, valueOf, diffused, machineDot, next}
-use Rattle.rules.specs.Kernels.{rowCarry, rowBit, carryOf, Dots}
-use Rattle.rules.specs.Row.{Near, Diffused, Bytes}
+use Rattle.rules.specs.Internal.Carry.{Carry, cornerOf, valueOf, diffused, machineDot, next}
+use Rattle.rules.specs.Internal.Kernels.{rowCarry, rowBit, carryOf, Dots}
+use Rattle.rules.specs.Internal.Row.{Near, Diffused, Bytes}
 use Rattle.rules.proofs.DigitsAppended.{appended-ext}
 use Rattle.rules.proofs.ListPiece.{piece, piece-length}
 use Rattle.rules.proofs.DitherDotsLoop.{dots-small}

@@ -12,9 +12,9 @@ use lib.Seq.{getD-set-same}
 use Rattle.rules.specs.Bits.{bit, appended}
 use Rattle.rules.specs.Diffusion.{toRight, value, white, residual}
 use Rattle.rules.specs.Rule.{Rule, dither}
-use Rattle.rules.specs.Carry.{Carry, clamp, leftOf, cornerOf, overOf, valueOf, diffused, machineDot, next}
-use Rattle.rules.specs.Kernels.{Biased, Stepped, rowCarry, rowBit, carryOf, Dots}
-use Rattle.rules.specs.Row.{Near}
+use Rattle.rules.specs.Internal.Carry.{Carry, clamp, leftOf, cornerOf, overOf, valueOf, diffused, machineDot, next}
+use Rattle.rules.specs.Internal.Kernels.{Biased, Stepped, rowCarry, rowBit, carryOf, Dots}
+use Rattle.rules.specs.Internal.Row.{Near}
 use Rattle.rules.proofs.HeldRange.{within, clamp-same}
 use Rattle.rules.proofs.CarryRead.{left-at, corner-at, over-set, kept-zero}
 use Rattle.rules.proofs.Differences.{stepped-calm}

@@ -7,8 +7,8 @@ use native.Mathlib.Omega.{arith}
 use native.Mathlib.Nat.{mul-le-mul-left}
 use lib.IntN.{ℤ, pos, negsuc, subℕ, natAbs}
 use Rattle.rules.specs.Diffusion.{value, residual}
-use Rattle.rules.specs.Carry.{clamp}
-use Rattle.rules.specs.Kernels.{Biased, Parted}
+use Rattle.rules.specs.Internal.Carry.{clamp}
+use Rattle.rules.specs.Internal.Kernels.{Biased, Parted}
 use Rattle.rules.proofs.Differences.{lt-or-le, sub-neg, sub-pos, part-pos, part-neg, value-is, stepped-white, stepped-black}
 
 -- some number holds z

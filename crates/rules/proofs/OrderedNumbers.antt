@@ -14,7 +14,7 @@ use lib.Dec.{leb, eqb}
 use borrow.Author.Tests.{eqb-true, le-leb, lt-leb}
 use Rattle.rules.specs.Bits.{upto}
 use Rattle.rules.specs.Ordered.{quarter, number, numbers, bound, cell, knownSide}
-use Rattle.rules.specs.Kernels.{Cell}
+use Rattle.rules.specs.Internal.Kernels.{Cell}
 use Rattle.rules.proofs.Differences.{lt-or-le}
 use Rattle.rules.proofs.Signed.{never}
 

@@ -9,8 +9,8 @@ use lib.ListN.{length, getD, drop, length-set}
 use lib.Seq.{drop-set-lt}
 use Rattle.rules.specs.Diffusion.{toRight, residual}
 use Rattle.rules.specs.Rule.{Rule, threshold, dither, ordered, carries}
-use Rattle.rules.specs.Carry.{Carry, valueOf, diffused, next}
-use Rattle.rules.specs.Kernels.{rowCarry}
+use Rattle.rules.specs.Internal.Carry.{Carry, valueOf, diffused, next}
+use Rattle.rules.specs.Internal.Kernels.{rowCarry}
 use Rattle.rules.proofs.Signed.{never}
 
 next-beyond : (rule : Rule) (w y x g : ℕ) (c : Carry) (k : ℕ) → x < k → drop k (next rule w y x g c .kept) ≡ drop k (c .kept)

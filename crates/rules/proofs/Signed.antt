@@ -10,8 +10,8 @@ use lib.Signed.{ltZ, nonNeg}
 use mir.Syntax.{w16, w32}
 use mir.Val.{Fits, SFits}
 use borrow.Author.Tests.{ltb-true, ltb-false}
-use Rattle.rules.specs.Carry.{clamp}
-use Rattle.rules.specs.Kernels.{Biased}
+use Rattle.rules.specs.Internal.Carry.{clamp}
+use Rattle.rules.specs.Internal.Kernels.{Biased}
 use mathlib.Core.Logic.{⊎-elim}
 use Rattle.rules.proofs.Differences.{sub-neg, sub-pos, lt-or-le}
 

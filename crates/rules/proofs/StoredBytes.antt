@@ -8,7 +8,7 @@ use native.Mathlib.Omega.{arith}
 use lib.Dec.{leb}
 use lib.ListN.{length, set, length-set}
 use Rattle.rules.specs.Bits.{bit, digits, appended}
-use Rattle.rules.specs.Kernels.{thresholdBit, thresholdFrom, stored}
+use Rattle.rules.specs.Internal.Kernels.{thresholdBit, thresholdFrom, stored}
 use Rattle.rules.proofs.DigitsAppended.{appended-ext}
 use Rattle.rules.proofs.ListPiece.{piece, piece-length, piece-at}
 

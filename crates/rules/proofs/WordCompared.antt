@@ -10,7 +10,7 @@ use lib.Dec.{leb}
 use lib.Pow.{split}
 use borrow.Author.Tests.{le-leb, lt-leb}
 use Rattle.rules.specs.Bits.{bit}
-use Rattle.rules.specs.Words.{bytes, Below}
+use Rattle.rules.specs.Internal.Words.{bytes, Below}
 use Rattle.rules.proofs.Differences.{lt-or-le}
 use Rattle.rules.proofs.Words.{bytes-ext, bytes-add, bytes-times, bytes-and, bytes-or}
 

@@ -9,7 +9,7 @@ use lib.Dec.{eqb}
 use borrow.Author.Tests.{eqb-true}
 use Rattle.laws.proofs.Tests.{both-true}
 use Rattle.rules.specs.Bits.{appended, digits}
-use Rattle.rules.specs.Words.{bytes, Below}
+use Rattle.rules.specs.Internal.Words.{bytes, Below}
 use Rattle.rules.proofs.DigitsAppended.{appended-lt}
 use Rattle.rules.proofs.Differences.{lt-or-le}
 

@@ -6,7 +6,7 @@ use native.Mathlib.Nat.{mul-assoc, add-mul}
 use native.Mathlib.Omega.{arith}
 use lib.Bits.{bitAnd, bitOr, and-block, or-block, or-shifted}
 use lib.Pow.{pow-add, shl-lt, shl-exact}
-use Rattle.rules.specs.Words.{bytes, Below}
+use Rattle.rules.specs.Internal.Words.{bytes, Below}
 
 pub bytes-ext : (f g : ℕ → ℕ) (n : ℕ) → ((i : ℕ) → f i ≡ g i) → bytes f n ≡ bytes g n
 unfolding bytes

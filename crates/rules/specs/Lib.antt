@@ -3,7 +3,4 @@ pub mod Bits
 pub mod Diffusion
 pub mod Ordered
 pub mod Rule
-pub mod Carry
-pub mod Words
-pub mod Kernels
-pub mod Row
+pub mod Internal

@@ -4,8 +4,8 @@ ghost use Prim.Native.Nat.{_+_, _≤_, _<_};
 ghost use lib.IntN.{subℕ};
 ghost use lib.ListN.{length};
 ghost use Rattle.rules.specs.Diffusion.{value};
-ghost use Rattle.rules.specs.Carry.{clamp, leftOf, cornerOf, overOf};
-ghost use Rattle.rules.specs.Kernels.{Biased, Parted, Stepped, Reaches, Diffusing, Diffuses};
+ghost use Rattle.rules.specs.Internal.Carry.{clamp, leftOf, cornerOf, overOf};
+ghost use Rattle.rules.specs.Internal.Kernels.{Biased, Parted, Stepped, Reaches, Diffusing, Diffuses};
 
 // A number of the work buffer, clamped to -128 ..= 128, plus 128.
 pub(crate) fn lift(x: i16) -> u32

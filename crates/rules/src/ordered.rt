@@ -7,7 +7,7 @@ ghost use Rattle.rules.specs.Bits.{bit, appended};
 ghost use Rattle.rules.specs.Ordered.{bound, knownSide};
 ghost use Rattle.rules.specs.Ordered;
 ghost use mathlib.Core.Bool.{true};
-ghost use Rattle.rules.specs.Kernels.{Packs, Cell, Filled, Table, orderedBit};
+ghost use Rattle.rules.specs.Internal.Kernels.{Packs, Cell, Filled, Table, orderedBit};
 
 // The numbers for side 8, row by row.
 const TABLE: [u8; 64] = [

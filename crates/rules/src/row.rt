@@ -11,10 +11,10 @@ ghost use mathlib.Core.Path.{_≡_};
 ghost use mathlib.Core.Bool.{true};
 ghost use Prim.Native.Nat.{_+_, _≤_, _<_};
 ghost use lib.ListN.{length};
-ghost use Rattle.rules.specs.Carry.{overOf};
+ghost use Rattle.rules.specs.Internal.Carry.{overOf};
 ghost use Rattle.rules.specs.Rule.{dither};
-ghost use Rattle.rules.specs.Kernels.{Biased, Diffusing};
-ghost use Rattle.rules.specs.Row.{Near, Diffused, Plain, Clear, Calm, Filling, Bytes};
+ghost use Rattle.rules.specs.Internal.Kernels.{Biased, Diffusing};
+ghost use Rattle.rules.specs.Internal.Row.{Near, Diffused, Plain, Clear, Calm, Filling, Bytes};
 
 // The digits of eight dots, and the residuals next to the following dot, plus 128: on its left, above left and above.
 struct Eight {

@@ -3,8 +3,8 @@ ghost use mathlib.Core.Path.{_≡_};
 ghost use Prim.Native.Nat.{_+_, _*_, _≤_};
 ghost use lib.ListN.{length};
 ghost use Rattle.rules.specs.Bits.{digits, appended};
-ghost use Rattle.rules.specs.Words.{bytes, samplesFrom, Below, Compares, Gathers};
-ghost use Rattle.rules.specs.Kernels.{Packs, thresholdBit, thresholdFrom, stored};
+ghost use Rattle.rules.specs.Internal.Words.{bytes, samplesFrom, Below, Compares, Gathers};
+ghost use Rattle.rules.specs.Internal.Kernels.{Packs, thresholdBit, thresholdFrom, stored};
 
 fn dot(bound: u8, gray: &[u8], at: usize) -> u32
     requires { ⌜ at + 1 ≤ length (now gray) ⌝ }

@@ -1,6 +1,6 @@
 use mathlib.Core.Path.{subst}
 use denote.Ref.{now}
-use Rattle.api.specs.Parts.{Reads}
+use Rattle.api.specs.Internal.Parts.{Reads}
 use Rattle.api.proofs.ShortHeaders.{sizes-read}
 use borrow.Author.Needs.{needs}
 use Rattle.api.proofs.front.short_height.Statement.{statement}

@@ -4,7 +4,7 @@ use denote.Ref.{now}
 use Rattle.header.specs.Settings.{inner}
 use Rattle.decoder.proofs.Shaped.{outline-shape}
 use Rattle.api.specs.Sniff.{sniffHeader, sniffed}
-use Rattle.api.specs.Parts.{Fronts}
+use Rattle.api.specs.Internal.Parts.{Fronts}
 use borrow.Author.Needs.{needs}
 use Rattle.api.proofs.sniffing.sniff.Statement.{statement}
 use Rattle.api.proofs.sniffing.sniff.Tie as tie

@@ -7,7 +7,7 @@ use lib.ListN.{length, drop}
 use lib.Seq.{length-take-le}
 use Rattle.image.specs.Geometry.{planeBytes}
 use Rattle.image.specs.declared.PlaneLayout.{PlaneLayout}
-use Rattle.decode_session.specs.Body.{Advances}
+use Rattle.decode_session.specs.Internal.Body.{Advances}
 use borrow.Author.Needs.{needs}
 use Rattle.decode_session.proofs.body.feed_body.Statement.{statement}
 use Rattle.decode_session.proofs.body.feed_body.Tie as tie

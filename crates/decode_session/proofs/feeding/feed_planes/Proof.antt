@@ -7,7 +7,7 @@ use lib.Seq.{take-all}
 use Rattle.options.specs.Limits.{decoding}
 use Rattle.options.proofs.Ceilings.{sixteen}
 use Rattle.header.specs.declared.ParsedHeader.{ParsedHeader}
-use Rattle.decode_session.specs.Stages.{takenIn}
+use Rattle.decode_session.specs.Internal.Stages.{takenIn}
 use Rattle.decode_session.specs.declared.Stage.{Stage}
 use Rattle.decode_session.proofs.PlanesFed.{planes}
 use borrow.Author.Needs.{needs}

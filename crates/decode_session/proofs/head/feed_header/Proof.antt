@@ -6,7 +6,7 @@ use borrow.Author.Needs.{needs}
 use lib.ListN.{length}
 use denote.Ref.{now}
 use Rattle.header.specs.Settings.{Settings}
-use Rattle.decode_session.specs.Head.{Reached}
+use Rattle.decode_session.specs.Internal.Head.{Reached}
 use Rattle.decode_session.proofs.HeaderLoop.{Going, Turn, turn-more, turn-done, turn-refused, going-first, going-last, ends}
 use Rattle.decode_session.proofs.RunStored.{going-run}
 use Rattle.decode_session.proofs.head.feed_header.Statement.{statement}

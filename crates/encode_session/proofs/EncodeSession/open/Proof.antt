@@ -51,8 +51,8 @@ use Rattle.error.specs.declared.Written.{Written}
 use Rattle.error.proofs.Written as Wr
 use Rattle.error.proofs.Written.Laws as Wr′
 use Rattle.ext_write.specs.Write.{flattened}
-use Rattle.ext_write.specs.Steps.{putStart, putPairs}
-use Rattle.ext_write.specs.Left.{ChecksPairs}
+use Rattle.ext_write.specs.Internal.Steps.{putStart, putPairs}
+use Rattle.ext_write.specs.Internal.Left.{ChecksPairs}
 use Rattle.ext_write.specs.declared.Parameter.{Parameter}
 use Rattle.ext_write.specs.declared.FieldsCheck.{FieldsCheck}
 use Rattle.ext_write.specs.declared.PairsBegun.{PairsBegun}

@@ -5,7 +5,7 @@ use Rattle.error.specs.Answer.{checked, gives}
 use Rattle.error.specs.declared.Checked.{Checked}
 use Rattle.image.specs.declared.PlaneLayout.{PlaneLayout}
 use Rattle.image.proofs.PlaneSizes.{laid}
-use Rattle.encoder.specs.Begin.{BeginsMade}
+use Rattle.encoder.specs.Internal.Begin.{BeginsMade}
 use Rattle.encoder.specs.Make.{checkScans}
 use Rattle.encoder.proofs.PairsLeft.{untested-left}
 use borrow.Author.Needs.{needs}

@@ -47,8 +47,8 @@ use Rattle.error.specs.declared.Written.{Written}
 use Rattle.error.proofs.Written as Wr
 use Rattle.error.proofs.Written.Laws as Wr′
 use Rattle.ext_write.specs.Write.{flattened}
-use Rattle.ext_write.specs.Steps.{putStart, putPairs}
-use Rattle.ext_write.specs.Left.{ChecksPairs}
+use Rattle.ext_write.specs.Internal.Steps.{putStart, putPairs}
+use Rattle.ext_write.specs.Internal.Left.{ChecksPairs}
 use Rattle.ext_write.specs.declared.Parameter.{Parameter}
 use Rattle.ext_write.specs.declared.FieldsCheck.{FieldsCheck}
 use Rattle.ext_write.specs.declared.PairsBegun.{PairsBegun}
@@ -69,7 +69,7 @@ use Rattle.options.specs.declared.EncodeOptions.{EncodeOptions}
 use Rattle.options.proofs.EncodeOptions as O
 use Rattle.options.proofs.EncodeOptions.Laws as O′
 use Rattle.encoder.specs.Make.{Makes}
-use Rattle.encoder.specs.Begin.{BeginsMade}
+use Rattle.encoder.specs.Internal.Begin.{BeginsMade}
 use Rattle.encoder.proofs.PairsLeft.{made-put}
 use Rattle.encoder.proofs.gray8.begin_gray8 as begin
 use Rattle.encoder.proofs.gray8.begin_gray8.Symbol as begin-def

@@ -5,7 +5,7 @@ use Rattle.error.specs.Answer.{checked, gives}
 use Rattle.error.specs.declared.Checked.{Checked}
 use Rattle.image.specs.declared.PlaneLayout.{PlaneLayout}
 use Rattle.image.proofs.PlaneSizes.{laid}
-use Rattle.encoder.specs.Begin.{BeginsFile}
+use Rattle.encoder.specs.Internal.Begin.{BeginsFile}
 use Rattle.encoder.specs.Write.{checkPlanes}
 use Rattle.encoder.proofs.PairsLeft.{tested-left, unplaned-left}
 use borrow.Author.Needs.{needs}

@@ -47,8 +47,8 @@ use Rattle.error.specs.declared.Written.{Written}
 use Rattle.error.proofs.Written as Wr
 use Rattle.error.proofs.Written.Laws as Wr′
 use Rattle.ext_write.specs.Write.{flattened}
-use Rattle.ext_write.specs.Steps.{putStart, putPairs}
-use Rattle.ext_write.specs.Left.{ChecksPairs}
+use Rattle.ext_write.specs.Internal.Steps.{putStart, putPairs}
+use Rattle.ext_write.specs.Internal.Left.{ChecksPairs}
 use Rattle.ext_write.specs.declared.Parameter.{Parameter}
 use Rattle.ext_write.specs.declared.FieldsCheck.{FieldsCheck}
 use Rattle.ext_write.specs.declared.PairsBegun.{PairsBegun}
@@ -73,7 +73,7 @@ use Rattle.options.specs.declared.EncodeOptions.{EncodeOptions}
 use Rattle.options.proofs.EncodeOptions as O
 use Rattle.options.proofs.EncodeOptions.Laws as O′
 use Rattle.encoder.specs.Write.{fileOfPlanes}
-use Rattle.encoder.specs.Begin.{BeginsImages}
+use Rattle.encoder.specs.Internal.Begin.{BeginsImages}
 use Rattle.encoder.proofs.planes.begin_images as begin
 use Rattle.encoder.proofs.planes.begin_images.Symbol as begin-def
 use Rattle.encoder.proofs.planes.begin_images.Symbol.{name as #begin}

@@ -8,7 +8,7 @@ use denote.Ref.{now}
 use Rattle.error.specs.Answer.{map}
 use Rattle.ext.specs.Kinds.{spanOf}
 use Rattle.ext.specs.Read.{readFields}
-use Rattle.ext.specs.Bytewise.{octets, fieldsFrom}
+use Rattle.ext.specs.Internal.Bytewise.{octets, fieldsFrom}
 use Rattle.ext.proofs.OctetsBytewise.{octets-end, octets-over, octets-last, octets-more}
 use Rattle.ext.proofs.Spans.{spanTo, spans}
 use Rattle.ext.proofs.read.parse_bitfield00.Statement.{statement}

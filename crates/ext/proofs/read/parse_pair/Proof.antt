@@ -3,7 +3,7 @@ use mathlib.Core.Path.{_∙_, ap}
 use borrow.Author.Needs.{needs}
 use denote.Ref.{now}
 use Rattle.error.specs.Answer.{map}
-use Rattle.ext.specs.Pairwise.{pairStep, pairBehind}
+use Rattle.ext.specs.Internal.Pairwise.{pairStep, pairBehind}
 use Rattle.ext.proofs.PairExtent.{read-behind}
 use Rattle.ext.proofs.read.parse_pair.Statement.{statement}
 use Rattle.ext.proofs.read.parse_pair.Tie as tie

@@ -8,8 +8,8 @@ use denote.Ref.{now}
 use Rattle.error.specs.Answer.{Answer, bind, map}
 use Rattle.ext.specs.Kinds.{spanOf, Span}
 use Rattle.ext.specs.Read.{readFields}
-use Rattle.ext.specs.Pairwise.{pairMeaning}
-use Rattle.ext.specs.Bytewise.{pairsFrom, fieldsFrom}
+use Rattle.ext.specs.Internal.Pairwise.{pairMeaning}
+use Rattle.ext.specs.Internal.Bytewise.{pairsFrom, fieldsFrom}
 use Rattle.ext.specs.declared.PairRead.{PairRead}
 use Rattle.ext.proofs.PairsBytewise.{afterPair, pairs-end, pairs-over, pairs-step}
 use Rattle.ext.proofs.PairExtent.{step-after}

@@ -5,7 +5,7 @@ use borrow.Author.Needs.{needs}
 use denote.Ref.{now}
 use Rattle.ext.specs.Classes.{isChar, isAlphaDigit, inClass}
 use Rattle.ext.specs.Read.{classed}
-use Rattle.ext.specs.Pairwise.{pairBehind}
+use Rattle.ext.specs.Internal.Pairwise.{pairBehind}
 use Rattle.ext.proofs.PairExtent.{wholeBehind, behind-whole}
 use Rattle.ext.proofs.SliceSame.{lent-part}
 use Rattle.ext.proofs.read.parse_parts.Statement.{statement}

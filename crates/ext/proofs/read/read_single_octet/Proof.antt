@@ -6,7 +6,7 @@ use lib.ListN.{drop-of-length-le}
 use denote.Ref.{now}
 use Rattle.laws.proofs.Lists.{drop-at}
 use Rattle.ext.specs.Kinds.{kindNumber}
-use Rattle.ext.specs.Bytewise.{octet, fieldsFrom}
+use Rattle.ext.specs.Internal.Bytewise.{octet, fieldsFrom}
 use Rattle.ext.proofs.Spans.{spans}
 use Rattle.ext.proofs.read.read_single_octet.Statement.{statement}
 use Rattle.ext.proofs.read.read_single_octet.Tie as tie

@@ -3,7 +3,7 @@ use mathlib.Core.Path.{_≡_, _∙_, sym, ap}
 use native.Mathlib.Omega.{arith}
 use borrow.Author.Needs.{needs}
 use lib.ListN.{length, drop}
-use Rattle.ext_write.specs.Steps.{checkStart, checkPairs}
+use Rattle.ext_write.specs.Internal.Steps.{checkStart, checkPairs}
 use Rattle.ext_write.proofs.PairSteps.{check-goes, check-end}
 use Rattle.ext_write.proofs.pairs.check_pairs.Statement.{statement}
 use Rattle.ext_write.proofs.pairs.check_pairs.Tie as tie

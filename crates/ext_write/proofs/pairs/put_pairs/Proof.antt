@@ -3,7 +3,7 @@ use mathlib.Core.Path.{_≡_, _∙_, sym, ap, refl}
 use native.Mathlib.Omega.{arith}
 use borrow.Author.Needs.{needs}
 use lib.ListN.{length, drop}
-use Rattle.ext_write.specs.Steps.{putStart, putPairs}
+use Rattle.ext_write.specs.Internal.Steps.{putStart, putPairs}
 use Rattle.ext_write.proofs.PairSteps.{put-goes, put-end, put-long}
 use Rattle.ext_write.proofs.pairs.put_pairs.Statement.{statement}
 use Rattle.ext_write.proofs.pairs.put_pairs.Tie as tie

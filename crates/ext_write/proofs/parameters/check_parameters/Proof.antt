@@ -52,8 +52,8 @@ use denote.Triple.Table.{entered, cited}
 use denote.Triple.Walked.{says, Stays, stay-none, stay-none-slice, walkOf, goes-none, goes-none-slice, Walks, ends-at, walked, walk-meets}
 use denote.Exit.{yes}
 use Rattle.ext_write.specs.Write.{flattened}
-use Rattle.ext_write.specs.Steps.{checkStart, checkStep, checkPairs, pairsLength}
-use Rattle.ext_write.specs.Left.{ChecksPairs}
+use Rattle.ext_write.specs.Internal.Steps.{checkStart, checkStep, checkPairs, pairsLength}
+use Rattle.ext_write.specs.Internal.Left.{ChecksPairs}
 use Rattle.ext_write.specs.declared.Parameter.{Parameter}
 use Rattle.ext_write.specs.declared.PairsCheck.{PairsCheck}
 use Rattle.ext_write.specs.declared.FieldsCheck.{FieldsCheck}

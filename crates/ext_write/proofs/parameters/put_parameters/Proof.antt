@@ -54,7 +54,7 @@ use denote.Triple.Walked.{says, Stays, stay-none, stay-none-slice, stay-slice, w
 use denote.Triple.Walked.{ends-at, walked, walk-meets}
 use denote.Exit.{yes}
 use Rattle.ext_write.specs.Write.{flattened}
-use Rattle.ext_write.specs.Steps.{putStart, putStep, putOutput, putPairs}
+use Rattle.ext_write.specs.Internal.Steps.{putStart, putStep, putOutput, putPairs}
 use Rattle.ext_write.specs.declared.Parameter.{Parameter}
 use Rattle.ext_write.specs.declared.PairsPut.{PairsPut}
 use Rattle.ext_write.specs.declared.PairsBegun.{PairsBegun}

@@ -1,7 +1,7 @@
 use native.Mathlib.Omega.{arith}
 use mathlib.Core.Path.{_∙_, sym, ap, refl}
 use Rattle.error.specs.Answer.{written}
-use Rattle.ext_write.specs.Steps.{fieldsLength}
+use Rattle.ext_write.specs.Internal.Steps.{fieldsLength}
 use Rattle.ext_write.proofs.Begun.{pairs-short, pairs-fit, pairs-refused}
 use borrow.Author.Needs.{needs}
 use Rattle.ext_write.proofs.write.begin_pairs.Statement.{statement}

@@ -1,5 +1,5 @@
 use mathlib.Core.Path.{_∙_, ap}
-use Rattle.ext_write.specs.Steps.{fieldsLength}
+use Rattle.ext_write.specs.Internal.Steps.{fieldsLength}
 use Rattle.ext_write.proofs.RecordsFlat.{pairs-found}
 use native.Mathlib.Omega.{arith}
 use borrow.Author.Needs.{needs}

@@ -1,5 +1,5 @@
 use mathlib.Core.Path.{_∙_, sym, ap}
-use Rattle.ext_write.specs.Steps.{fieldsLength}
+use Rattle.ext_write.specs.Internal.Steps.{fieldsLength}
 use Rattle.ext_write.proofs.OctetsWritten.{octet-none, octet-some}
 use borrow.Author.Needs.{needs}
 use Rattle.ext_write.proofs.write.check_octet.Statement.{statement}

@@ -5,7 +5,7 @@ use borrow.Author.Count.{below-more}
 use borrow.Author.Needs.{needs}
 use lib.ListN.{length, getD}
 use Rattle.error.specs.Answer.{map}
-use Rattle.ext_write.specs.Steps.{fieldsLength}
+use Rattle.ext_write.specs.Internal.Steps.{fieldsLength}
 use Rattle.ext_write.proofs.OctetsWritten.{octets-none, octets-bad, octets-length}
 use Rattle.ext_write.proofs.write.check_octets.Statement.{statement}
 use Rattle.ext_write.proofs.write.check_octets.Tie as tie

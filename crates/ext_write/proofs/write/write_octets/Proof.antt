@@ -2,7 +2,7 @@ use mathlib.Core.Path.{_∙_, sym, ap}
 use denote.Ref.{now}
 use Rattle.error.specs.Answer.{written}
 use Rattle.laws.proofs.Emitted.{emits-refused}
-use Rattle.ext_write.specs.Steps.{fieldsLength}
+use Rattle.ext_write.specs.Internal.Steps.{fieldsLength}
 use Rattle.ext_write.proofs.Begun.{short-emitted, octets-fit, octets-emitted}
 use borrow.Author.Needs.{needs}
 use Rattle.ext_write.proofs.write.write_octets.Statement.{statement}

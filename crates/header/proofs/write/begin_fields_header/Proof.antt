@@ -12,8 +12,8 @@ use Rattle.header.specs.Write.{sizeBytes}
 use Rattle.error.specs.Answer.{gives, map}
 use Rattle.ext.specs.Kinds.{kindNumber}
 use Rattle.ext_write.specs.Write.{lentBytes}
-use Rattle.ext_write.specs.Steps.{fieldsLength}
-use Rattle.ext_write.specs.Left.{ChecksPairs}
+use Rattle.ext_write.specs.Internal.Steps.{fieldsLength}
+use Rattle.ext_write.specs.Internal.Left.{ChecksPairs}
 use Rattle.header.proofs.HeaderBytes.{sizes-ten, none-within, bytes-within, fits-two, lent-short, lent-refused, lent-left}
 use borrow.Author.Needs.{needs}
 use Rattle.header.proofs.write.begin_fields_header.Statement.{statement}

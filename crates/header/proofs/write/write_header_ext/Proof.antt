@@ -48,8 +48,8 @@ use Rattle.error.specs.declared.Written.{Written}
 use Rattle.error.proofs.Written as Wr
 use Rattle.error.proofs.Written.Laws as Wr′
 use Rattle.ext_write.specs.Write.{flattened}
-use Rattle.ext_write.specs.Steps.{putStart, putPairs}
-use Rattle.ext_write.specs.Left.{ChecksPairs}
+use Rattle.ext_write.specs.Internal.Steps.{putStart, putPairs}
+use Rattle.ext_write.specs.Internal.Left.{ChecksPairs}
 use Rattle.ext_write.specs.declared.Parameter.{Parameter}
 use Rattle.ext_write.specs.declared.FieldsCheck.{FieldsCheck}
 use Rattle.ext_write.specs.declared.PairsBegun.{PairsBegun}
@@ -68,7 +68,7 @@ use Rattle.ext_write.proofs.put_parameters.Symbol as put-def
 use Rattle.ext_write.proofs.put_parameters.Symbol.{name as #put}
 use Rattle.ext_write.proofs.put_parameters.Met as put-thm
 use Rattle.header.specs.Write.{extHeader}
-use Rattle.header.specs.Begin.{BeginsHeader}
+use Rattle.header.specs.Internal.Begin.{BeginsHeader}
 use Rattle.header.specs.declared.ExtPresence.{ExtPresence}
 use Rattle.header.proofs.ExtPresence as K
 use Rattle.header.proofs.ExtPresence.Laws as K′

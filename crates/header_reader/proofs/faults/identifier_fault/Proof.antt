@@ -1,4 +1,4 @@
-use Rattle.ext.specs.Bytewise.{identifierFault}
+use Rattle.ext.specs.Internal.Bytewise.{identifierFault}
 use mathlib.Core.Path.{_∙_, sym}
 use borrow.Author.Needs.{needs}
 use Rattle.header_reader.proofs.faults.identifier_fault.Statement.{statement}

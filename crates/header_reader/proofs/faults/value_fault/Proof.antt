@@ -1,4 +1,4 @@
-use Rattle.ext.specs.Bytewise.{valueFault}
+use Rattle.ext.specs.Internal.Bytewise.{valueFault}
 use mathlib.Core.Path.{_∙_, sym}
 use borrow.Author.Tests.{eq-eqb, ne-eqb}
 use borrow.Author.Needs.{needs}

@@ -1,4 +1,4 @@
-use Rattle.header_reader.specs.Machine.{stepOf}
+use Rattle.header_reader.specs.Internal.Machine.{stepOf}
 use borrow.Author.Needs.{needs}
 use Rattle.header_reader.proofs.fields.at_octet.Statement.{statement}
 use Rattle.header_reader.proofs.fields.at_octet.Tie as tie

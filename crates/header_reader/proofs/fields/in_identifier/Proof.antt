@@ -1,4 +1,4 @@
-use Rattle.header_reader.specs.Machine.{stepOf}
+use Rattle.header_reader.specs.Internal.Machine.{stepOf}
 use borrow.Author.Tests.{lt-ltb, le-ltb}
 use borrow.Author.Needs.{needs}
 use Rattle.header_reader.proofs.fields.in_identifier.Statement.{statement}

@@ -1,5 +1,5 @@
 use Rattle.header_reader.proofs.IntegerByte.{byte-is}
-use Rattle.header_reader.specs.Machine.{stepOf}
+use Rattle.header_reader.specs.Internal.Machine.{stepOf}
 use native.Mathlib.Omega.{arith}
 use borrow.Author.Tests.{eq-eqb, ne-eqb}
 use borrow.Author.Needs.{needs}

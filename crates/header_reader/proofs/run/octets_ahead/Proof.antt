@@ -2,7 +2,7 @@ use Prim.Native.Nat.{_≤_, _-_}
 use native.Mathlib.Omega.{arith}
 use borrow.Author.Needs.{needs}
 use lib.ListN.{length}
-use Rattle.header_reader.specs.Run.{OctetsAhead}
+use Rattle.header_reader.specs.Internal.Run.{OctetsAhead}
 use Rattle.header_reader.proofs.RunSteps.{octets-none, octets-more}
 use Rattle.header_reader.proofs.run.octets_ahead.Statement.{statement}
 use Rattle.header_reader.proofs.run.octets_ahead.Tie as tie

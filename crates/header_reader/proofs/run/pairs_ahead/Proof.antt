@@ -2,7 +2,7 @@ use Prim.Native.Nat.{_≤_, _-_}
 use native.Mathlib.Omega.{arith}
 use borrow.Author.Needs.{needs}
 use lib.ListN.{length}
-use Rattle.header_reader.specs.Run.{PairsAhead}
+use Rattle.header_reader.specs.Internal.Run.{PairsAhead}
 use Rattle.header_reader.proofs.RunSteps.{pairs-none, pairs-next}
 use Rattle.header_reader.proofs.run.pairs_ahead.Statement.{statement}
 use Rattle.header_reader.proofs.run.pairs_ahead.Tie as tie

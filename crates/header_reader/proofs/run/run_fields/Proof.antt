@@ -1,6 +1,6 @@
 use mathlib.Core.Path.{subst}
-use Rattle.header_reader.specs.Represents.{fieldsState}
-use Rattle.header_reader.specs.Phase.{Bounded}
+use Rattle.header_reader.specs.Internal.Represents.{fieldsState}
+use Rattle.header_reader.specs.Internal.Phase.{Bounded}
 use Rattle.header_reader.specs.declared.phase.FieldsPhase.{FieldsPhase}
 use Rattle.header_reader.proofs.RunSteps.{stayed, phased}
 use borrow.Author.Needs.{needs}

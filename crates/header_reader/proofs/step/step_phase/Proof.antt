@@ -1,6 +1,6 @@
 use mathlib.Core.Path.{subst}
-use Rattle.header_reader.specs.Represents.{state}
-use Rattle.header_reader.specs.Phase.{Bounded}
+use Rattle.header_reader.specs.Internal.Represents.{state}
+use Rattle.header_reader.specs.Internal.Phase.{Bounded}
 use Rattle.header_reader.specs.declared.phase.Phase.{Phase}
 use borrow.Author.Needs.{needs}
 use Rattle.header_reader.proofs.step.step_phase.Statement.{statement}

@@ -4,7 +4,7 @@ use native.Mathlib.Omega.{arith}
 use denote.Ref.{now}
 use lib.ListN.{length}
 use Rattle.image.specs.Geometry.{rowBytes}
-use Rattle.image.specs.Parts.{clearRows}
+use Rattle.image.specs.Internal.Parts.{clearRows}
 use Rattle.image.specs.Rows.{invert, convertRows, convertFormat}
 use Rattle.image.specs.declared.PlaneLayout.{PlaneLayout}
 use Rattle.image.proofs.PackedAsRows.{all-at-once}

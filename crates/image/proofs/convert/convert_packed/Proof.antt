@@ -2,7 +2,7 @@ use mathlib.Core.Path.{ap, _∙_}
 use native.Mathlib.Omega.{arith}
 use denote.Ref.{now}
 use lib.ListN.{length}
-use Rattle.image.specs.Parts.{clearRows}
+use Rattle.image.specs.Internal.Parts.{clearRows}
 use Rattle.image.proofs.InvertedBytes.{invert-length}
 use borrow.Author.Needs.{needs}
 use Rattle.image.proofs.convert.convert_packed.Statement.{statement}

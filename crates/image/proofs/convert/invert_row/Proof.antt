@@ -1,5 +1,5 @@
 use mathlib.Core.Path.{ap, _∙_}
-use Rattle.image.specs.Parts.{maskLast}
+use Rattle.image.specs.Internal.Parts.{maskLast}
 use borrow.Author.Needs.{needs}
 use Rattle.image.proofs.convert.invert_row.Statement.{statement}
 use Rattle.image.proofs.convert.invert_row.Tie as tie

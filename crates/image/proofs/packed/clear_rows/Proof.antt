@@ -8,7 +8,7 @@ use mathlib.Core.List.{List}
 use lib.Bits.{bitAnd}
 use lib.ListN.{length, getD, set}
 use Rattle.image.specs.Geometry.{rowBytes, planeBytes, paddingMask}
-use Rattle.image.specs.Parts.{clearRows}
+use Rattle.image.specs.Internal.Parts.{clearRows}
 use Rattle.image.proofs.PackedAsRows.{clear-length, clear-none, clear-next}
 use Rattle.image.proofs.PlaneSizes as sizes
 use Rattle.image.proofs.packed.clear_rows.Statement.{statement}

@@ -10,7 +10,7 @@ use Rattle.error.specs.Answer.{gives}
 use Rattle.error.specs.Emits.{Emits}
 use Rattle.laws.proofs.Writers.{emits-none, emits-all}
 use Rattle.image.specs.Geometry.{rowBytes, planeBytes}
-use Rattle.image.specs.Parts.{clearRows}
+use Rattle.image.specs.Internal.Parts.{clearRows}
 use Rattle.image.specs.Rows.{toNative, wireBits}
 use Rattle.image.specs.declared.PlaneLayout.{PlaneLayout}
 use Rattle.image.proofs.PackedAsRows.{wires-at-once}

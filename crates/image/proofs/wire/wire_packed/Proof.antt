@@ -1,5 +1,5 @@
 use mathlib.Core.Path.{ap, _∙_}
-use Rattle.image.specs.Parts.{clearRows}
+use Rattle.image.specs.Internal.Parts.{clearRows}
 use borrow.Author.Needs.{needs}
 use Rattle.image.proofs.wire.wire_packed.Statement.{statement}
 use Rattle.image.proofs.wire.wire_packed.Tie as tie

@@ -1,5 +1,5 @@
 use mathlib.Core.Path.{ap, _∙_}
-use Rattle.image.specs.Parts.{maskLast}
+use Rattle.image.specs.Internal.Parts.{maskLast}
 use Rattle.image.specs.Rows.{toNative}
 use borrow.Author.Needs.{needs}
 use Rattle.image.proofs.wire.wire_row.Statement.{statement}

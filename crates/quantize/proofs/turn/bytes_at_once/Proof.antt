@@ -1,7 +1,7 @@
 use Prim.Native.Nat.{ℕ, _<_}
 use mathlib.Core.Path.{sym, subst}
 use native.Mathlib.Omega.{arith}
-use Rattle.quantize.specs.Turn.{AtOnce, Wholes}
+use Rattle.quantize.specs.Internal.Turn.{AtOnce, Wholes}
 use borrow.Author.Needs.{needs}
 use Rattle.quantize.proofs.turn.bytes_at_once.Statement.{statement}
 use Rattle.quantize.proofs.turn.bytes_at_once.Tie as tie

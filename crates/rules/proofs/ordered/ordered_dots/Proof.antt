@@ -8,7 +8,7 @@ use lib.Dec.{leb}
 use lib.ListN.{length, getD}
 use Rattle.rules.specs.Bits.{bit, appended}
 use Rattle.rules.specs.Ordered.{bound, cell}
-use Rattle.rules.specs.Kernels.{orderedBit}
+use Rattle.rules.specs.Internal.Kernels.{orderedBit}
 use Rattle.rules.proofs.DigitsAppended.{bit-le, one-more, appended-fits}
 use Rattle.rules.proofs.ordered.ordered_dots.Statement.{statement}
 use Rattle.rules.proofs.ordered.ordered_dots.Tie as tie

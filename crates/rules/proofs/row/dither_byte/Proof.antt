@@ -11,7 +11,7 @@ use mir.Syntax.{w16}
 use mir.Val.{toZ, ofZ}
 use mir.ValLaws.{toZ-ofZ}
 use Rattle.rules.specs.Rule.{dither}
-use Rattle.rules.specs.Kernels.{rowBit, carryOf}
+use Rattle.rules.specs.Internal.Kernels.{rowBit, carryOf}
 use Rattle.rules.proofs.DigitsAppended.{appended-fits}
 use Rattle.rules.proofs.DitherDotsLoop.{Inv, inv-start, inv-more, inv-end, inv-near, dot-le, row-bit-le}
 use Rattle.rules.proofs.row.dither_byte.Statement.{statement}

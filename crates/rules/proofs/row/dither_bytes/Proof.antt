@@ -8,7 +8,7 @@ use borrow.Author.Needs.{needs}
 use denote.Ref.{now}
 use lib.ListN.{length}
 use Rattle.rules.specs.Rule.{dither}
-use Rattle.rules.specs.Row.{Near, Bytes}
+use Rattle.rules.specs.Internal.Row.{Near, Bytes}
 use Rattle.rules.proofs.CalmBytes.{calm-all}
 use Rattle.rules.proofs.DitherBytesLoop.{Chain, bytes-none, chain-start, chain-more, chain-end, byte-small, near-own}
 use Rattle.rules.proofs.ListPiece.{piece-length}

@@ -8,8 +8,8 @@ use lib.IntN.{ℤ, pos}
 use lib.ListN.{getD}
 use mir.Syntax.{w16}
 use mir.ValLaws.{toZ-ofZ}
-use Rattle.rules.specs.Carry.{clamp}
-use Rattle.rules.specs.Kernels.{Biased}
+use Rattle.rules.specs.Internal.Carry.{clamp}
+use Rattle.rules.specs.Internal.Kernels.{Biased}
 use Rattle.rules.proofs.CarryRead.{over-in, over-past}
 use Rattle.rules.proofs.DitherDotsLoop.{biased-zero}
 use Rattle.rules.proofs.row.inside.Statement.{statement}

@@ -4,8 +4,8 @@ use denote.Ref.{now}
 use lib.Dec.{leb}
 use lib.ListN.{getD}
 use borrow.Author.Needs.{needs}
-use Rattle.rules.specs.Kernels.{thresholdFrom}
-use Rattle.rules.specs.Words.{samplesFrom}
+use Rattle.rules.specs.Internal.Kernels.{thresholdFrom}
+use Rattle.rules.specs.Internal.Words.{samplesFrom}
 use Rattle.rules.proofs.DigitsAppended.{bit-le}
 use Rattle.rules.proofs.threshold.byte.Statement.{statement}
 use Rattle.rules.proofs.threshold.byte.Tie as tie

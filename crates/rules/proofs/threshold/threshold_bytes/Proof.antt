@@ -3,7 +3,7 @@ use mathlib.Core.Path.{_≡_, refl, ap, _∙_}
 use native.Mathlib.Omega.{arith}
 use denote.Ref.{now}
 use lib.ListN.{length}
-use Rattle.rules.specs.Kernels.{stored}
+use Rattle.rules.specs.Internal.Kernels.{stored}
 use Rattle.rules.proofs.StoredBytes.{stored-length, stored-next}
 use Rattle.rules.proofs.threshold.threshold_bytes.Statement.{statement}
 use Rattle.rules.proofs.threshold.threshold_bytes.Tie as tie

@@ -6,7 +6,7 @@ use denote.Ref.{now}
 use lib.Dec.{leb}
 use lib.ListN.{length, getD}
 use Rattle.rules.specs.Bits.{appended}
-use Rattle.rules.specs.Kernels.{thresholdBit}
+use Rattle.rules.specs.Internal.Kernels.{thresholdBit}
 use Rattle.rules.proofs.DigitsAppended.{bit-le, one-more, appended-fits}
 use Rattle.rules.proofs.StoredBytes.{byte-more}
 use Rattle.rules.proofs.threshold.threshold_dots.Statement.{statement}

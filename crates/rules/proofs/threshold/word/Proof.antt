@@ -7,7 +7,7 @@ use lib.ListN.{getD}
 use mir.Syntax.{w8, w64}
 use mir.Val.{Fits}
 use borrow.Author.Needs.{needs}
-use Rattle.rules.specs.Words.{Below, samplesFrom}
+use Rattle.rules.specs.Internal.Words.{Below, samplesFrom}
 use Rattle.rules.proofs.Words.{joined}
 use Rattle.rules.proofs.threshold.word.Statement.{statement}
 use Rattle.rules.proofs.threshold.word.Tie as tie

@@ -1,4 +1,4 @@
-use Rattle.header_reader.specs.Machine.{inFields}
+use Rattle.header_reader.specs.Internal.Machine.{inFields}
 use mathlib.Core.Path.{_∙_, ap}
 use borrow.Author.Needs.{needs}
 use Rattle.header_reader.proofs.reader.HeaderReader.in_fields.Statement.{statement}

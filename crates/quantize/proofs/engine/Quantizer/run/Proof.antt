@@ -8,7 +8,7 @@ use denote.Ref.{now}
 use lib.ListN.{length, getD}
 use Rattle.quantize.specs.declared.engine.Quantizer.{Quantizer}
 use Rattle.quantize.specs.Finished.{Bytewise}
-use Rattle.quantize.specs.Turn.{ruleOf}
+use Rattle.quantize.specs.Internal.Turn.{ruleOf}
 use Rattle.quantize.proofs.Places.{bytewise}
 use Rattle.quantize.proofs.RunLoop.{Loop, loop-start}
 use Rattle.quantize.proofs.TurnTakes.{end-fits, taking, took-room, loop-took}

@@ -5,9 +5,9 @@ use mathlib.Core.List.{List, []}
 use lib.ListN.{length, take, drop}
 use lib.Seq.{sets}
 use Rattle.header.specs.Settings.{Settings}
-use Rattle.header_reader.specs.Machine.{State}
-use Rattle.header_reader.specs.Represents.{Represents}
-use Rattle.header_reader.specs.Run.{RunReached}
+use Rattle.header_reader.specs.Internal.Machine.{State}
+use Rattle.header_reader.specs.Internal.Represents.{Represents}
+use Rattle.header_reader.specs.Internal.Run.{RunReached}
 use Rattle.header_reader.specs.declared.reader.HeaderReader.{HeaderReader}
 use Rattle.decode_session.specs.declared.head.HeadRun.{HeadRun}
 

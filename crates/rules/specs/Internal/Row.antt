@@ -6,8 +6,8 @@ use lib.IntN.{ℤ, pos, subℕ}
 use lib.ListN.{length, getD, take, drop, set}
 use Rattle.rules.specs.declared.row.Eight.{Eight}
 use Rattle.rules.specs.Rule.{Rule, dither}
-use Rattle.rules.specs.Carry.{leftOf, cornerOf, overOf}
-use Rattle.rules.specs.Kernels.{Biased, Dots}
+use Rattle.rules.specs.Internal.Carry.{leftOf, cornerOf, overOf}
+use Rattle.rules.specs.Internal.Kernels.{Biased, Dots}
 
 -- these numbers hold the residuals next to column x of row y: on its left, above left and above
 pub record Near (w y x corner : ℕ) (work : List ℤ) (left aboveLeft above : ℕ) : Type 0 where

@@ -5,8 +5,8 @@ use Rattle.error.specs.Answer.{Answer, gives, refusal}
 use Rattle.error.specs.declared.WbmpError.{WbmpError}
 use Rattle.header.specs.Settings.{Settings}
 use Rattle.header.specs.Read.{Outline, parsed}
-use Rattle.header_reader.specs.Machine.{Step, more, done, refused, steps}
-use Rattle.header_reader.specs.Represents.{ReaderStepped, ReaderEnded}
+use Rattle.header_reader.specs.Internal.Machine.{Step, more, done, refused, steps}
+use Rattle.header_reader.specs.Internal.Represents.{ReaderStepped, ReaderEnded}
 use Rattle.header.specs.declared.ParsedHeader.{ParsedHeader}
 use Rattle.header_reader.specs.declared.reader.HeaderReader.{HeaderReader}
 use Rattle.header_reader.specs.declared.reader.HeaderStep.{HeaderStep}

@@ -7,7 +7,7 @@ use Rattle.error.specs.Choice.{if}
 use Rattle.error.specs.Answer.{Answer, gives, refuses}
 use Rattle.mbi.specs.Read.{ByteRead, goes, ends, wrong, readByte, integer}
 use Rattle.ext.specs.Kinds.{Span, absent, span, fieldsFollow, kindBits}
-use Rattle.ext.specs.Bytewise.{octets, octet, pairsFrom, identifierFrom, valueFrom, fieldsFrom, identifierFault, valueFault}
+use Rattle.ext.specs.Internal.Bytewise.{octets, octet, pairsFrom, identifierFrom, valueFrom, fieldsFrom, identifierFault, valueFault}
 use Rattle.header.specs.Settings.{Settings}
 use Rattle.header.specs.Read.{Outline}
 

@@ -6,8 +6,8 @@ use mathlib.Core.List.{List, []}
 use mathlib.Core.Logic.{_⊎_}
 use lib.ListN.{length, take}
 use Rattle.header.specs.Settings.{Settings}
-use Rattle.header_reader.specs.Machine.{State, inType, atFix, inOctets, atOctet, atPair, inIdentifier, inValue, inWidth, inHeight, inFields, more, steps}
-use Rattle.header_reader.specs.Represents.{fieldsState, Represents}
+use Rattle.header_reader.specs.Internal.Machine.{State, inType, atFix, inOctets, atOctet, atPair, inIdentifier, inValue, inWidth, inHeight, inFields, more, steps}
+use Rattle.header_reader.specs.Internal.Represents.{fieldsState, Represents}
 use Rattle.header_reader.specs.declared.run.PairsRun.{PairsRun}
 use Rattle.header_reader.specs.declared.run.FieldsRun.{FieldsRun}
 use Rattle.header_reader.specs.declared.reader.HeaderReader.{HeaderReader}

@@ -6,7 +6,7 @@ use mathlib.Core.List.{List}
 use lib.ListN.{length}
 use Rattle.error.specs.Answer.{gives, written}
 use Rattle.error.specs.Emits.{Emits}
-use Rattle.ext_write.specs.Left.{Left, ChecksPairs}
+use Rattle.ext_write.specs.Internal.Left.{Left, ChecksPairs}
 use Rattle.ext_write.specs.declared.FieldsCheck.{FieldsCheck}
 use Rattle.ext_write.specs.declared.PairsBegun.{PairsBegun}
 use Rattle.header.specs.Write.{lentHeader, extHeader}

@@ -9,8 +9,8 @@ use lib.Seq.{sets}
 use Rattle.error.specs.Answer.{gives, refuses, map, isEnd}
 use Rattle.header.specs.Settings.{Settings}
 use Rattle.header.specs.Read.{outline, parsed, readHeader}
-use Rattle.header_reader.specs.Machine.{State, start, more, steps}
-use Rattle.header_reader.specs.Represents.{Represents}
+use Rattle.header_reader.specs.Internal.Machine.{State, start, more, steps}
+use Rattle.header_reader.specs.Internal.Represents.{Represents}
 use Rattle.header_reader.specs.declared.reader.HeaderReader.{HeaderReader}
 use Rattle.header_reader.specs.declared.reader.HeaderStep.{HeaderStep}
 use Rattle.decode_session.specs.Extension.{fieldBytes}

@@ -11,7 +11,7 @@ use Rattle.rules.specs.Bits.{bit, appended, digits}
 use Rattle.rules.specs.Diffusion.{part, white, residual}
 use Rattle.rules.specs.Ordered.{number, numbers, exponent, bound, cell, knownSide}
 use Rattle.rules.specs.Rule.{Rule, dither}
-use Rattle.rules.specs.Carry.{Carry, overOf, machineDot, next}
+use Rattle.rules.specs.Internal.Carry.{Carry, overOf, machineDot, next}
 
 -- r holds z, which is within -128 .. 128
 pub record Biased (z : ℤ) (r : ℕ) : Type 0 where

@@ -15,11 +15,11 @@ use Rattle.quantize.specs.declared.turn.Taken.{Taken}
 use Rattle.rules.specs.Bits.{digits}
 use Rattle.rules.specs.Rule.{Rule, threshold, dither, ordered, meaning, knownRule, roomy}
 use Rattle.quantize.specs.Finished.{Setting}
-use Rattle.quantize.specs.Machine.{State}
-use Rattle.quantize.specs.Place.{At}
+use Rattle.quantize.specs.Internal.Machine.{State}
+use Rattle.quantize.specs.Internal.Place.{At}
 use Rattle.quantize.specs.declared.turn.Filled.{Filled}
-use Rattle.rules.specs.Kernels.{Dots, carryOf, Packs}
-use Rattle.rules.specs.Row.{Bytes}
+use Rattle.rules.specs.Internal.Kernels.{Dots, carryOf, Packs}
+use Rattle.rules.specs.Internal.Row.{Bytes}
 
 -- samples can be taken: the rule is known, and the work buffer long enough
 pub record Served (rule : Quantize) (w work : ℕ) : Type 0 where

@@ -13,11 +13,11 @@ use Rattle.quantize.specs.declared.engine.Ran.{Ran}
 use Rattle.quantize.specs.declared.engine.Spot.{Spot}
 use Rattle.rules.specs.Diffusion.{Direction, Scan, onLeft, above, residualAt}
 use Rattle.rules.specs.Rule.{Rule, threshold, dither, ordered, rightwards, meaning, knownRule, carries, roomy}
-use Rattle.quantize.specs.Turn.{Served, stateOf, ruleOf}
+use Rattle.quantize.specs.Internal.Turn.{Served, stateOf, ruleOf}
 use Rattle.quantize.specs.Finished.{Setting, count, frame, dotOf, newly, takes, setting}
-use Rattle.rules.specs.Carry.{Carry, clamp}
-use Rattle.quantize.specs.Machine.{State, carried, emitted}
-use Rattle.quantize.specs.Place.{At, Begun}
+use Rattle.rules.specs.Internal.Carry.{Carry, clamp}
+use Rattle.quantize.specs.Internal.Machine.{State, carried, emitted}
+use Rattle.quantize.specs.Internal.Place.{At, Begun}
 
 -- ---- what a quantizer stands for
 

@@ -9,7 +9,7 @@ use lib.Seq.{sets}
 use Rattle.error.specs.Answer.{gives, map, written}
 use Rattle.error.specs.Emits.{Emits}
 use Rattle.ext_write.specs.Write.{lentBytes}
-use Rattle.ext_write.specs.Steps.{fieldsLength}
+use Rattle.ext_write.specs.Internal.Steps.{fieldsLength}
 use Rattle.ext_write.specs.declared.FieldsCheck.{FieldsCheck}
 use Rattle.ext_write.specs.declared.PairsBegun.{PairsBegun}
 
