@@ -17,13 +17,14 @@ one='\377\360\266\360\266\360\206\360\266\360\266\360\377\360'
 two='\000\000\111\000\111\000\171\000\111\000\111\000\000\000'
 cd "$out"
 printf "$head$one$two" >whole.wbmp
-# The same with the pair k = 12 in its header, which sniffing does not take.
-printf '\000\340\022k12\014\007'"$one" >fields.wbmp
+# The first frame with the pair Title = HI in its header, which sniffing does not take: what the program `titlecard` writes.
+printf '\000\340\122TitleHI\014\007'"$one" >title.wbmp
+cmp title.wbmp ../../crates/titlecard/stdout
 # The first frame without its last byte, and a type that there is not.
 printf "$head$one" | head -c 17 >cut.wbmp
 printf '\005' >type.wbmp
 {
-    for card in whole fields cut type; do
+    for card in whole title cut type; do
         ./show "$card.wbmp" || echo "ended with $?"
     done
     ./show -1 whole.wbmp
