@@ -30,7 +30,7 @@ use crate::stages::then;
 use decode_session::DecodeOpened;
 use decode_session::DecodeSession;
 use decode_session::HeaderSeen;
-use header::FieldsSeen;
+use header_reader::FieldsSeen;
 use header::ParsedHeader;
 use replay::DecodeReplayed;
 use replay::replay_decode;
