@@ -32,11 +32,12 @@ begin-made-requires c κs =
     let t = c .before .before in
     let k = t .before .before in
     let n = k .before in
-    let a = n .before .before .before .before .args in
-    (laid (n .new .ensures),
-    subst⁻¹ (λ (l : PlaneLayout). checkScans 16 (a .options .quantize) (l .width) (l .height) (a .count) (length (now (a .gray)))
-    (length (now (a .work))) ≡ gives tt)
-    (n .new .ensures) (tested k _ (t .enum-told .given .1)))
+    let a = n .before .before .before .before .args in (
+      laid (n .new .ensures),
+      subst⁻¹ (λ (l : PlaneLayout). checkScans 16 (a .options .quantize) (l .width) (l .height) (a .count) (length (now (a .gray)))
+          (length (now (a .work))) ≡ gives tt)
+          (n .new .ensures) (tested k _ (t .enum-told .given .1)),
+    )
 
 enum-known-e : tie.Need-enum-known-e
 enum-known-e c = search needs

@@ -31,11 +31,12 @@ begin-file-requires c κs =
     let t = c .before in
     let k = t .before .before in
     let n = k .before in
-    let a = n .before .before .before .before .args in
-    (laid (n .new .ensures),
-    subst⁻¹ (λ (l : PlaneLayout). checkPlanes 16 (l .width) (l .height) (a .count) (a .stride) (length (now (a .planes))) ≡ gives tt)
-    (n .new .ensures)
-    (tests-are k _ (t .enum-told .given .1)))
+    let a = n .before .before .before .before .args in (
+      laid (n .new .ensures),
+      subst⁻¹ (λ (l : PlaneLayout). checkPlanes 16 (l .width) (l .height) (a .count) (a .stride) (length (now (a .planes))) ≡ gives tt)
+          (n .new .ensures)
+          (tests-are k _ (t .enum-told .given .1)),
+    )
 
 enum-known-e : tie.Need-enum-known-e
 enum-known-e c = search needs
