@@ -30,8 +30,8 @@ use crate::stages::then;
 use decode_session::DecodeOpened;
 use decode_session::DecodeSession;
 use decode_session::HeaderSeen;
-use header_reader::FieldsSeen;
 use header::ParsedHeader;
+use header_reader::FieldsSeen;
 use replay::DecodeReplayed;
 use replay::replay_decode;
 
