@@ -9,7 +9,8 @@ use Rattle.image.specs.Rows.{convertFormat, convertRows, convertRow, clearPaddi
 use Rattle.rules.specs.Diffusion.{part, value, white, residual, valueFrom, handed, rowValue, above, valueAt}
 use Rattle.rules.specs.Ordered.{number, numbers, bound}
 use Rattle.rules.specs.Rule.{dot}
-use Rattle.quantize.specs.Finished.{begunBytes, count, frame, dotOf, bitAt, byteAt, finished}
+use Rattle.quantize.specs.Finished.{begunBytes, count, frame, dotOf, finished}
+use Rattle.rules.specs.Packed.{paddedBit, byteAt}
 use Rattle.rules.specs.Bits.{upto, appended}
 use Rattle.conformance.specs.Table.{table}
 use Rattle.conformance.specs.Check.{AllAgree}
@@ -22,7 +23,7 @@ a & b = (a, b)
 pub cards : AllAgree table
 unfolding sniffed sniffBody areClear mbiBytes groups readRest readByte readHeader readFields readPairs readPair convertFormat convertRows
     convertRow clearPadding
-    part value white residual valueFrom handed rowValue above valueAt number numbers bound dot begunBytes count frame dotOf bitAt byteAt
+    part value white residual valueFrom handed rowValue above valueAt number numbers bound dot begunBytes count frame dotOf paddedBit byteAt
     finished upto appended
 cards =
     (refl, refl, refl) & (refl, refl, refl) & (refl, refl, refl) & (refl, refl, refl)

@@ -22,7 +22,8 @@ use Rattle.options.specs.declared.Quantize.the-variants.{Dither}
 use Rattle.rules.specs.Bits.{upto, appended}
 use Rattle.rules.specs.Diffusion.{part, value, white, residual, valueFrom, handed, rowValue, above, valueAt}
 use Rattle.rules.specs.Rule.{dot}
-use Rattle.quantize.specs.Finished.{begunBytes, count, frame, dotOf, bitAt, byteAt, finished}
+use Rattle.quantize.specs.Finished.{begunBytes, count, frame, dotOf, finished}
+use Rattle.rules.specs.Packed.{paddedBit, byteAt}
 use Rattle.quantize.specs.Finished as Finished
 use Rattle.decoder.specs.Image.{testBody, readImage}
 use Rattle.encode_session.specs.Model as Making
@@ -64,7 +65,7 @@ made =
 
 made-so : Making.replies (Making.opened card) making ≡ made
 unfolding Making.replies Making.outcome Making.taken Making.written upto appended part value white residual valueFrom handed rowValue above
-    valueAt dot begunBytes count frame dotOf bitAt byteAt finished Finished.most Finished.takes
+    valueAt dot begunBytes count frame dotOf paddedBit byteAt finished Finished.most Finished.takes
 made-so = refl
 
 made-whole : (wasClosed made ≡ true) × (samplesOf making made ≡ 127 ∷ 128 ∷ []) × (MakingTrace.joined made ≡ 0x40 ∷ [])

@@ -16,7 +16,8 @@ use Rattle.options.specs.declared.EncodeOptions.{EncodeOptions}
 use Rattle.options.specs.declared.Quantize.the-variants.{Dither}
 use Rattle.rules.specs.Diffusion.{part, value, white, residual, valueFrom, handed, rowValue, above, valueAt}
 use Rattle.rules.specs.Rule.{dot}
-use Rattle.quantize.specs.Finished.{begunBytes, count, frame, dotOf, bitAt, byteAt, finished, setting}
+use Rattle.quantize.specs.Finished.{begunBytes, count, frame, dotOf, finished, setting}
+use Rattle.rules.specs.Packed.{paddedBit, byteAt}
 use Rattle.rules.specs.Bits.{upto, appended}
 use Rattle.encoder.specs.Make.{checkScans, fileOfScans}
 use Rattle.api.specs.Sniff.{sniffed}
@@ -38,7 +39,7 @@ bare = 0x00 ∷ 0x00 ∷ 0x02 ∷ 0x01 ∷ 0x40 ∷ 0x80 ∷ []
 
 fielded-made : fileOfScans 16 (maker (Present Bitfield00)) 2 1 2 scans (5 ∷ []) [] 4 ≡ gives fielded
 unfolding fileOfScans checkScans lentFields fieldsBytes octetsBytes mbiBytes groups part value white residual valueFrom handed rowValue
-    above valueAt dot begunBytes count frame dotOf bitAt byteAt
+    above valueAt dot begunBytes count frame dotOf paddedBit byteAt
     finished upto appended
 fielded-made = refl
 
@@ -49,7 +50,7 @@ by-parts = made-is 16 (maker Absent) 2 1 2 scans [] [] 4 (0x00 ∷ 0x00 ∷ 0x02
 
 bare-made : fileOfScans 16 (maker Absent) 2 1 2 scans [] [] 4 ≡ gives bare
 unfolding fileOfScans checkScans fieldsBytes mbiBytes groups part value white residual valueFrom handed rowValue above valueAt dot
-    begunBytes count frame dotOf bitAt byteAt finished upto appended
+    begunBytes count frame dotOf paddedBit byteAt finished upto appended
 bare-made = refl
 
 admitted : (strict : Bool) → Admitted (withStrict strict defaults) 2 1

@@ -12,14 +12,15 @@ use lib.Pow.{shl-shr}
 use Rattle.error.specs.Choice.{if}
 use Rattle.laws.proofs.Octets.{Octets}
 use Rattle.laws.proofs.Products.{up-to}
-use Rattle.image.specs.Dots.{bitAt as bitOf, isWhite}
+use Rattle.image.specs.Dots.{bitAt, isWhite}
 use Rattle.image.specs.Geometry.{rowBytes, paddingBits}
 use Rattle.image.specs.Rows.{clearLow}
 use Rattle.image.specs.declared.PixelFormat.the-variants.{MonoBlack}
 use Rattle.options.specs.declared.Quantize.{Quantize}
 use Rattle.rules.specs.Bits.{bit, appended, digits}
 use Rattle.rules.specs.Rule.{dot, meaning}
-use Rattle.quantize.specs.Finished.{Setting, count, frame, dotOf, bitAt, byteAt, finished, setting}
+use Rattle.quantize.specs.Finished.{Setting, count, frame, dotOf, finished, setting}
+use Rattle.rules.specs.Packed.{paddedBit, byteAt}
 use Rattle.rules.proofs.DigitsAppended.{bit-le, appended-lt, appended-add, digits-tail}
 use Rattle.rules.proofs.UptoList.{length-upto, upto-at}
 use Rattle.quantize.proofs.BytePacked.{bit-in, bit-past, byte-at}
@@ -58,8 +59,8 @@ module _ (s : Setting) (xs : List ℕ) where
   unfolding dotOf
   dot-small n = bit-le (dot (s .rule) w (frame w (s .height) xs (n / w / s .height)) (n % w) (n / w % s .height))
 
-  bit-small : (r c : ℕ) → bitAt w d r c ≤ 1
-  unfolding bitAt
+  bit-small : (r c : ℕ) → paddedBit w d r c ≤ 1
+  unfolding paddedBit
   bit-small r c = go (ltb c w)
     where
       go : (t : Bool) → if t (d (r * w + c)) 0 ≤ 1
@@ -68,7 +69,7 @@ module _ (s : Setting) (xs : List ℕ) where
 
   -- byte j of row r, all rows counted
   finished-byte : (r j : ℕ) → j < rowBytes w → r * rowBytes w + j < length (finished s xs)
-      → getD (finished s xs) (r * rowBytes w + j) 0 ≡ digits (λ i. bitAt w d r (8 * j + i)) 8
+      → getD (finished s xs) (r * rowBytes w + j) 0 ≡ digits (λ i. paddedBit w d r (8 * j + i)) 8
   unfolding finished
   finished-byte r j h l = upto-at (byteAt w d) 0 _ (r * rowBytes w + j) (rw length-upto at l) ∙ byte-at w d r j h
 
@@ -82,7 +83,7 @@ module _ (s : Setting) (xs : List ℕ) where
       go : (t : Bool) → ltb i n ≡ t → getD (finished s xs) i 0 < 256
       go true e =
           let b =
-          appended-lt 0 (λ k. bitAt w d (i / rowBytes w) (8 * (i % rowBytes w) + k))
+          appended-lt 0 (λ k. paddedBit w d (i / rowBytes w) (8 * (i % rowBytes w) + k))
           (λ k. bit-small (i / rowBytes w) (8 * (i % rowBytes w) + k)) 0 8 (omega arith) in
           subst (λ (b : ℕ). b < 256) (sym (upto-at (byteAt w d) 0 n i (ltb-true i n e))) b
       go false e =
@@ -96,7 +97,7 @@ module _ (s : Setting) (xs : List ℕ) where
   finished-last r wide l =
       let j = rowBytes w - 1 in
       let p = paddingBits w in
-      let f : ℕ → ℕ = λ i. bitAt w d r (8 * j + i) in
+      let f : ℕ → ℕ = λ i. paddedBit w d r (8 * j + i) in
       let e : 8 - p + p ≡ 8 = omega arith in
       let tail : digits f 8 ≡ digits f (8 - p) * 2 ^ p =
       sym (ap (digits f) e) ∙ digits-tail f (8 - p) p (λ i h. bit-past w d r (8 * j + i) (omega arith)) in
@@ -109,8 +110,8 @@ module _ (s : Setting) (xs : List ℕ) where
   finished-bit x r h l =
       let c : 8 * (x / 8) + x % 8 ≡ x = omega arith in
       ap (λ (b : ℕ). b / 2 ^ (7 - x % 8) % 2) (finished-byte r (x / 8) (omega arith) l)
-      ∙ digit-at (λ i. bitAt w d r (8 * (x / 8) + i)) (λ i. bit-small r (8 * (x / 8) + i)) (x % 8) (omega arith)
-      ∙ ap (bitAt w d r) c
+      ∙ digit-at (λ i. paddedBit w d r (8 * (x / 8) + i)) (λ i. bit-small r (8 * (x / 8) + i)) (x % 8) (omega arith)
+      ∙ ap (paddedBit w d r) c
       ∙ bit-in w d r x h
 
 -- The plane that a scan finishes: its dots are the rule's.
@@ -118,9 +119,9 @@ module _ (rule : Quantize) (width height : ℕ) (scan : List ℕ)
     (there : length (finished (setting rule width height 1) scan) ≡ height * rowBytes width)
     (x y : ℕ) where
   scan-bit : x < width → y < height
-      → bitOf (rowBytes width) (finished (setting rule width height 1) scan) x y
+      → bitAt (rowBytes width) (finished (setting rule width height 1) scan) x y
       ≡ bit (dot (meaning rule) width (frame width height scan 0) x y)
-  unfolding bitOf dotOf
+  unfolding bitAt dotOf
   scan-bit p q =
       let m = up-to (rowBytes width) y height q in
       finished-bit (setting rule width height 1) scan x y p (omega (arith, there))
@@ -139,7 +140,7 @@ module _ (rule : Quantize) (width height : ℕ) (scan : List ℕ)
       shown false = refl
 
       go : (t u : Bool) → ltb x width ≡ t → ltb y height ≡ u
-          → (t && u && eqb (bitOf (rowBytes width) (finished (setting rule width height 1) scan) x y) 1) ≡ (t && u && white)
+          → (t && u && eqb (bitAt (rowBytes width) (finished (setting rule width height 1) scan) x y) 1) ≡ (t && u && white)
       go true true p q = ap (λ (n : ℕ). eqb n 1) (scan-bit (ltb-true x width p) (ltb-true y height q)) ∙ shown white
       go true false p q = refl
       go false u p q = refl

@@ -9,7 +9,8 @@ use Rattle.options.specs.declared.Quantize.the-variants.{Dither}
 use Rattle.rules.specs.Bits.{upto, appended}
 use Rattle.rules.specs.Diffusion.{part, value, white, residual, valueFrom, handed, rowValue, above, valueAt}
 use Rattle.rules.specs.Rule.{dot}
-use Rattle.quantize.specs.Finished.{begunBytes, count, frame, dotOf, bitAt, byteAt, finished, most, takes}
+use Rattle.quantize.specs.Finished.{begunBytes, count, frame, dotOf, finished, most, takes}
+use Rattle.rules.specs.Packed.{paddedBit, byteAt}
 use Rattle.encode_session.specs.Model.{Opening, opening, opened, feed, close, took, closed, taken, written, outcome, replies}
 
 -- a card of 2 by 1, dithered
@@ -29,5 +30,5 @@ in-pieces : replies (opened card)
     ∷ record { answer = refuses 30 0; output = [] }
     ∷ []
 unfolding replies outcome taken written upto appended part value white residual valueFrom handed rowValue above valueAt dot begunBytes count
-    frame dotOf bitAt byteAt finished most takes
+    frame dotOf paddedBit byteAt finished most takes
 in-pieces = refl

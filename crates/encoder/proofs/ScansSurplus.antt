@@ -18,7 +18,8 @@ use Rattle.options.specs.declared.Quantize.the-variants.{Threshold, Dither, Ord
 use Rattle.rules.specs.Bits.{upto, appended}
 use Rattle.rules.specs.Diffusion.{part, value, white, residual, valueFrom, handed, rowValue, above, valueAt}
 use Rattle.rules.specs.Rule.{dot}
-use Rattle.quantize.specs.Finished.{setting, begunBytes, count, frame, dotOf, bitAt, byteAt, finished}
+use Rattle.quantize.specs.Finished.{setting, begunBytes, count, frame, dotOf, finished}
+use Rattle.rules.specs.Packed.{paddedBit, byteAt}
 use Rattle.encoder.specs.Make.{checkScans, fileOfScans}
 use Rattle.encoder.proofs.ScanTests.{passed, passes}
 
@@ -52,7 +53,7 @@ unfolding mbiBytes groups fieldsBytes
 two-fronted = refl
 
 two-finished : finished (setting Dither 2 1 2) (127 ∷ 128 ∷ 128 ∷ 128 ∷ []) ≡ 0x40 ∷ 0x80 ∷ []
-unfolding upto appended part value white residual valueFrom handed rowValue above valueAt dot begunBytes count frame dotOf bitAt byteAt finished
+unfolding upto appended part value white residual valueFrom handed rowValue above valueAt dot begunBytes count frame dotOf paddedBit byteAt finished
 two-finished = refl
 
 two-surplus : (ρ : List ℕ) → fileOfScans 16 dithering 2 1 2 (scans ++ ρ) [] [] 4 ≡ fileOfScans 16 dithering 2 1 2 scans [] [] 4

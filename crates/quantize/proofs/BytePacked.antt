@@ -9,20 +9,21 @@ use native.Mathlib.Omega.{arith}
 use borrow.Author.Tests.{lt-ltb, le-ltb}
 use Rattle.image.specs.Geometry.{rowBytes}
 use Rattle.rules.specs.Bits.{appended, digits}
-use Rattle.quantize.specs.Finished.{Setting, Bytewise, count, bitAt, byteAt}
+use Rattle.quantize.specs.Finished.{Setting, Bytewise, count}
+use Rattle.rules.specs.Packed.{paddedBit, byteAt}
 use Rattle.quantize.specs.Internal.Place.{begunBy, Begun}
 use Rattle.rules.proofs.DigitsAppended.{appended-ext, digits-tail}
 use Rattle.quantize.proofs.Places.{div-at, mod-at, col-row, on-row, on-column, count-now}
 
-pub bit-in : (w : ℕ) (d : ℕ → ℕ) (r c : ℕ) → c < w → bitAt w d r c ≡ d (r * w + c)
-unfolding bitAt
+pub bit-in : (w : ℕ) (d : ℕ → ℕ) (r c : ℕ) → c < w → paddedBit w d r c ≡ d (r * w + c)
+unfolding paddedBit
 bit-in w d r c h = rw (lt-ltb c w h)
 
-pub bit-past : (w : ℕ) (d : ℕ → ℕ) (r c : ℕ) → w ≤ c → bitAt w d r c ≡ 0
-unfolding bitAt
+pub bit-past : (w : ℕ) (d : ℕ → ℕ) (r c : ℕ) → w ≤ c → paddedBit w d r c ≡ 0
+unfolding paddedBit
 bit-past w d r c h = rw (le-ltb c w h)
 
-pub byte-at : (w : ℕ) (d : ℕ → ℕ) (q b : ℕ) → b < rowBytes w → byteAt w d (q * rowBytes w + b) ≡ digits (λ i. bitAt w d q (8 * b + i)) 8
+pub byte-at : (w : ℕ) (d : ℕ → ℕ) (q b : ℕ) → b < rowBytes w → byteAt w d (q * rowBytes w + b) ≡ digits (λ i. paddedBit w d q (8 * b + i)) 8
 unfolding byteAt
 byte-at w d q b h = rw (div-at (rowBytes w) q b h, mod-at (rowBytes w) q b h)
 
@@ -37,7 +38,7 @@ unfolding begunBy
 begun-ext w d e n begun p h b =
     let c = n % w in
     let l = mod-lt n p in
-    b ∙ appended-ext 0 (λ i. bitAt w d (n / w) (8 * (c / 8) + i)) (λ i. bitAt w e (n / w) (8 * (c / 8) + i)) (c % 8)
+    b ∙ appended-ext 0 (λ i. paddedBit w d (n / w) (8 * (c / 8) + i)) (λ i. paddedBit w e (n / w) (8 * (c / 8) + i)) (c % 8)
     (λ i k. bit-in w d (n / w) (8 * (c / 8) + i) (omega arith) ∙ h (8 * (c / 8) + i) (omega arith) ∙ sym (bit-in w e (n / w) (8 * (c / 8) + i) (omega arith)))
 
 -- the byte that sample n goes into
@@ -50,7 +51,7 @@ module _ (s : Setting) (n : ℕ) (wide : 0 < s .width) (d : ℕ → ℕ) where
 
   -- its dots
   abbrev f : ℕ → ℕ
-  f i = bitAt w d (n / w) (8 * (column / 8) + i)
+  f i = paddedBit w d (n / w) (8 * (column / 8) + i)
 
   in-row : column < w
   in-row = mod-lt n wide

@@ -13,7 +13,8 @@ use Rattle.rules.specs.Bits.{bit}
 use Rattle.rules.specs.Diffusion.{Direction, toRight, visited, white, residual, residualAt, valueAt}
 use Rattle.rules.specs.Ordered.{bound, cell}
 use Rattle.rules.specs.Rule.{Rule, threshold, dither, ordered, rightwards, dot}
-use Rattle.quantize.specs.Finished.{Setting, begunBytes, Bytewise, count, frame, dotOf, bitAt, byteAt}
+use Rattle.quantize.specs.Finished.{Setting, begunBytes, Bytewise, count, frame, dotOf}
+use Rattle.rules.specs.Packed.{paddedBit, byteAt}
 use Rattle.rules.proofs.Differences.{lt-or-le}
 use Rattle.rules.proofs.DigitsAppended.{appended-ext}
 use Rattle.rules.proofs.DotCauses.{valueAt-ext, residual-is}
@@ -138,7 +139,7 @@ module _ (s : Setting) (wide : 0 < s .width) (xs ys : List ℕ) where
       appended-ext 0 _ _ 8 (λ i o. here (j / rowBytes w) (j % rowBytes w) i (omega arith) (mod-lt j p) o)
     where
       here : (q b i : ℕ) → q * rowBytes w + b < n / w * rowBytes w + begunBytes (s .rule) (n / w % s .height) (n % w) → b < rowBytes w → i < 8
-          → bitAt w (dotOf s (xs ++ ys)) q (8 * b + i) ≡ bitAt w (dotOf s xs) q (8 * b + i)
+          → paddedBit w (dotOf s (xs ++ ys)) q (8 * b + i) ≡ paddedBit w (dotOf s xs) q (8 * b + i)
       here q b i l m o =
           ⊎-elim
           (λ (k : 8 * b + i < w). bit-in w (dotOf s (xs ++ ys)) q (8 * b + i) k ∙ dot-stays q b i l m o k ∙ sym (bit-in w (dotOf s xs) q (8 * b + i) k))

@@ -15,7 +15,8 @@ use Rattle.rules.specs.Bits.{upto, bit}
 use Rattle.rules.specs.Diffusion.{white}
 use Rattle.rules.specs.Ordered.{bound, cell}
 use Rattle.rules.specs.Rule.{Rule, threshold, dither, ordered, rightwards, dot, roomy}
-use Rattle.quantize.specs.Finished.{Setting, Bytewise, count, frame, dotOf, byteAt, finished}
+use Rattle.quantize.specs.Finished.{Setting, Bytewise, count, frame, dotOf, finished}
+use Rattle.rules.specs.Packed.{byteAt}
 use Rattle.quantize.specs.Internal.Machine.{State, Step, byteStep, stepOf, carried, emitted}
 use Rattle.rules.specs.Internal.Carry.{machineDot, next}
 use Rattle.quantize.specs.Internal.Place.{begunBy, Begun}

@@ -12,7 +12,8 @@ use lib.Seq.{length-take-le, take-at}
 use Rattle.error.specs.Choice.{if}
 use Rattle.image.specs.Geometry.{rowBytes}
 use Rattle.rules.specs.Bits.{upto}
-use Rattle.quantize.specs.Finished.{Setting, count, dotOf, byteAt, finished, newly, most, takes}
+use Rattle.quantize.specs.Finished.{Setting, count, dotOf, finished, newly, most, takes}
+use Rattle.rules.specs.Packed.{byteAt}
 use Rattle.quantize.proofs.Places.{count-rows}
 use Rattle.quantize.proofs.TakenMost.{count-mono}
 use Rattle.rules.proofs.UptoList.{length-upto, upto-ext, upto-add}

@@ -14,7 +14,8 @@ use Rattle.image.specs.Geometry.{rowBytes, planeBytes}
 use Rattle.options.specs.declared.Quantize.{Quantize}
 use Rattle.options.specs.declared.Quantize.the-variants.{Dither}
 use Rattle.rules.specs.Bits.{upto}
-use Rattle.quantize.specs.Finished.{Setting, count, frame, dotOf, bitAt, byteAt, finished, setting}
+use Rattle.quantize.specs.Finished.{Setting, count, frame, dotOf, finished, setting}
+use Rattle.rules.specs.Packed.{paddedBit, byteAt}
 use Rattle.rules.proofs.DigitsAppended.{appended-ext}
 use Rattle.quantize.proofs.Places.{count-rows}
 use Rattle.rules.proofs.UptoList.{length-upto, upto-ext, upto-add}
@@ -25,7 +26,7 @@ use Rattle.quantize.proofs.DotsDepend.{byte-counted}
 module _ (w : ℕ) (wide : 0 < w) where
   -- the bytes of the rows from r on are those of the dots from there on
   byte-behind : (d : ℕ → ℕ) (r j : ℕ) → byteAt w d (r * rowBytes w + j) ≡ byteAt w (λ i. d (r * w + i)) j
-  unfolding byteAt bitAt
+  unfolding byteAt paddedBit
   byte-behind d r j =
       let p : 0 < rowBytes w = omega arith in
       rw (mul-add-div-right p r j, mul-add-mod-self-right r (rowBytes w) j)

@@ -20,7 +20,8 @@ use Rattle.options.specs.declared.Quantize.{Quantize}
 use Rattle.image.specs.Geometry.{rowBytes}
 use Rattle.quantize.specs.declared.engine.Quantizer.{Quantizer}
 use Rattle.quantize.specs.declared.engine.Ran.{Ran}
-use Rattle.quantize.specs.Finished.{Setting, count, byteAt, dotOf, finished, takes, setting}
+use Rattle.quantize.specs.Finished.{Setting, count, dotOf, finished, takes, setting}
+use Rattle.rules.specs.Packed.{byteAt}
 use Rattle.rules.specs.Rule.{meaning, knownRule, roomy}
 use Rattle.quantize.specs.Internal.Engine.{Opens, Holds, Runs}
 use Rattle.quantize.specs.Whole.{refusedBy, quantized, Quantizes}

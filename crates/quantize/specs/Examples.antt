@@ -10,11 +10,12 @@ use Rattle.rules.specs.Bits.{upto, appended}
 use Rattle.rules.specs.Diffusion.{part, value, white, residual, valueFrom, handed, rowValue, above, valueAt, residualAt}
 use Rattle.rules.specs.Ordered.{number, numbers}
 use Rattle.rules.specs.Rule.{dither, rightwards, dot}
-use Rattle.quantize.specs.Finished.{begunBytes, count, frame, dotOf, bitAt, byteAt, finished, most, takes, setting}
+use Rattle.quantize.specs.Finished.{begunBytes, count, frame, dotOf, finished, most, takes, setting}
+use Rattle.rules.specs.Packed.{paddedBit, byteAt}
 
 -- a begun row has finished its whole bytes only, and a full row all of them
 begun : finished (setting (Threshold 128) 9 2 1) (replicate 8 255) ≡ 0xff ∷ []
-unfolding upto appended dot begunBytes count frame dotOf bitAt byteAt finished
+unfolding upto appended dot begunBytes count frame dotOf paddedBit byteAt finished
 begun = refl
 
 -- without room seven samples of eight are taken, and of a narrow row all but the last
@@ -28,7 +29,7 @@ none-of-one = refl
 
 -- the second frame starts clean, and its rows are counted from 0
 second-frame : finished (setting Dither 1 1 2) (127 ∷ 127 ∷ []) ≡ 0x00 ∷ 0x00 ∷ []
-unfolding upto appended part value white residual valueFrom handed rowValue above valueAt dot begunBytes count frame dotOf bitAt byteAt finished
+unfolding upto appended part value white residual valueFrom handed rowValue above valueAt dot begunBytes count frame dotOf paddedBit byteAt finished
 second-frame = refl
 
 -- the side 2: 0 and 2 above 3 and 1

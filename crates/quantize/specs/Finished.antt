@@ -7,7 +7,8 @@ use lib.Dec.{ltb, leb, eqb}
 use lib.ListN.{length, getD, drop}
 use Rattle.error.specs.Choice.{if}
 use Rattle.image.specs.Geometry.{rowBytes}
-use Rattle.rules.specs.Bits.{upto, bit, digits}
+use Rattle.rules.specs.Bits.{upto, bit}
+use Rattle.rules.specs.Packed.{byteAt}
 use Rattle.rules.specs.Diffusion.{Scan}
 use Rattle.rules.specs.Rule.{Rule, threshold, dither, ordered, dot, meaning}
 use Rattle.options.specs.declared.Quantize.{Quantize}
@@ -45,14 +46,6 @@ unfoldable pub dotOf : Setting → List ℕ → ℕ → ℕ
 dotOf s xs n =
     let r = n / s .width in
     bit (dot (s .rule) (s .width) (frame (s .width) (s .height) xs (r / s .height)) (n % s .width) (r % s .height))
-
--- the bit at column c of row r, all frames' rows counted, where the dot of sample n is d n: 0 in the padding
-unfoldable pub bitAt : ℕ → (ℕ → ℕ) → ℕ → ℕ → ℕ
-bitAt w d r c = if (ltb c w) (d (r * w + c)) 0
-
--- byte j of all rows: eight dots, the first one the highest bit
-unfoldable pub byteAt : ℕ → (ℕ → ℕ) → ℕ → ℕ
-byteAt w d j = digits (λ i. bitAt w d (j / rowBytes w) (8 * (j % rowBytes w) + i)) 8
 
 -- the bytes that the samples have finished
 unfoldable pub finished : Setting → List ℕ → List ℕ

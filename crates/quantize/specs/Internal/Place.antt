@@ -2,7 +2,8 @@
 use Prim.Native.Nat.{ℕ, _+_, _-_, _*_, _/_, _%_, _≤_, _<_}
 use mathlib.Core.Path.{_≡_}
 use Rattle.rules.specs.Bits.{digits}
-use Rattle.quantize.specs.Finished.{Setting, bitAt}
+use Rattle.quantize.specs.Finished.{Setting}
+use Rattle.rules.specs.Packed.{paddedBit}
 
 -- after n samples so many frames are not full, and the next sample goes to this row and column
 pub record At (s : Setting) (n frames row column : ℕ) : Type 0 where
@@ -14,7 +15,7 @@ pub record At (s : Setting) (n frames row column : ℕ) : Type 0 where
 
 -- the m first dots of the byte that sample n goes into, as binary digits, where the dot of sample i is d i
 unfoldable pub begunBy : ℕ → (ℕ → ℕ) → ℕ → ℕ → ℕ
-begunBy w d n m = digits (λ i. bitAt w d (n / w) (8 * (n % w / 8) + i)) m
+begunBy w d n m = digits (λ i. paddedBit w d (n / w) (8 * (n % w / 8) + i)) m
 
 -- those before sample n
 abbrev pub Begun : ℕ → (ℕ → ℕ) → ℕ → ℕ → Type 0

@@ -1,0 +1,38 @@
+-- What the functions promise that write whole planes, or whole rows, at once.
+use Prim.Native.Nat.{ℕ, _+_, _*_, _%_, _/_, _≤_}
+use mathlib.Core.Path.{_≡_}
+use mathlib.Core.Bool.{Bool, true, _&&_}
+use mathlib.Core.List.{List, _++_}
+use lib.Dec.{leb}
+use lib.ListN.{length, getD, drop}
+use Rattle.error.specs.Choice.{if}
+use Rattle.image.specs.Geometry.{rowBytes}
+use Rattle.rules.specs.Bits.{upto, bit}
+use Rattle.rules.specs.Diffusion.{Scan, white, valueAt}
+use Rattle.rules.specs.Packed.{byteAt}
+use Rattle.rules.specs.Rule.{rightwards}
+use Rattle.rules.specs.Internal.Kernels.{thresholdBit}
+use Rattle.rules.specs.Internal.Row.{Plain}
+
+-- the bytes of h rows of w dots, where the dot of sample n is d n
+abbrev pub plane : ℕ → ℕ → (ℕ → ℕ) → List ℕ
+plane w h d = upto (h * rowBytes w) (byteAt w d)
+
+-- the plane at the output's front, where there are samples and room for it, and otherwise the output as it was
+abbrev pub planeIn : ℕ → ℕ → (ℕ → ℕ) → ℕ → List ℕ → List ℕ
+planeIn w h d samples out = if (leb (w * h) samples && leb (h * rowBytes w) (length out)) (plane w h d ++ drop (h * rowBytes w) out) out
+
+-- the scan whose samples stand row by row in a list
+abbrev pub scanOf : ℕ → List ℕ → Scan
+scanOf w gray x y = getD gray (y * w + x) 0
+
+-- the dot of sample n under dithering
+abbrev pub ditherBit : ℕ → List ℕ → ℕ → ℕ
+ditherBit w gray n = bit (white (valueAt rightwards w (scanOf w gray) (n % w) (n / w)))
+
+-- r says that the first w samples are black and white alone: then their row is written, white where a sample is white
+pub record PlainRow (w : ℕ) (gray out : List ℕ) (r : Bool) (out′ : List ℕ) : Type 0 where
+  pub beyond : drop (rowBytes w) out′ ≡ drop (rowBytes w) out
+  pub there : r ≡ true → (w ≤ length gray) × (rowBytes w ≤ length out)
+  pub plain : r ≡ true → Plain gray 0 w
+  pub written : r ≡ true → out′ ≡ plane w 1 (thresholdBit 128 gray) ++ drop (rowBytes w) out
