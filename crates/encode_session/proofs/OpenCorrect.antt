@@ -21,7 +21,8 @@ use Rattle.header.specs.Write.{extHeader}
 use Rattle.options.specs.declared.Quantize.{Quantize}
 use Rattle.options.specs.declared.Quantize.the-variants.{Threshold, Dither, Ordered}
 use Rattle.quantize.specs.declared.engine.Quantizer.{Quantizer}
-use Rattle.rules.specs.Rule.{meaning, roomy, knownRule}
+use Rattle.rules.specs.Rule.{Rule, meaning, roomy, knownRule}
+use Rattle.rules.proofs.RuleAsked.{asked-if}
 use Rattle.quantize.specs.Internal.Engine.{Opens as QOpens, Holds as QHolds}
 use Rattle.encode_session.specs.declared.EncodeOpened.{EncodeOpened}
 use Rattle.encode_session.specs.Model.{Opening, settingOf, serves, header, opened}
@@ -42,6 +43,15 @@ module _ (a : Opening) (work : ℕ) where
   -- the header of the fields, behind the tests
   abbrev fields : Answer (List ℕ)
   fields = extHeader (a .options .strict) (a .width) (a .height) (a .options .ext) (a .text) (a .lengths)
+
+  header-is :
+      header a work
+      ≡ if (eqb (a .width) 0 || eqb (a .height) 0) (refuses 8 0)
+      (if (knownRule (a .options .quantize)) (if (serves a work) fields (refuses 28 0)) (refuses 29 0))
+  unfolding header
+  header-is =
+      ap (λ (r : Answer (List ℕ)). if (eqb (a .width) 0 || eqb (a .height) 0) (refuses 8 0) r)
+      (asked-if (a .options .quantize) (λ (rule : Rule). if (roomy rule (a .width) work) fields (refuses 28 0)))
 
   pub no-width : a .width ≡ 0 → header a work ≡ refuses 8 0
   unfolding header
@@ -76,9 +86,8 @@ module _ (a : Opening) (work : ℕ) where
     pub headed : fields ≡ gives bytes
 
   pub passed : (bytes : List ℕ) → header a work ≡ gives bytes → Passed bytes
-  unfolding header
   passed bytes given =
-      go (eqb (a .width) 0) (eqb (a .height) 0) (knownRule (a .options .quantize)) (serves a work) refl refl refl refl given
+      go (eqb (a .width) 0) (eqb (a .height) 0) (knownRule (a .options .quantize)) (serves a work) refl refl refl refl (sym header-is ∙ given)
     where
       go : (p q r s : Bool) → eqb (a .width) 0 ≡ p → eqb (a .height) 0 ≡ q → knownRule (a .options .quantize) ≡ r → serves a work ≡ s
           → if (p || q) (refuses 8 0) (if r (if s fields (refuses 28 0)) (refuses 29 0)) ≡ gives bytes → Passed bytes

@@ -6,11 +6,11 @@ use mathlib.Core.List.{List, [], _∷_, _++_}
 use lib.Dec.{eqb}
 use lib.ListN.{length, take, drop}
 use Rattle.error.specs.Choice.{if}
-use Rattle.error.specs.Answer.{Answer, gives, refuses}
+use Rattle.error.specs.Answer.{Answer, gives, refuses, bind}
 use Rattle.header.specs.Write.{extHeader}
 use Rattle.options.specs.Settings.{madeFrames}
 use Rattle.options.specs.declared.EncodeOptions.{EncodeOptions}
-use Rattle.rules.specs.Rule.{meaning, roomy, knownRule}
+use Rattle.rules.specs.Rule.{meaning, roomy, ruleAsked}
 use Rattle.quantize.specs.Finished.{setting, Setting, takes, newly, wholeFrames}
 
 -- what a session is opened with; pairs of the fields are two lengths each, beside one text
@@ -36,11 +36,10 @@ serves a work = roomy (meaning (a .options .quantize)) (a .width) work
 unfoldable pub header : Opening → ℕ → Answer (List ℕ)
 header a work =
     if (eqb (a .width) 0 || eqb (a .height) 0) (refuses 8 0)
-    (if (knownRule (a .options .quantize))
-    (if (serves a work)
+    (bind (ruleAsked (a .options .quantize))
+    (λ rule. if (roomy rule (a .width) work)
     (extHeader (a .options .strict) (a .width) (a .height) (a .options .ext) (a .text) (a .lengths))
-    (refuses 28 0))
-    (refuses 29 0))
+    (refuses 28 0)))
 
 -- document 01: the plain machine
 pub record Model : Type 0 where

@@ -1,6 +1,6 @@
 -- The tests of whole making, case by case.
 use Prim.Native.Nat.{ℕ, _*_, _/_, _≤_, _<_}
-use mathlib.Core.Path.{_≡_, refl, ap, _∙_}
+use mathlib.Core.Path.{_≡_, refl, sym, ap, _∙_}
 use mathlib.Core.Bool.{Bool, true, false}
 use native.Mathlib.Nat.{mul-pos, div-lt-iff-lt-mul}
 use native.Mathlib.Omega.{arith}
@@ -10,7 +10,8 @@ use Rattle.error.specs.Choice.{if}
 use Rattle.error.specs.Answer.{Answer, gives, refuses, bind}
 use Rattle.laws.proofs.Tests.{zero-one}
 use Rattle.options.specs.declared.Quantize.{Quantize}
-use Rattle.rules.specs.Rule.{meaning, roomy, knownRule}
+use Rattle.rules.specs.Rule.{Rule, meaning, roomy, knownRule, ruleAsked}
+use Rattle.rules.proofs.RuleAsked.{asked-if}
 use Rattle.encoder.specs.File.{checkCount}
 use Rattle.encoder.specs.Make.{checkScans}
 use Rattle.encoder.proofs.CountTests.{Counted, counted, accepted}
@@ -35,7 +36,12 @@ module _ (ceiling : ℕ) (rule : Quantize) (w h n gray work : ℕ) where
 
   by-count : (a : Answer (Unit {0})) → checkCount ceiling w h n ≡ a → scans ≡ bind a (λ _. rest)
   unfolding checkScans
-  by-count a e = ap (λ (a : Answer (Unit {0})). bind a (λ _. rest)) e
+  by-count a e =
+      ap (λ (a : Answer (Unit {0})). bind a (λ _. bind (ruleAsked rule) behind)) e
+      ∙ ap (λ (r : Answer (Unit {0})). bind a (λ _. r)) (asked-if rule behind)
+    where
+      behind : Rule → Answer (Unit {0})
+      behind asked = if (roomy asked w work) (if (ltb gray (n * (w * h))) (refuses 22 0) (gives tt)) (refuses 28 0)
 
   pub not-counted : (code place : ℕ) → checkCount ceiling w h n ≡ refuses code place → scans ≡ refuses code place
   not-counted code place e = by-count (refuses code place) e
@@ -73,8 +79,9 @@ module _ (ceiling : ℕ) (rule : Quantize) (w h n gray work : ℕ) where
       ∙ rw (p .known, p .room, le-ltb gray (n * (w * h)) (p .enough))
 
   pub passed : scans ≡ gives tt → Passed ceiling rule w h n gray work
-  unfolding checkScans
-  passed = go (checkCount ceiling w h n) (knownRule rule) (roomy (meaning rule) w work) (ltb gray (n * (w * h))) refl refl refl refl
+  passed e =
+      go (checkCount ceiling w h n) (knownRule rule) (roomy (meaning rule) w work) (ltb gray (n * (w * h))) refl refl refl refl
+      (sym (by-count (checkCount ceiling w h n) refl) ∙ e)
     where
       go : (a : Answer (Unit {0})) (b c d : Bool) → checkCount ceiling w h n ≡ a → knownRule rule ≡ b → roomy (meaning rule) w work ≡ c
           → ltb gray (n * (w * h)) ≡ d → bind a (λ _. tests b c d) ≡ gives tt → Passed ceiling rule w h n gray work

@@ -12,7 +12,7 @@ use Rattle.error.specs.Answer.{Answer, gives, refuses, bind}
 use Rattle.error.specs.Emits.{Emits}
 use Rattle.options.specs.declared.EncodeOptions.{EncodeOptions}
 use Rattle.options.specs.declared.Quantize.{Quantize}
-use Rattle.rules.specs.Rule.{carries, meaning, roomy, knownRule}
+use Rattle.rules.specs.Rule.{carries, meaning, roomy, ruleAsked}
 use Rattle.quantize.specs.Finished.{setting, finished}
 use Rattle.encoder.specs.File.{checkCount, fileOf}
 
@@ -20,11 +20,10 @@ use Rattle.encoder.specs.File.{checkCount, fileOf}
 unfoldable pub checkScans : ℕ → Quantize → ℕ → ℕ → ℕ → ℕ → ℕ → Answer (Unit {0})
 checkScans ceiling rule width height count gray work =
     bind (checkCount ceiling width height count)
-    (λ _. if (knownRule rule)
-    (if (roomy (meaning rule) width work)
+    (λ _. bind (ruleAsked rule)
+    (λ asked. if (roomy asked width work)
     (if (ltb gray (count * (width * height))) (refuses 22 0) (gives tt))
-    (refuses 28 0))
-    (refuses 29 0))
+    (refuses 28 0)))
 
 -- so many scans' bytes: what their samples finish
 abbrev pub scanBytes : Quantize → ℕ → ℕ → List ℕ → ℕ → List ℕ

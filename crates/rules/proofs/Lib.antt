@@ -18,3 +18,4 @@ pub mod ResidualRange
 pub mod Words
 pub mod WordCompared
 pub mod WordGathered
+pub mod RuleAsked

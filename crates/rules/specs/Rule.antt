@@ -6,6 +6,7 @@ use lib.Dec.{leb}
 use Rattle.rules.specs.Diffusion.{Direction, toRight, Scan, white, valueAt}
 use Rattle.rules.specs.Ordered.{bound, cell, numbers, exponent, knownSide}
 use Rattle.error.specs.Choice.{if}
+use Rattle.error.specs.Answer.{Answer, gives, refuses}
 use Rattle.options.specs.declared.Quantize.{Quantize}
 use Rattle.options.specs.declared.Quantize.the-variants.{Threshold, Dither, Ordered}
 
@@ -45,3 +46,7 @@ carries (ordered side table) = false
 -- a work buffer is long enough: carries need 2 × width numbers
 abbrev pub roomy : Rule → ℕ → ℕ → Bool
 roomy rule w work = if (carries rule) (leb (2 * w) work) true
+
+-- the rule that a setting asks for: "29, 0: .. unknown" otherwise
+abbrev pub ruleAsked : Quantize → Answer Rule
+ruleAsked rule = if (knownRule rule) (gives (meaning rule)) (refuses 29 0)
