@@ -27,6 +27,7 @@ use Rattle.replay.specs.Decode as Decode
 use Rattle.replay.specs.declared.EncodeReplayed.{EncodeReplayed}
 use Rattle.replay.specs.declared.DecodeReplayed.{DecodeReplayed}
 use Rattle.bench.specs.Made.{codeOf}
+use Rattle.options.specs.Settings.{madeFrames}
 
 -- ---- settings
 
@@ -94,4 +95,4 @@ pub record MadeWhole (width height : ℕ) (dithered : Bool) (gray out : List ℕ
     (work′ : List ℤ) : Type 0 where
   pub told : Answer ℕ
   pub code : r ≡ codeOf told
-  pub makes : Makes 16 (rule dithered) width height 1 gray [] [] out work told out′ work′
+  pub makes : Makes madeFrames (rule dithered) width height 1 gray [] [] out work told out′ work′

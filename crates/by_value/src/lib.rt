@@ -7,6 +7,7 @@ use ext_write::Parameter;
 use header::ExtPresence;
 use image::PixelFormat;
 use options::EncodeOptions;
+ghost use Rattle.options.specs.Settings.{madeFrames};
 ghost use mathlib.Core.Path.{_≡_};
 ghost use mathlib.Core.Bool.{true, false};
 ghost use Prim.Native.Nat.{min};
@@ -101,7 +102,7 @@ pub fn encode_gray8(
     work: &mut [i16],
     out: &mut [u8],
 ) -> Written
-    ensures { λ r. ⌜ Makes 16 options width height count (now (gray .entry)) (now (text .entry)) (flattened (take pairs list)) (now (out .entry)) (now (work .entry)) (written r) (now (out .exit)) (now (work .exit)) ⌝ }
+    ensures { λ r. ⌜ Makes madeFrames options width height count (now (gray .entry)) (now (text .entry)) (flattened (take pairs list)) (now (out .entry)) (now (work .entry)) (written r) (now (out .exit)) (now (work .exit)) ⌝ }
 {
     let n = counted(pairs);
     encoder::encode_gray8(
@@ -130,7 +131,7 @@ pub fn encode_images(
     pairs: usize,
     out: &mut [u8],
 ) -> Written
-    ensures { λ r. ⌜ Emits (fileOfPlanes 16 options format width height count stride (now (planes .entry)) (now (text .entry)) (flattened (take pairs list))) (written r) (now (out .entry)) (now (out .exit)) ⌝ }
+    ensures { λ r. ⌜ Emits (fileOfPlanes madeFrames options format width height count stride (now (planes .entry)) (now (text .entry)) (flattened (take pairs list))) (written r) (now (out .entry)) (now (out .exit)) ⌝ }
 {
     let n = counted(pairs);
     encoder::encode_images(

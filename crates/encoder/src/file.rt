@@ -7,6 +7,7 @@ use ext_write::FieldsCheck;
 use ext_write::PairsBegun;
 use options::EncodeOptions;
 use options::MAX_MADE_FRAMES;
+ghost use Rattle.options.specs.Settings.{madeFrames};
 ghost use mathlib.Core.Path.{_≡_};
 ghost use Prim.Native.Nat.{_-_};
 ghost use Rattle.error.specs.Answer.{checked, refuses};
@@ -24,7 +25,7 @@ pub(crate) fn refused(code: u8) -> Checked
 
 // Whether a file has this size and so many frames.
 pub(crate) fn check_count(width: u32, height: u32, count: usize) -> Checked
-    ensures { λ r. ⌜ checked r ≡ checkCount 16 width height count ⌝ }
+    ensures { λ r. ⌜ checked r ≡ checkCount madeFrames width height count ⌝ }
 {
     if width == 0 {
         return refused(ZERO_DIMENSION);

@@ -13,6 +13,7 @@ use ext_write::Parameter;
 use image::PlaneLayout;
 use options::EncodeOptions;
 use options::Quantize;
+ghost use Rattle.options.specs.Settings.{madeFrames};
 ghost use mathlib.Core.Path.{_≡_};
 ghost use Prim.Native.Nat.{_*_, _≤_};
 ghost use lib.ListN.{length};
@@ -39,7 +40,7 @@ fn check_scans(
     gray: usize,
     work: usize,
 ) -> Checked
-    ensures { λ r. ⌜ checked r ≡ checkScans 16 rule width height count gray work ⌝ }
+    ensures { λ r. ⌜ checked r ≡ checkScans madeFrames rule width height count gray work ⌝ }
 {
     let counted = check_count(width, height, count);
     let Checked::Accepted = counted else {
@@ -61,7 +62,7 @@ fn check_scans(
 // The planes of scans that passed the test, each in its own stretch of the lent output.
 fn put_scans(scans: Scans, gray: &[u8], rule: Quantize, work: &mut [i16], out: &mut [u8])
     requires { ⌜ Laid (scans .layout) ⌝ }
-    requires { ⌜ checkScans 16 rule (scans .layout .width) (scans .layout .height) (scans .count) (length (now gray)) (length (now work)) ≡ gives tt ⌝ }
+    requires { ⌜ checkScans madeFrames rule (scans .layout .width) (scans .layout .height) (scans .count) (length (now gray)) (length (now work)) ≡ gives tt ⌝ }
     requires { ⌜ scans .count * planeBytes (scans .layout .width) (scans .layout .height) ≤ length (now out) ⌝ }
     ensures { λ r. ⌜ PutsScans rule (scans .layout .width) (scans .layout .height) (scans .count) (now (gray .entry)) (now (out .entry)) (now (work .entry)) (now (out .exit)) (now (work .exit)) ⌝ }
 {
@@ -90,7 +91,7 @@ fn begin_made(
     out: &mut [u8],
 ) -> PairsBegun
     requires { ⌜ Laid (scans .layout) ⌝ }
-    requires { ⌜ checkScans 16 (options .quantize) (scans .layout .width) (scans .layout .height) (scans .count) (length (now gray)) (length (now work)) ≡ gives tt ⌝ }
+    requires { ⌜ checkScans madeFrames (options .quantize) (scans .layout .width) (scans .layout .height) (scans .count) (length (now gray)) (length (now work)) ≡ gives tt ⌝ }
     ensures { λ r. ⌜ BeginsMade (scans .layout .width) (scans .layout .height) (scans .count) (now (gray .entry)) options (now (text .entry)) found (now (work .entry)) (now (work .exit)) (now (out .entry)) (now (out .exit)) r ⌝ }
 {
     let rule = options.quantize;
@@ -156,7 +157,7 @@ pub fn encode_gray8(
     work: &mut [i16],
     out: &mut [u8],
 ) -> Written
-    ensures { λ r. ⌜ Makes 16 options width height count (now (gray .entry)) (now (text .entry)) (flattened (now (parameters .entry))) (now (out .entry)) (now (work .entry)) (written r) (now (out .exit)) (now (work .exit)) ⌝ }
+    ensures { λ r. ⌜ Makes madeFrames options width height count (now (gray .entry)) (now (text .entry)) (flattened (now (parameters .entry))) (now (out .entry)) (now (work .entry)) (written r) (now (out .exit)) (now (work .exit)) ⌝ }
 {
     let found = ext_write::check_parameters(text, parameters, options.strict);
     let begun = begin_gray8(
@@ -185,7 +186,7 @@ pub fn encode_gray8_lengths(
     work: &mut [i16],
     out: &mut [u8],
 ) -> Written
-    ensures { λ r. ⌜ Makes 16 options width height count (now (gray .entry)) (now (text .entry)) (now (lengths .entry)) (now (out .entry)) (now (work .entry)) (written r) (now (out .exit)) (now (work .exit)) ⌝ }
+    ensures { λ r. ⌜ Makes madeFrames options width height count (now (gray .entry)) (now (text .entry)) (now (lengths .entry)) (now (out .entry)) (now (work .entry)) (written r) (now (out .exit)) (now (work .exit)) ⌝ }
 {
     let found = ext_write::check_lengths(text, lengths, options.strict);
     let begun = begin_gray8(

@@ -11,6 +11,7 @@ use ext_write::Parameter;
 use image::PixelFormat;
 use image::PlaneLayout;
 use options::EncodeOptions;
+ghost use Rattle.options.specs.Settings.{madeFrames};
 ghost use mathlib.Core.Path.{_≡_};
 ghost use mathlib.Core.List.{_++_};
 ghost use Prim.Native.Nat.{_*_, _^_, _≤_, _<_};
@@ -42,7 +43,7 @@ fn needed_bytes(width: u32, height: u32, stride: usize) -> usize
 
 // Whether so many bytes hold so many planes; their total may pass 64 bits.
 fn check_planes(width: u32, height: u32, count: usize, stride: usize, bytes: usize) -> Checked
-    ensures { λ r. ⌜ checked r ≡ checkPlanes 16 width height count stride bytes ⌝ }
+    ensures { λ r. ⌜ checked r ≡ checkPlanes madeFrames width height count stride bytes ⌝ }
 {
     match check_count(width, height, count) {
         Checked::Accepted => {}
@@ -65,7 +66,7 @@ fn check_planes(width: u32, height: u32, count: usize, stride: usize, bytes: usi
 // Planes that were tested, as a file has them, each in its own stretch of the lent output.
 fn write_planes(lent: Planes, planes: &[u8], out: &mut [u8])
     requires { ⌜ Laid (lent .layout) ⌝ }
-    requires { ⌜ checkPlanes 16 (lent .layout .width) (lent .layout .height) (lent .count) (lent .stride) (length (now planes)) ≡ gives tt ⌝ }
+    requires { ⌜ checkPlanes madeFrames (lent .layout .width) (lent .layout .height) (lent .count) (lent .stride) (length (now planes)) ≡ gives tt ⌝ }
     requires { ⌜ lent .count * planeBytes (lent .layout .width) (lent .layout .height) ≤ length (now out) ⌝ }
     ensures { λ r. ⌜ now (out .exit) ≡ wirePlanes (lent .format) (lent .layout .width) (lent .layout .height) (lent .stride) (now (planes .entry)) (lent .count) ++ drop (lent .count * planeBytes (lent .layout .width) (lent .layout .height)) (now (out .entry)) ⌝ }
 {
@@ -103,7 +104,7 @@ fn begin_file(
     out: &mut [u8],
 ) -> PairsBegun
     requires { ⌜ Laid (lent .layout) ⌝ }
-    requires { ⌜ checkPlanes 16 (lent .layout .width) (lent .layout .height) (lent .count) (lent .stride) (length (now planes)) ≡ gives tt ⌝ }
+    requires { ⌜ checkPlanes madeFrames (lent .layout .width) (lent .layout .height) (lent .count) (lent .stride) (length (now planes)) ≡ gives tt ⌝ }
     ensures { λ r. ⌜ BeginsFile (lent .layout .width) (lent .layout .height) (lent .count) (now (planes .entry)) (lent .stride) (lent .format) options (now (text .entry)) found (now (out .entry)) (now (out .exit)) r ⌝ }
 {
     let width = lent.layout.width;
@@ -175,7 +176,7 @@ pub fn encode_images(
     parameters: &[Parameter],
     out: &mut [u8],
 ) -> Written
-    ensures { λ r. ⌜ Emits (fileOfPlanes 16 options format width height count stride (now (planes .entry)) (now (text .entry)) (flattened (now (parameters .entry)))) (written r) (now (out .entry)) (now (out .exit)) ⌝ }
+    ensures { λ r. ⌜ Emits (fileOfPlanes madeFrames options format width height count stride (now (planes .entry)) (now (text .entry)) (flattened (now (parameters .entry)))) (written r) (now (out .entry)) (now (out .exit)) ⌝ }
 {
     let found = ext_write::check_parameters(text, parameters, options.strict);
     let begun = begin_images(
@@ -206,7 +207,7 @@ pub fn encode_images_lengths(
     lengths: &[usize],
     out: &mut [u8],
 ) -> Written
-    ensures { λ r. ⌜ Emits (fileOfPlanes 16 options format width height count stride (now (planes .entry)) (now (text .entry)) (now (lengths .entry))) (written r) (now (out .entry)) (now (out .exit)) ⌝ }
+    ensures { λ r. ⌜ Emits (fileOfPlanes madeFrames options format width height count stride (now (planes .entry)) (now (text .entry)) (now (lengths .entry))) (written r) (now (out .entry)) (now (out .exit)) ⌝ }
 {
     let found = ext_write::check_lengths(text, lengths, options.strict);
     let begun = begin_images(

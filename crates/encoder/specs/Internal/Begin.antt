@@ -16,6 +16,7 @@ use Rattle.encoder.specs.Internal.Parts.{Heads}
 use Rattle.encoder.specs.Make.{Makes}
 use Rattle.encoder.specs.File.{fileOf}
 use Rattle.encoder.specs.Write.{wirePlanes, fileOfPlanes}
+use Rattle.options.specs.Settings.{madeFrames}
 
 -- the header, in front of a body of so many bytes, which has room behind what is answered
 abbrev pub BeginsBefore : ℕ → ℕ → ℕ → EncodeOptions → List ℕ → FieldsCheck → List ℕ → List ℕ → PairsBegun → Type 0
@@ -29,7 +30,7 @@ abbrev pub BeginsMade : ℕ → ℕ → ℕ → List ℕ → EncodeOptions → L
 BeginsMade width height count gray o text found work work′ old new b =
     (lengths : List ℕ) → ChecksPairs (o .strict) text lengths found
     → Left (o .strict) text lengths new b
-    (λ out′. Makes 16 o width height count gray text lengths old work (written (b .answer)) out′ work′)
+    (λ out′. Makes madeFrames o width height count gray text lengths old work (written (b .answer)) out′ work′)
 
 -- planes that were tested, and any planes
 abbrev pub BeginsFile : ℕ → ℕ → ℕ → List ℕ → ℕ → PixelFormat → EncodeOptions → List ℕ → FieldsCheck → List ℕ → List ℕ → PairsBegun → Type 0
@@ -43,4 +44,4 @@ abbrev pub BeginsImages : ℕ → ℕ → ℕ → List ℕ → ℕ → PixelForm
 BeginsImages width height count planes stride format o text found old new b =
     (lengths : List ℕ) → ChecksPairs (o .strict) text lengths found
     → Left (o .strict) text lengths new b
-    (Emits (fileOfPlanes 16 o format width height count stride planes text lengths) (written (b .answer)) old)
+    (Emits (fileOfPlanes madeFrames o format width height count stride planes text lengths) (written (b .answer)) old)
