@@ -6,7 +6,8 @@ use native.Mathlib.Numerals.{add-one}
 use native.Mathlib.Omega.{arith}
 use borrow.Rule.Slice.PartMut.{midOf, putMid, post-is}
 use lib.ListN.{length, take, drop, getD, set, length-append, length-take, length-drop}
-use lib.Seq.{length-take-le, take-all, take-suc, take-at, take-add, drop-cons, drop-drop, drop-append-add, drop-length, append-snoc, set-at, getD-at}
+use lib.Seq.{length-take-le, take-all, take-suc, take-at, take-add, append-snoc, set-at, getD-at}
+use lib.Seq.{drop-cons, drop-drop, drop-append-add, drop-length}
 
 pub record FilledTo (target l₀ l : List ℕ) (i : ℕ) : Type 0 where
   pub same : length target ≡ length l₀
