@@ -26,7 +26,7 @@ fn copy_bytes(from: &[u8], to: &mut [u8])
     }
 }
 
-// A block of 16 bytes, which one store writes.
+// The bytes of a list of 16.
 fn block(from: &[u8]) -> [u8; 16]
     requires { ⌜ length (now from) ≡ 16 ⌝ }
     ensures { λ r. ⌜ r ≡ now (from .entry) ⌝ }
