@@ -1,11 +1,13 @@
 -- A list that is filled from the front: its first i elements are those of `target`, and the others as they were.
-use Prim.Native.Nat.{ℕ, suc, _+_, _≤_, _<_}
+use Prim.Native.Nat.{ℕ, suc, _+_, _-_, _≤_, _<_}
 use mathlib.Core.Path.{_≡_, refl, sym, ap, _∙_}
-use mathlib.Core.List.{List, [], _∷_, _++_, append-nil}
+use mathlib.Core.List.{List, [], _∷_, _++_, append-assoc, append-nil}
 use native.Mathlib.Numerals.{add-one}
 use native.Mathlib.Omega.{arith}
+use borrow.Rule.Slice.PartMut.{midOf, putMid, post-is}
 use lib.ListN.{length, take, drop, getD, set, length-append, length-take, length-drop}
-use lib.Seq.{length-take-le, take-all, take-suc, drop-cons, drop-length, append-snoc, set-at, getD-at}
+use lib.Seq.{length-take-le, take-all, take-suc, take-at, take-add, append-snoc, set-at, getD-at}
+use lib.Seq.{drop-cons, drop-drop, drop-append-add, drop-length}
 
 pub record FilledTo (target l₀ l : List ℕ) (i : ℕ) : Type 0 where
   pub same : length target ≡ length l₀
@@ -47,6 +49,30 @@ module _ {target l₀ : List ℕ} where
               ∙ ap (λ (k : ℕ). take k target ++ drop k l₀) (sym (add-one i));
         }
 
+    -- what stands behind a part that begins here is still as it was
+    behind : (e : ℕ) → i ≤ e → drop e (take i target ++ drop i l₀) ≡ drop e l₀
+    behind e p =
+        let n : e ≡ length (take i target) + (e - i) = omega (arith, head-length) in
+        let m : i + (e - i) ≡ e = omega arith in
+        ap (λ (j : ℕ). drop j (take i target ++ drop i l₀)) n
+        ∙ drop-append-add (take i target) (drop i l₀) (e - i)
+        ∙ drop-drop (e - i) i l₀
+        ∙ ap (λ (j : ℕ). drop j l₀) m
+
+    -- the elements up to index e at once
+    pub filled-part : (e : ℕ) (new : List ℕ) → i ≤ e → e ≤ length l₀ → new ≡ midOf i (e - i) target
+        → FilledTo target l₀ (putMid i (e - i) l new) e
+    filled-part e new p q r =
+        let m : i + (e - i) ≡ e = omega arith in
+        record {
+          same = f .same;
+          within = q;
+          now-is =
+              rw (post-is i e l p, f .now-is, take-at (take i target) (drop i l₀) i head-length, behind e p, r)
+              (sym (append-assoc (take i target) (midOf i (e - i) target) (drop e l₀))
+              ∙ ap (λ (r : List ℕ). r ++ drop e l₀) (sym (take-add i (e - i) target) ∙ ap (λ (j : ℕ). take j target) m));
+        }
+
     pub done : length l₀ ≤ i → l ≡ target
     done h =
         let e : i ≡ length l₀ = omega (arith, f .within) in
@@ -55,3 +81,13 @@ module _ {target l₀ : List ℕ} where
         ∙ ap (λ (k : ℕ). target ++ drop k l₀) e
         ∙ ap (λ (r : List ℕ). target ++ r) (drop-length l₀)
         ∙ append-nil target
+
+  module _ {l : List ℕ} {i : ℕ} (f : FilledTo target l₀ l i) where
+    -- the rest at once
+    pub rest-filled : (new : List ℕ) → new ≡ midOf i (length target - i) target → putMid i (length l - i) l new ≡ target
+    rest-filled new r =
+        let k : length l ≡ length l₀ = kept-length f in
+        let n : length target ≡ length l = f .same ∙ sym k in
+        done
+        (filled-part f (length l) new (omega (arith, f .within)) (omega arith) (r ∙ ap (λ (j : ℕ). midOf i (j - i) target) n))
+        (omega arith)

@@ -14,8 +14,8 @@ pub(crate) fn zero(row: &mut [u8])
     }
 }
 
-// The bytes of another list.
-pub(crate) fn copy(from: &[u8], to: &mut [u8])
+// The bytes of another list, one by one.
+fn copy_bytes(from: &[u8], to: &mut [u8])
     requires { ⌜ length (now from) ≡ length (now to) ⌝ }
     ensures { λ r. ⌜ now (to .exit) ≡ now (from .entry) ⌝ }
 {
@@ -24,6 +24,32 @@ pub(crate) fn copy(from: &[u8], to: &mut [u8])
         to[i] = from[i];
         i += 1;
     }
+}
+
+// The bytes of a list of 16.
+fn block(from: &[u8]) -> [u8; 16]
+    requires { ⌜ length (now from) ≡ 16 ⌝ }
+    ensures { λ r. ⌜ r ≡ now (from .entry) ⌝ }
+{
+    let mut b = [0u8; 16];
+    copy_bytes(from, &mut b);
+    b
+}
+
+// The bytes of another list: block by block, each read whole before it is stored, and then the rest.
+pub(crate) fn copy(from: &[u8], to: &mut [u8])
+    requires { ⌜ length (now from) ≡ length (now to) ⌝ }
+    ensures { λ r. ⌜ now (to .exit) ≡ now (from .entry) ⌝ }
+{
+    let n = to.len();
+    let mut i: usize = 0;
+    while 15 < n - i {
+        let end = i + 16;
+        let b = block(&from[i..end]);
+        copy_bytes(&b, &mut to[i..end]);
+        i = end;
+    }
+    copy_bytes(&from[i..], &mut to[i..]);
 }
 
 // The inverted bytes of another list.

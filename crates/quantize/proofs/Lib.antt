@@ -21,3 +21,4 @@ pub mod WholePlanes
 pub mod FramesJoined
 pub mod FramesDone
 pub mod FinishedGrows
+pub mod PlaneFinished

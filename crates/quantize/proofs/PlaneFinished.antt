@@ -1,0 +1,90 @@
+-- One frame's bytes as a plane of dots, each by its sample's number: what a plane that is written at once has to hold.
+-- Assumes nothing.
+use Prim.Native.Nat.{ℕ, _+_, _*_, _/_, _%_, _≤_, _<_}
+use mathlib.Core.Path.{_≡_, sym, ap, _∙_, fun-ext}
+use mathlib.Core.Logic.{⊎-elim}
+use mathlib.Core.List.{List, _++_}
+use native.Mathlib.Nat.{div-lt-iff-lt-mul, div-eq-of-lt, mod-eq-of-lt}
+use native.Mathlib.Omega.{arith}
+use lib.ListN.{length, getD, take, drop, take-append-drop}
+use lib.Seq.{length-take-le}
+use Rattle.laws.proofs.Products.{up-to}
+use Rattle.image.specs.Geometry.{rowBytes}
+use Rattle.options.specs.declared.Quantize.{Quantize}
+use Rattle.options.specs.declared.Quantize.the-variants.{Threshold, Dither}
+use Rattle.rules.specs.Bits.{upto, bit}
+use Rattle.rules.specs.Diffusion.{white, valueAt}
+use Rattle.rules.specs.Internal.Kernels.{thresholdBit}
+use Rattle.rules.specs.Rule.{rightwards, dot}
+use Rattle.quantize.specs.Finished.{Setting, count, frame, dotOf, bitAt, byteAt, finished, setting}
+use Rattle.rules.proofs.Differences.{lt-or-le}
+use Rattle.rules.proofs.DigitsAppended.{appended-ext}
+use Rattle.rules.proofs.UptoList.{upto-ext}
+use Rattle.quantize.proofs.BytePacked.{bit-in, bit-past}
+use Rattle.quantize.proofs.DotsDepend.{place-of, byte-counted}
+use Rattle.quantize.proofs.WholePlanes.{count-all}
+
+-- ---- the bytes of h rows depend on the dots of these rows only
+
+module _ (w h : ℕ) (wide : 0 < w) (d e : ℕ → ℕ) (same : (n : ℕ) → n < h * w → d n ≡ e n) where
+  bit-same : (q c : ℕ) → q < h → bitAt w d q c ≡ bitAt w e q c
+  bit-same q c l =
+      ⊎-elim
+      (λ (k : c < w). bit-in w d q c k ∙ same (q * w + c) (omega (arith, up-to w q h l)) ∙ sym (bit-in w e q c k))
+      (λ (k : w ≤ c). bit-past w d q c k ∙ sym (bit-past w e q c k))
+      (lt-or-le c w)
+
+  rows-same : upto (h * rowBytes w) (byteAt w d) ≡ upto (h * rowBytes w) (byteAt w e)
+  unfolding byteAt
+  rows-same =
+      let p : 0 < rowBytes w = omega arith in
+      upto-ext (byteAt w d) (byteAt w e) (h * rowBytes w)
+      (λ j l. appended-ext 0 _ _ 8 (λ i o. bit-same (j / rowBytes w) (8 * (j % rowBytes w) + i) (div-lt-iff-lt-mul p .1 l)))
+
+-- ---- one frame
+
+module _ (rule : Quantize) (w h : ℕ) (gray : List ℕ) (wide : 0 < w) (high : 0 < h) (enough : w * h ≤ length gray) where
+  abbrev s : Setting
+  s = setting rule w h 1
+
+  -- the samples behind the frame's alter nothing
+  finished-among : finished s (take (w * h) gray) ≡ upto (h * rowBytes w) (byteAt w (dotOf s gray))
+  unfolding finished
+  finished-among =
+      let xs = take (w * h) gray in
+      let ys = drop (w * h) gray in
+      let c : count s (length xs) ≡ h * rowBytes w = ap (count s) (length-take-le (w * h) gray enough) ∙ count-all rule w h wide high in
+      let g : xs ++ ys ≡ gray = take-append-drop (w * h) gray in
+      ap (λ (n : ℕ). upto n (byteAt w (dotOf s xs))) c
+      ∙ upto-ext (byteAt w (dotOf s xs)) (byteAt w (dotOf s gray)) (h * rowBytes w)
+      (λ j l. sym (byte-counted s wide xs ys j (rw c l)) ∙ ap (λ (r : List ℕ). byteAt w (dotOf s r) j) g)
+
+  -- whatever gives the dots of the frame's samples
+  pub plane-by : (d : ℕ → ℕ) → ((n : ℕ) → n < h * w → dotOf s gray n ≡ d n)
+      → finished s (take (w * h) gray) ≡ upto (h * rowBytes w) (byteAt w d)
+  plane-by d e = finished-among ∙ rows-same w h wide (dotOf s gray) d e
+
+-- ---- the rules
+
+pub threshold-plane : (t w h : ℕ) (gray : List ℕ) → 0 < w → 0 < h → w * h ≤ length gray
+    → finished (setting (Threshold t) w h 1) (take (w * h) gray) ≡ upto (h * rowBytes w) (byteAt w (thresholdBit t gray))
+unfolding dotOf dot frame
+threshold-plane t w h gray wide high enough =
+    plane-by (Threshold t) w h gray wide high enough _ (λ n l. ap (thresholdBit t gray) (sym (place-of w h n)))
+
+frame-first : (w h : ℕ) (gray : List ℕ) → frame w h gray 0 ≡ (λ x y. getD gray (y * w + x) 0)
+unfolding frame
+frame-first w h gray =
+    fun-ext (λ x. fun-ext (λ y.
+    let e : (0 * h + y) * w + x ≡ y * w + x = omega arith in
+    ap (λ (i : ℕ). getD gray i 0) e))
+
+pub dither-plane : (w h : ℕ) (gray : List ℕ) → 0 < w → 0 < h → w * h ≤ length gray
+    → finished (setting Dither w h 1) (take (w * h) gray)
+    ≡ upto (h * rowBytes w) (byteAt w (λ n. bit (white (valueAt rightwards w (λ x y. getD gray (y * w + x) 0) (n % w) (n / w)))))
+unfolding dotOf dot
+dither-plane w h gray wide high enough =
+    plane-by Dither w h gray wide high enough _
+    (λ n l.
+    let q : n / w < h = div-lt-iff-lt-mul wide .1 l in
+    rw (div-eq-of-lt q, mod-eq-of-lt q, frame-first w h gray))
