@@ -1,14 +1,13 @@
 // Whether bytes are a whole file, the front of one, or neither.
 use crate::Sniffed;
 use crate::front::Front;
-use crate::front::short_header;
-use header::HeaderRead;
+use crate::front::read_front;
 use image::PlaneLayout;
 ghost use mathlib.Core.Path.{_≡_};
-ghost use Prim.Native.Nat.{_<_, _+_, _-_, _*_, _/_};
+ghost use Prim.Native.Nat.{_<_, _+_, _-_, _*_, _/_, _^_};
 ghost use lib.ListN.{length};
 ghost use Rattle.api.specs.Sniff.{isClear, areClear, sniffLength, sniffBody, sniffed, isExact, sniffSizes};
-ghost use Rattle.api.specs.Internal.Parts.{Rows, Sized};
+ghost use Rattle.api.specs.Internal.Parts.{Rows, Small, Sized};
 
 // The largest width and height that are taken for an image's.
 pub const PROBE_MAX_DIMENSION: u32 = 16384;
@@ -58,7 +57,7 @@ fn are_clear(body: &[u8], width: u32, row: usize, mask: u8) -> bool
 }
 
 fn sniff_length(plane: usize, size: usize) -> Sniffed
-    requires { ⌜ 0 < plane ⌝ }
+    requires { ⌜ (0 < plane) × (plane < 2 ^ 32) ⌝ }
     ensures { λ r. ⌜ r ≡ sniffLength plane size ⌝ }
 {
     if size == plane {
@@ -67,17 +66,17 @@ fn sniff_length(plane: usize, size: usize) -> Sniffed
     if size < plane {
         return Sniffed::Truncated;
     }
-    if size % plane != 0 {
+    if 16 * plane < size {
         return Sniffed::Neither;
     }
-    if size / plane > 16 {
+    if size % plane != 0 {
         return Sniffed::Neither;
     }
     Sniffed::Exact
 }
 
 fn sniff_body(width: u32, height: u32, body: &[u8]) -> Sniffed
-    requires { ⌜ (0 < width) × (0 < height) ⌝ }
+    requires { ⌜ Small width height ⌝ }
     ensures { λ r. ⌜ r ≡ sniffBody width height (now (body .entry)) ⌝ }
 {
     let layout = PlaneLayout::new(width, height);
@@ -88,10 +87,24 @@ fn sniff_body(width: u32, height: u32, body: &[u8]) -> Sniffed
     if size < row {
         return Sniffed::Neither;
     }
-    if !are_clear(body, width, row, mask) {
-        return Sniffed::Neither;
+    if width % 8 == 0 {
+        return sniff_length(plane, size);
     }
-    sniff_length(plane, size)
+    match sniff_length(plane, size) {
+        Sniffed::Exact => {
+            if !are_clear(body, width, row, mask) {
+                return Sniffed::Neither;
+            }
+            Sniffed::Exact
+        }
+        Sniffed::Truncated => {
+            if !are_clear(body, width, row, mask) {
+                return Sniffed::Neither;
+            }
+            Sniffed::Truncated
+        }
+        Sniffed::Neither => Sniffed::Neither,
+    }
 }
 
 // What is said of a file whose header has these sizes.
@@ -108,27 +121,17 @@ fn sniff_sizes(bytes: &[u8], width: u32, height: u32, start: usize) -> Sniffed
     sniff_body(width, height, &bytes[start..])
 }
 
-// A file with any header.
-fn sniff_any(bytes: &[u8]) -> Sniffed
-    ensures { λ r. ⌜ r ≡ sniffed (now (bytes .entry)) ⌝ }
-{
-    match header::parse_header_inner(bytes, true) {
-        HeaderRead::Header(h) => sniff_sizes(bytes, h.width, h.height, h.data_offset),
-        HeaderRead::Refused(_) => Sniffed::Neither,
-    }
-}
-
 // A header of 00 00 and shortest sizes, then rows with clear padding: exact with 1 to 16 whole planes, truncated short of one.
 pub fn sniff(bytes: &[u8]) -> Sniffed
     ensures { λ r. ⌜ r ≡ sniffed (now (bytes .entry)) ⌝ }
 {
-    match short_header(bytes) {
+    match read_front(bytes) {
         Front::Sizes {
             width,
             height,
             start,
         } => sniff_sizes(bytes, width, height, start),
-        Front::Unread => sniff_any(bytes),
+        Front::Unread => Sniffed::Neither,
     }
 }
 

@@ -3,7 +3,7 @@ use Prim.Native.Nat.{ℕ, _<_, _≤_}
 use mathlib.Core.Path.{_≡_}
 use mathlib.Core.Bool.{true}
 use mathlib.Core.List.{List}
-use Rattle.error.specs.Answer.{gives, map}
+use Rattle.error.specs.Answer.{Answer, gives, refuses, map}
 use Rattle.mbi.specs.Read.{readMbi}
 use Rattle.ext.specs.Kinds.{absent}
 use Rattle.header.specs.Settings.{inner}
@@ -19,6 +19,13 @@ pub record Rows (width row mask : ℕ) : Type 0 where
   pub some : 0 < row
   pub rowIs : row ≡ rowBytes width
   pub maskIs : mask ≡ paddingMask width
+
+-- sizes that sniffing takes for an image's
+pub record Small (width height : ℕ) : Type 0 where
+  pub wide : 0 < width
+  pub high : 0 < height
+  pub narrow : width ≤ 16384
+  pub low : height ≤ 16384
 
 -- sizes that are not 0, and a body within a file
 pub record Sized (width height start size : ℕ) : Type 0 where
@@ -40,6 +47,16 @@ abbrev pub Heights : List ℕ → ℕ → ℕ → Front → Type 0
 Heights s width at (Sizes w h b) = outlineHeight true s 0 absent (width, at) ≡ gives (plain w h b)
 Heights s width at Unread = Unit {0}
 
+-- those of a short header; of another one nothing is told
 abbrev pub Fronts : List ℕ → Front → Type 0
 Fronts s (Sizes w h b) = map outline (readHeader (inner true) s) ≡ gives (plain w h b)
 Fronts s Unread = Unit {0}
+
+-- the sizes of a header that was read; a refused one has none
+abbrev pub frontOf : Answer Outline → Front
+frontOf (gives h) = Sizes (h .width) (h .height) (h .body)
+frontOf (refuses code offset) = Unread
+
+-- the sizes of a file's header
+abbrev pub frontIn : List ℕ → Front
+frontIn s = frontOf (map outline (readHeader (inner true) s))
