@@ -1,4 +1,6 @@
+pub mod PaddingOred
 pub mod RowsClear
+pub mod RowsWalked
 pub mod HeaderTold
 pub mod BodySniffed
 pub mod LengthSniffed

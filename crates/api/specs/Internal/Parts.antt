@@ -1,24 +1,37 @@
 -- What the private functions ask and promise.
-use Prim.Native.Nat.{ℕ, _<_, _≤_}
+use Prim.Native.Nat.{ℕ, _+_, _*_, _<_, _≤_}
 use mathlib.Core.Path.{_≡_}
-use mathlib.Core.Bool.{true}
+use mathlib.Core.Bool.{Bool, true}
 use mathlib.Core.List.{List}
+use lib.Bits.{bitOr}
+use lib.ListN.{getD}
 use Rattle.error.specs.Answer.{Answer, gives, refuses, map}
 use Rattle.mbi.specs.Read.{readMbi}
 use Rattle.ext.specs.Kinds.{absent}
 use Rattle.header.specs.Settings.{inner}
 use Rattle.header.specs.Read.{Outline, outline, outlineHeight, readHeader}
 use Rattle.image.specs.Geometry.{rowBytes, paddingMask}
+use Rattle.api.specs.Sniff.{areClear}
 use Rattle.api.specs.declared.front.Front.{Front}
 use Rattle.api.specs.declared.front.Front.the-variants.{Sizes, Unread}
 use Rattle.api.specs.declared.front.Short.{Short}
 use Rattle.api.specs.declared.front.Short.the-variants.{Value, Longer}
 
--- the bytes and the mask of rows that have bytes
+-- the bytes and the mask of rows of a width
 pub record Rows (width row mask : ℕ) : Type 0 where
-  pub some : 0 < row
   pub rowIs : row ≡ rowBytes width
   pub maskIs : mask ≡ paddingMask width
+
+-- the answer whether so many rows are clear, at each width whose rows these are
+abbrev pub AreClear : List ℕ → ℕ → ℕ → ℕ → Bool → Type 0
+AreClear body row mask rows r = (width : ℕ) → Rows width row mask → r ≡ areClear width body rows
+
+-- the last bytes of eight rows, from the one at an offset on, or'ed
+abbrev pub eightEnds : List ℕ → ℕ → ℕ → ℕ
+eightEnds body row at =
+    bitOr
+    (bitOr (bitOr (bitOr (getD body at 0) (getD body (at + row) 0)) (getD body (at + 2 * row) 0)) (getD body (at + 3 * row) 0))
+    (bitOr (bitOr (bitOr (getD body (at + 4 * row) 0) (getD body (at + 5 * row) 0)) (getD body (at + 6 * row) 0)) (getD body (at + 7 * row) 0))
 
 -- sizes that sniffing takes for an image's
 pub record Small (width height : ℕ) : Type 0 where

@@ -7,8 +7,8 @@ use borrow.Author.Tests.{not-true, not-false}
 use denote.Ref.{now}
 use lib.ListN.{length}
 use Rattle.image.proofs.PlaneSizes.{stride-is, mask-is, total-some}
-use Rattle.api.specs.Sniff.{areClear, sniffBody}
-use Rattle.api.specs.Internal.Parts.{Rows}
+use Rattle.api.specs.Sniff.{sniffBody}
+use Rattle.api.specs.Internal.Parts.{Rows, AreClear}
 use Rattle.api.specs.declared.Sniffed.{Sniffed}
 use Rattle.api.specs.declared.Sniffed.the-variants.{Neither}
 use Rattle.api.proofs.RowsClear.{all}
@@ -26,11 +26,12 @@ plane n =
       small-plane (a .width) (a .height) (now (a .body)) (n .new .result) (n .new .ensures) (s .pre .narrow) (s .pre .low),
     )
 
+some : (n : tie.After-new) → 0 < n .new .result .stride
+some n = omega (arith, stride-is (n .new .ensures), n .before .before .pre .wide)
+
 rows : (n : tie.After-new) → Rows (n .before .before .args .width) (n .new .result .stride) (n .new .result .«last_byte_pad_mask»)
 rows n =
-    let s = n .before .before in
     record {
-      some = omega (arith, stride-is (n .new .ensures), s .pre .wide);
       rowIs = stride-is (n .new .ensures);
       maskIs = mask-is (n .new .ensures);
     }
@@ -49,16 +50,15 @@ module _ (m : tie.After-sniff-length2) where
   abbrev body : List ℕ
   body = now (n .before .before .args .body)
 
-  abbrev clear : Bool
-  clear = areClear width body (length body / n .new .result .stride)
+  module _ (r : Bool) (told : AreClear body (n .new .result .stride) (n .new .result .«last_byte_pad_mask») (length body / n .new .result .stride) r) where
+    where-dirty : r ≡ false → Neither ≡ sniffBody width height body
+    where-dirty p =
+        sym (dirty width height body (n .new .result) (n .new .ensures) (m .before .before .if1 .left) (sym (told width (rows n)) ∙ p))
 
-  where-dirty : clear ≡ false → Neither ≡ sniffBody width height body
-  where-dirty p = sym (dirty width height body (n .new .result) (n .new .ensures) (m .before .before .if1 .left) p)
-
-  where-clear : (t : Sniffed) → m .sniff-length2 .result ≡ t → clear ≡ true → t ≡ sniffBody width height body
-  where-clear t g p =
-      sym g ∙ m .sniff-length2 .ensures
-      ∙ sym (clean width height body (n .new .result) (n .new .ensures) (m .before .before .if1 .left) p)
+    where-clear : r ≡ true → (t : Sniffed) → m .sniff-length2 .result ≡ t → t ≡ sniffBody width height body
+    where-clear p t g =
+        sym g ∙ m .sniff-length2 .ensures
+        ∙ sym (clean width height body (n .new .result) (n .new .ensures) (m .before .before .if1 .left) (sym (told width (rows n)) ∙ p))
 
 new-requires : tie.Need-new-requires
 new-requires c κs = search needs
@@ -89,19 +89,19 @@ enum-told : tie.Need-enum-told
 enum-told c = search needs
 
 are-clear-requires : tie.Need-are-clear-requires
-are-clear-requires c κs = rows (c .before .before .before .before .before)
+are-clear-requires c κs = some (c .before .before .before .before .before)
 
 returns-3 : tie.Need-returns-3
-returns-3 c = let k = c .before in where-dirty (k .before .before .before) (sym (k .are-clear .ensures) ∙ not-true _ (c .if3 .taken))
+returns-3 c = let k = c .before in where-dirty (k .before .before .before) _ (k .are-clear .ensures) (not-true _ (c .if3 .taken))
 
 enum-told-2 : tie.Need-enum-told-2
 enum-told-2 c = search needs
 
 are-clear-requires-2 : tie.Need-are-clear-requires-2
-are-clear-requires-2 c κs = rows (c .before .before .before .before .before)
+are-clear-requires-2 c κs = some (c .before .before .before .before .before)
 
 returns-4 : tie.Need-returns-4
-returns-4 c = let k = c .before in where-dirty (k .before .before .before) (sym (k .are-clear2 .ensures) ∙ not-true _ (c .if4 .taken))
+returns-4 c = let k = c .before in where-dirty (k .before .before .before) _ (k .are-clear2 .ensures) (not-true _ (c .if4 .taken))
 
 enum-told-3 : tie.Need-enum-told-3
 enum-told-3 c = search needs
@@ -109,12 +109,12 @@ enum-told-3 c = search needs
 returns-5 : tie.Need-returns-5
 returns-5 c =
     let k = c .before in
-    where-clear (k .before .before .before) _ (k .before .enum-told .given .1) (sym (k .are-clear .ensures) ∙ not-false _ (c .if3 .left))
+    where-clear (k .before .before .before) _ (k .are-clear .ensures) (not-false _ (c .if3 .left)) _ (k .before .enum-told .given .1)
 
 returns-6 : tie.Need-returns-6
 returns-6 c =
     let k = c .before in
-    where-clear (k .before .before .before) _ (k .before .enum-told2 .given .1) (sym (k .are-clear2 .ensures) ∙ not-false _ (c .if4 .left))
+    where-clear (k .before .before .before) _ (k .are-clear2 .ensures) (not-false _ (c .if4 .left)) _ (k .before .enum-told2 .given .1)
 
 returns-7 : tie.Need-returns-7
 returns-7 c =
