@@ -100,5 +100,6 @@ module _ (width : ℕ) (body : List ℕ) where
             (isClear width body (y + 0) && isClear width body (y + 1) && isClear width body (y + 2) && isClear width body (y + 3)
             && (isClear width body (y + 4) && isClear width body (y + 5) && isClear width body (y + 6) && isClear width body (y + 7)))
         ends =
-            ored (ored (ored (ored (end 0 at (omega arith)) (end 1 (at + row) (omega arith))) (end 2 (at + 2 * row) refl)) (end 3 (at + 3 * row) refl))
-            (ored (ored (ored (end 4 (at + 4 * row) refl) (end 5 (at + 5 * row) refl)) (end 6 (at + 6 * row) refl)) (end 7 (at + 7 * row) refl))
+            ored
+            (ored (ored (ored (end 0 at (omega arith)) (end 1 (at + row) (omega arith))) (end 2 _ refl)) (end 3 _ refl))
+            (ored (ored (ored (end 4 _ refl) (end 5 _ refl)) (end 6 _ refl)) (end 7 _ refl))

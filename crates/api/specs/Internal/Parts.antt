@@ -29,9 +29,10 @@ AreClear body row mask rows r = (width : ℕ) → Rows width row mask → r ≡ 
 -- the last bytes of eight rows, from the one at an offset on, or'ed
 abbrev pub eightEnds : List ℕ → ℕ → ℕ → ℕ
 eightEnds body row at =
+    let end : ℕ → ℕ = λ i. getD body i 0 in
     bitOr
-    (bitOr (bitOr (bitOr (getD body at 0) (getD body (at + row) 0)) (getD body (at + 2 * row) 0)) (getD body (at + 3 * row) 0))
-    (bitOr (bitOr (bitOr (getD body (at + 4 * row) 0) (getD body (at + 5 * row) 0)) (getD body (at + 6 * row) 0)) (getD body (at + 7 * row) 0))
+    (bitOr (bitOr (bitOr (end at) (end (at + row))) (end (at + 2 * row))) (end (at + 3 * row)))
+    (bitOr (bitOr (bitOr (end (at + 4 * row)) (end (at + 5 * row))) (end (at + 6 * row))) (end (at + 7 * row)))
 
 -- sizes that sniffing takes for an image's
 pub record Small (width height : ℕ) : Type 0 where

@@ -16,12 +16,14 @@ enum-told c = search needs
 returns : tie.Need-returns
 returns c =
     let k = c .before .before .before in
-    front-on (now (k .before .before .args .bytes)) (k .parse-header-inner .result) _ (k .parse-header-inner .ensures) (c .before .h .given .1)
+    let a = k .before .before .args in
+    front-on (now (a .bytes)) (k .parse-header-inner .result) _ (k .parse-header-inner .ensures) (c .before .h .given .1)
 
 returns-2 : tie.Need-returns-2
 returns-2 c =
     let k = c .before .before in
-    front-on (now (k .before .before .args .bytes)) (k .parse-header-inner .result) _ (k .parse-header-inner .ensures) (c .enum-told .given .1)
+    let a = k .before .before .args in
+    front-on (now (a .bytes)) (k .parse-header-inner .result) _ (k .parse-header-inner .ensures) (c .enum-told .given .1)
 
 pub any-header-spec : {M : Type 1} → statement M
 any-header-spec =

@@ -28,7 +28,10 @@ add-next : tie.Need-add-next
 add-next c = search needs
 
 returns-2 : tie.Need-returns-2
-returns-2 c = let e = c .before .before in let a = e .before .before .args in read-one (now (a .bytes)) (a .at) (e .if1 .left) (c .if2 .taken)
+returns-2 c =
+    let e = c .before .before in
+    let a = e .before .before .args in
+    read-one (now (a .bytes)) (a .at) (e .if1 .left) (c .if2 .taken)
 
 returns-3 : tie.Need-returns-3
 returns-3 c = search needs

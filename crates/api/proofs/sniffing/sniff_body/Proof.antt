@@ -6,6 +6,7 @@ use native.Mathlib.Omega.{arith}
 use borrow.Author.Tests.{not-true, not-false}
 use denote.Ref.{now}
 use lib.ListN.{length}
+use Rattle.image.specs.declared.PlaneLayout.{PlaneLayout}
 use Rattle.image.proofs.PlaneSizes.{stride-is, mask-is, total-some}
 use Rattle.api.specs.Sniff.{sniffBody}
 use Rattle.api.specs.Internal.Parts.{Rows, AreClear}
@@ -50,15 +51,18 @@ module _ (m : tie.After-sniff-length2) where
   abbrev body : List ℕ
   body = now (n .before .before .args .body)
 
-  module _ (r : Bool) (told : AreClear body (n .new .result .stride) (n .new .result .«last_byte_pad_mask») (length body / n .new .result .stride) r) where
+  abbrev layout : PlaneLayout
+  layout = n .new .result
+
+  module _ (r : Bool) (told : AreClear body (layout .stride) (layout .«last_byte_pad_mask») (length body / layout .stride) r) where
     where-dirty : r ≡ false → Neither ≡ sniffBody width height body
     where-dirty p =
-        sym (dirty width height body (n .new .result) (n .new .ensures) (m .before .before .if1 .left) (sym (told width (rows n)) ∙ p))
+        sym (dirty width height body layout (n .new .ensures) (m .before .before .if1 .left) (sym (told width (rows n)) ∙ p))
 
     where-clear : r ≡ true → (t : Sniffed) → m .sniff-length2 .result ≡ t → t ≡ sniffBody width height body
     where-clear p t g =
         sym g ∙ m .sniff-length2 .ensures
-        ∙ sym (clean width height body (n .new .result) (n .new .ensures) (m .before .before .if1 .left) (sym (told width (rows n)) ∙ p))
+        ∙ sym (clean width height body layout (n .new .ensures) (m .before .before .if1 .left) (sym (told width (rows n)) ∙ p))
 
 new-requires : tie.Need-new-requires
 new-requires c κs = search needs
