@@ -1,64 +1,43 @@
 -- The rows whose padding was looked at.
 use Prim.Native.Nat.{ℕ, zero, suc, _+_, _-_, _*_, _%_, _≤_, _<_}
 use mathlib.Core.Path.{_≡_, refl, sym, ap, _∙_}
-use mathlib.Core.Bool.{Bool, true, false, _&&_}
+use mathlib.Core.Bool.{Bool, true, false, _&&_, and-assoc}
 use mathlib.Core.List.{List}
-use native.Mathlib.Nat.{mul-le-mul-right}
+use native.Mathlib.Decide.{le-ind}
+use native.Mathlib.Nat.{add-mul, mul-le-mul-right}
 use native.Mathlib.Numerals.{add-one}
 use native.Mathlib.Omega.{arith}
-use borrow.Author.Tests.{eq-eqb, eqb-true, eqb-false}
-use lib.Arith.{lt-of-le-ne}
+use borrow.Author.Tests.{eq-eqb}
 use lib.Bits.{bitAnd}
 use lib.Dec.{eqb}
 use lib.ListN.{getD}
-use Rattle.laws.proofs.Tests.{and-false}
-use Rattle.image.specs.Geometry.{rowBytes, paddingBits, paddingMask}
+use Rattle.laws.proofs.Octets.{Octets}
+use Rattle.image.specs.Geometry.{rowBytes, paddingBits}
 use Rattle.image.specs.Rows.{clearLow}
-use Rattle.image.proofs.MaskClears.{mask-low}
 use Rattle.api.specs.Sniff.{isClear, areClear}
+use Rattle.api.specs.Internal.Parts.{Rows, eightEnds}
+use Rattle.api.proofs.PaddingOred.{Low, ored, masked}
 
--- the last byte of row y is in the body
-pub last-in : (rows row size y : ℕ) → 0 < row → rows * row ≤ size → y < rows → y * row + (row - 1) < size
-last-in rows row size y z h l =
-    let p : suc y * row ≤ rows * row = mul-le-mul-right row l in
-    let e : suc y * row ≡ y * row + row = omega arith in
+-- the last byte of the k-th row after row y
+pub further : (row y at k : ℕ) → at ≡ y * row + (row - 1) → at + k * row ≡ (y + k) * row + (row - 1)
+further row y at k e = omega (arith, add-mul y k row)
+
+-- it is in the body
+pub end-in : (rows row size y at k : ℕ) → 0 < row → rows * row ≤ size → at ≡ y * row + (row - 1) → y + k < rows → at + k * row < size
+end-in rows row size y at k z h e l =
+    let p : suc (y + k) * row ≤ rows * row = mul-le-mul-right row l in
+    let q : suc (y + k) * row ≡ (y + k) * row + row = omega arith in
+    let f = further row y at k e in
     omega arith
 
 module _ (width : ℕ) (body : List ℕ) where
-  -- the test of one row
-  abbrev last : ℕ → ℕ → ℕ
-  last row y = getD body (y * row + (row - 1)) 0
-
-  module _ (row mask y : ℕ) (r : row ≡ rowBytes width) (m : mask ≡ paddingMask width) (byte : last row y < 256) where
-    masked : bitAnd (last row y) mask ≡ clearLow (paddingBits width) (last (rowBytes width) y)
-    masked =
-        ap (bitAnd (last row y)) m
-        ∙ mask-low (paddingBits width) (last row y) (omega arith) byte
-        ∙ ap (λ (n : ℕ). clearLow (paddingBits width) (last n y)) r
-
-    pub tested : eqb (bitAnd (last row y) mask) (last row y) ≡ isClear width body y
-    tested =
-        ap (λ (n : ℕ). eqb n (last row y)) masked
-        ∙ ap (λ (n : ℕ). eqb (clearLow (paddingBits width) (last (rowBytes width) y)) (last n y)) r
-
   pub none : true ≡ areClear width body 0
   unfolding areClear
   none = refl
 
-  pub one-more : (y : ℕ) → true ≡ areClear width body y → isClear width body y ≡ true → true ≡ areClear width body (y + 1)
+  step : (m n : ℕ) → n ≡ m + 1 → areClear width body n ≡ (areClear width body m && isClear width body m)
   unfolding areClear
-  one-more y p q = rw (add-one y, ← p, q)
-
-  pub four : (y : ℕ) → true ≡ areClear width body y → isClear width body y ≡ true → isClear width body (y + 1) ≡ true
-      → isClear width body (y + 2) ≡ true
-      → isClear width body (y + 3) ≡ true → true ≡ areClear width body (y + 4)
-  four y p a b c d =
-      let q = one-more (y + 1) (one-more y p a) b in
-      let e : y + 1 + 1 ≡ y + 2 = omega arith in
-      let f : y + 2 + 1 ≡ y + 3 = omega arith in
-      let g : y + 3 + 1 ≡ y + 4 = omega arith in
-      let r : true ≡ areClear width body (y + 3) = (one-more (y + 2) (q ∙ ap (areClear width body) e) c) ∙ ap (areClear width body) f in
-      one-more (y + 3) r d ∙ ap (areClear width body) g
+  step m n e = rw (e, add-one m)
 
   -- rows without padding
   pub all : width % 8 ≡ 0 → (n : ℕ) → true ≡ areClear width body n
@@ -66,18 +45,61 @@ module _ (width : ℕ) (body : List ℕ) where
   all e zero = refl
   all e (suc n) =
       let z : paddingBits width ≡ 0 = omega arith in
-      let b = last (rowBytes width) n in
+      let b = getD body (n * rowBytes width + (rowBytes width - 1)) 0 in
       let s : clearLow 0 b ≡ b = omega arith in
       let c : isClear width body n ≡ true = eq-eqb _ _ (ap (λ (k : ℕ). clearLow k b) z ∙ s) in
       rw (← all e n, c)
 
-  -- a row that is not clear, with those below it
-  pub found : (y n : ℕ) → isClear width body y ≡ false → y < n → false ≡ areClear width body n
+  -- rows that are not all clear, with those below them
+  pub dirty-on : (m n : ℕ) → areClear width body m ≡ false → m ≤ n → false ≡ areClear width body n
   unfolding areClear
-  found y (suc n) q l = go (eqb y n) refl (found y n q)
-    where
-      go : (t : Bool) → eqb y n ≡ t → (y < n → false ≡ areClear width body n) → false ≡ (areClear width body n && isClear width body n)
-      go true e ih =
-          sym (ap (λ (t : Bool). areClear width body n && t) (ap (isClear width body) (sym (eqb-true y n e)) ∙ q)
-          ∙ and-false (areClear width body n))
-      go false e ih = let d = eqb-false y n e in ap (λ (t : Bool). t && isClear width body n) (ih (lt-of-le-ne (omega arith) d))
+  dirty-on m n e l =
+      le-ind (λ (i : ℕ). false ≡ areClear width body i) (sym e) (λ i k p. ap (λ (t : Bool). t && isClear width body i) p) n l
+
+  module _ (row mask y at : ℕ) (r : Rows width row mask) (bytes : Octets body) (e : at ≡ y * row + (row - 1))
+      (before : areClear width body y ≡ true) where
+    -- the last byte of the k-th row from y on
+    end : (k i : ℕ) → i ≡ at + k * row → Low (paddingBits width) (getD body i 0) (isClear width body (y + k))
+    end k i p =
+        let q : i ≡ (y + k) * rowBytes width + (rowBytes width - 1) =
+        p ∙ further row y at k e ∙ ap (λ (n : ℕ). (y + k) * n + (n - 1)) (r .rowIs) in
+        record { small = bytes i; told = ap (λ (n : ℕ). eqb (clearLow (paddingBits width) (getD body n 0)) (getD body n 0)) q }
+
+    test : (b : ℕ) (t : Bool) → Low (paddingBits width) b t → eqb (bitAnd b mask) b ≡ t
+    test b t p = ap (λ (n : ℕ). eqb (bitAnd b n) b) (r .maskIs) ∙ masked (omega arith) p
+
+    pub one : areClear width body (y + 1) ≡ eqb (bitAnd (getD body at 0) mask) (getD body at 0)
+    one =
+        let z : y + 0 ≡ y = omega arith in
+        step y (y + 1) refl
+        ∙ rw before (ap (isClear width body) (sym z))
+        ∙ sym (test (getD body at 0) _ (end 0 at (omega arith)))
+
+    pub eight : areClear width body (y + 8) ≡ eqb (bitAnd (eightEnds body row at) mask) (eightEnds body row at)
+    eight =
+        let z : y + 0 ≡ y = omega arith in
+        rw (
+          step (y + 7) (y + 8) (omega arith),
+          step (y + 6) (y + 7) (omega arith),
+          step (y + 5) (y + 6) (omega arith),
+          step (y + 4) (y + 5) (omega arith),
+          step (y + 3) (y + 4) (omega arith),
+          step (y + 2) (y + 3) (omega arith),
+          step (y + 1) (y + 2) (omega arith),
+          step (y + 0) (y + 1) (omega arith),
+          ap (areClear width body) z ∙ before,
+        )
+        (halves (isClear width body (y + 0)) (isClear width body (y + 1)) (isClear width body (y + 2)) (isClear width body (y + 3))
+        (isClear width body (y + 4)) (isClear width body (y + 5)) (isClear width body (y + 6)) (isClear width body (y + 7))
+        ∙ sym (test (eightEnds body row at) _ ends))
+      where
+        halves : (a b c d i j k l : Bool) → (a && b && c && d && i && j && k && l) ≡ (a && b && c && d && (i && j && k && l))
+        halves a b c d i j k l = simp and-assoc
+
+        ends : Low (paddingBits width) (eightEnds body row at)
+            (isClear width body (y + 0) && isClear width body (y + 1) && isClear width body (y + 2) && isClear width body (y + 3)
+            && (isClear width body (y + 4) && isClear width body (y + 5) && isClear width body (y + 6) && isClear width body (y + 7)))
+        ends =
+            ored
+            (ored (ored (ored (end 0 at (omega arith)) (end 1 (at + row) (omega arith))) (end 2 _ refl)) (end 3 _ refl))
+            (ored (ored (ored (end 4 _ refl) (end 5 _ refl)) (end 6 _ refl)) (end 7 _ refl))

@@ -1,4 +1,4 @@
--- Headers of 00 00 and sizes of one or two bytes.
+-- Headers of 00 00 and short sizes.
 use Prim.Native.Nat.{ℕ, _+_, _-_, _*_, _%_, _≤_, _<_}
 use mathlib.Core.Path.{_≡_, ap, _∙_}
 use mathlib.Core.Bool.{true, false}
@@ -20,7 +20,7 @@ use Rattle.api.specs.declared.front.Front.{Front}
 use Rattle.api.specs.declared.front.Front.the-variants.{Sizes, Unread}
 use Rattle.api.specs.Internal.Parts.{plain, Heights, Fronts}
 
--- ---- an integer of one or two bytes
+-- ---- an integer of one or two bytes, and 81 80 00
 
 byte-ends : (at a : ℕ) → a < 128 → readByte true at 0 0 a ≡ ends a
 byte-ends at a h =
@@ -37,6 +37,12 @@ byte-second at v b h l =
     let m : v * 128 + b % 128 ≡ v * 128 + b = omega arith in
     ends-by true v 1 b at (λ z e. omega arith) (omega arith) (omega arith) l ∙ ap ends m
 
+byte-middle : (at : ℕ) → readByte true at 1 1 128 ≡ goes 128
+byte-middle at = goes-by true 1 1 128 at (λ z e. omega arith) (omega arith) (omega arith) (omega arith)
+
+byte-third : (at : ℕ) → readByte true at 128 2 0 ≡ ends 16384
+byte-third at = ends-by true 128 2 0 at (λ z e. omega arith) (omega arith) (omega arith) (omega arith)
+
 module _ (s : List ℕ) (at : ℕ) where
   pub read-one : at < length s → getD s at 0 < 128 → readMbi true s at ≡ gives (getD s at 0, at + 1)
   unfolding readRest
@@ -51,6 +57,22 @@ module _ (s : List ℕ) (at : ℕ) where
       ∙ rw (byte-goes at (getD s at 0) k l, readRest)
       (ap (λ (t : List ℕ). readRest true t (at + 1) (getD s at 0 - 128) 1) (drop-at s (at + 1) h)
       ∙ rw (byte-second (at + 1) (getD s at 0 - 128) (getD s (at + 1) 0) (omega arith) m, readRest))
+
+  pub read-largest : at + 2 < length s → getD s at 0 ≡ 129 → getD s (at + 1) 0 ≡ 128 → getD s (at + 2) 0 ≡ 0
+      → readMbi true s at ≡ gives (16384, at + 3)
+  unfolding readRest
+  read-largest h k l m =
+      let p : at < length s = omega arith in
+      let q : at + 1 < length s = omega arith in
+      let e : at + 1 + 1 ≡ at + 2 = omega arith in
+      let f : at + 2 + 1 ≡ at + 3 = omega arith in
+      ap (λ (t : List ℕ). readRest true t at 0 0) (drop-at s at p)
+      ∙ rw (k, byte-goes at 129 (omega arith) (omega arith), readRest)
+      (ap (λ (t : List ℕ). readRest true t (at + 1) 1 1) (drop-at s (at + 1) q)
+      ∙ rw (l, byte-middle (at + 1), readRest)
+      (ap (λ (n : ℕ). readRest true (drop n s) n 128 2) e
+      ∙ ap (λ (t : List ℕ). readRest true t (at + 2) 128 2) (drop-at s (at + 2) h)
+      ∙ rw (m, byte-third (at + 2), readRest) (ap (λ (n : ℕ). gives (16384, n)) f)))
 
 -- ---- the sizes
 

@@ -1,64 +1,56 @@
 // Whether bytes are a whole file, the front of one, or neither.
 use crate::Sniffed;
 use crate::front::Front;
-use crate::front::short_header;
-use header::HeaderRead;
+use crate::front::read_front;
 use image::PlaneLayout;
 ghost use mathlib.Core.Path.{_≡_};
-ghost use Prim.Native.Nat.{_<_, _+_, _-_, _*_, _/_};
+ghost use Prim.Native.Nat.{_<_, _+_, _*_, _/_, _^_};
 ghost use lib.ListN.{length};
-ghost use Rattle.api.specs.Sniff.{isClear, areClear, sniffLength, sniffBody, sniffed, isExact, sniffSizes};
-ghost use Rattle.api.specs.Internal.Parts.{Rows, Sized};
+ghost use Rattle.api.specs.Sniff.{sniffLength, sniffBody, sniffed, isExact, sniffSizes};
+ghost use Rattle.api.specs.Internal.Parts.{eightEnds, AreClear, Small, Sized};
 
 // The largest width and height that are taken for an image's.
 pub const PROBE_MAX_DIMENSION: u32 = 16384;
 
-// Whether the padding of row y of a body is clear.
-fn is_clear(body: &[u8], width: u32, row: usize, mask: u8, y: usize) -> bool
-    requires { ⌜ Rows width row mask ⌝ }
-    requires { ⌜ y * row + (row - 1) < length (now body) ⌝ }
-    ensures { λ r. ⌜ r ≡ isClear width (now (body .entry)) y ⌝ }
+// The last bytes of eight rows, from the one at an offset on, or'ed.
+fn eight_ends(body: &[u8], row: usize, at: usize) -> u8
+    requires { ⌜ at + 7 * row < length (now body) ⌝ }
+    ensures { λ r. ⌜ r ≡ eightEnds (now (body .entry)) row at ⌝ }
 {
-    let last = body[y * row + (row - 1)];
-    last & mask == last
+    let first = body[at] | body[at + row] | body[at + 2 * row] | body[at + 3 * row];
+    let second = body[at + 4 * row] | body[at + 5 * row] | body[at + 6 * row] | body[at + 7 * row];
+    first | second
 }
 
-// Whether the padding of a body's whole rows is clear: four rows a turn, and then the others.
-fn are_clear(body: &[u8], width: u32, row: usize, mask: u8) -> bool
-    requires { ⌜ Rows width row mask ⌝ }
-    ensures { λ r. ⌜ r ≡ areClear width (now (body .entry)) (length (now (body .entry)) / row) ⌝ }
+// Whether the padding of a body's whole rows is clear: eight rows a turn, and then the others. `at` is the last byte of row y.
+fn are_clear(body: &[u8], row: usize, mask: u8) -> bool
+    requires { ⌜ 0 < row ⌝ }
+    ensures { λ r. ⌜ AreClear (now (body .entry)) row mask (length (now (body .entry)) / row) r ⌝ }
 {
-    if width % 8 == 0 {
-        return true;
-    }
     let rows = body.len() / row;
     let mut y: usize = 0;
-    while 3 < rows - y {
-        if !is_clear(body, width, row, mask, y) {
+    let mut at: usize = row - 1;
+    while 7 < rows - y {
+        let ends = eight_ends(body, row, at);
+        if ends & mask != ends {
             return false;
         }
-        if !is_clear(body, width, row, mask, y + 1) {
-            return false;
-        }
-        if !is_clear(body, width, row, mask, y + 2) {
-            return false;
-        }
-        if !is_clear(body, width, row, mask, y + 3) {
-            return false;
-        }
-        y += 4;
+        at += 8 * row;
+        y += 8;
     }
     while y < rows {
-        if !is_clear(body, width, row, mask, y) {
+        let end = body[at];
+        if end & mask != end {
             return false;
         }
+        at += row;
         y += 1;
     }
     true
 }
 
 fn sniff_length(plane: usize, size: usize) -> Sniffed
-    requires { ⌜ 0 < plane ⌝ }
+    requires { ⌜ (0 < plane) × (plane < 2 ^ 32) ⌝ }
     ensures { λ r. ⌜ r ≡ sniffLength plane size ⌝ }
 {
     if size == plane {
@@ -67,17 +59,17 @@ fn sniff_length(plane: usize, size: usize) -> Sniffed
     if size < plane {
         return Sniffed::Truncated;
     }
-    if size % plane != 0 {
+    if 16 * plane < size {
         return Sniffed::Neither;
     }
-    if size / plane > 16 {
+    if size % plane != 0 {
         return Sniffed::Neither;
     }
     Sniffed::Exact
 }
 
 fn sniff_body(width: u32, height: u32, body: &[u8]) -> Sniffed
-    requires { ⌜ (0 < width) × (0 < height) ⌝ }
+    requires { ⌜ Small width height ⌝ }
     ensures { λ r. ⌜ r ≡ sniffBody width height (now (body .entry)) ⌝ }
 {
     let layout = PlaneLayout::new(width, height);
@@ -88,10 +80,24 @@ fn sniff_body(width: u32, height: u32, body: &[u8]) -> Sniffed
     if size < row {
         return Sniffed::Neither;
     }
-    if !are_clear(body, width, row, mask) {
-        return Sniffed::Neither;
+    if width % 8 == 0 {
+        return sniff_length(plane, size);
     }
-    sniff_length(plane, size)
+    match sniff_length(plane, size) {
+        Sniffed::Exact => {
+            if !are_clear(body, row, mask) {
+                return Sniffed::Neither;
+            }
+            Sniffed::Exact
+        }
+        Sniffed::Truncated => {
+            if !are_clear(body, row, mask) {
+                return Sniffed::Neither;
+            }
+            Sniffed::Truncated
+        }
+        Sniffed::Neither => Sniffed::Neither,
+    }
 }
 
 // What is said of a file whose header has these sizes.
@@ -108,27 +114,17 @@ fn sniff_sizes(bytes: &[u8], width: u32, height: u32, start: usize) -> Sniffed
     sniff_body(width, height, &bytes[start..])
 }
 
-// A file with any header.
-fn sniff_any(bytes: &[u8]) -> Sniffed
-    ensures { λ r. ⌜ r ≡ sniffed (now (bytes .entry)) ⌝ }
-{
-    match header::parse_header_inner(bytes, true) {
-        HeaderRead::Header(h) => sniff_sizes(bytes, h.width, h.height, h.data_offset),
-        HeaderRead::Refused(_) => Sniffed::Neither,
-    }
-}
-
 // A header of 00 00 and shortest sizes, then rows with clear padding: exact with 1 to 16 whole planes, truncated short of one.
 pub fn sniff(bytes: &[u8]) -> Sniffed
     ensures { λ r. ⌜ r ≡ sniffed (now (bytes .entry)) ⌝ }
 {
-    match short_header(bytes) {
+    match read_front(bytes) {
         Front::Sizes {
             width,
             height,
             start,
         } => sniff_sizes(bytes, width, height, start),
-        Front::Unread => sniff_any(bytes),
+        Front::Unread => Sniffed::Neither,
     }
 }
 

@@ -9,11 +9,11 @@ use borrow.Author.Needs.{needs}
 use Rattle.api.proofs.front.short_integer.Statement.{statement}
 use Rattle.api.proofs.front.short_integer.Tie as tie
 
-abbrev start : tie.After-shared-slice-known2 → tie.Start
-start c = c .before .before .before .before .before .before
+abbrev start : tie.After-shared-slice-known3 → tie.Start
+start c = c .before .before .before .before .before .before .before
 
-byte : (c : tie.After-shared-slice-known2) → let a = start c .args in getD (now (a .bytes)) (a .at) 0 < 256
-byte c = let k = c .before .before .before .before in let f = k .shared-slice-known .given (start c .args .at) in omega arith
+byte : (c : tie.After-shared-slice-known3) → let a = start c .args in getD (now (a .bytes)) (a .at) 0 < 256
+byte c = let k = c .before .before .before .before in let f = k .shared-slice-known2 .given (start c .args .at) in omega arith
 
 returns : tie.Need-returns
 returns c = search needs
@@ -22,13 +22,16 @@ shared-slice-read-first : tie.Need-shared-slice-read-first
 shared-slice-read-first c = search needs
 
 cast-first : tie.Need-cast-first
-cast-first c = let s = c .before .before in omega (arith, c .shared-slice-known .given (s .args .at))
+cast-first c = let s = c .before .before .before in omega (arith, c .shared-slice-known2 .given (s .args .at))
 
 add-next : tie.Need-add-next
 add-next c = search needs
 
 returns-2 : tie.Need-returns-2
-returns-2 c = let e = c .before .before in let a = e .before .args in read-one (now (a .bytes)) (a .at) (e .if1 .left) (c .if2 .taken)
+returns-2 c =
+    let e = c .before .before in
+    let a = e .before .before .args in
+    read-one (now (a .bytes)) (a .at) (e .if1 .left) (c .if2 .taken)
 
 returns-3 : tie.Need-returns-3
 returns-3 c = search needs
@@ -40,7 +43,10 @@ shared-slice-read-second : tie.Need-shared-slice-read-second
 shared-slice-read-second c = search needs
 
 cast-second : tie.Need-cast-second
-cast-second c = let s = start c in omega (arith, c .shared-slice-known2 .given (s .args .at + 1))
+cast-second c = let s = start c in omega (arith, c .shared-slice-known3 .given (s .args .at + 1))
+
+largest-size-requires : tie.Need-largest-size-requires
+largest-size-requires c κs = search needs
 
 returns-5 : tie.Need-returns-5
 returns-5 c = search needs
@@ -75,6 +81,7 @@ short-integer-spec =
     returns-4
     shared-slice-read-second
     cast-second
+    largest-size-requires
     returns-5
     mul-t12
     add-t13
