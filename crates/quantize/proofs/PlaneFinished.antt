@@ -16,7 +16,8 @@ use Rattle.rules.specs.Bits.{upto, bit}
 use Rattle.rules.specs.Diffusion.{white, valueAt}
 use Rattle.rules.specs.Internal.Kernels.{thresholdBit}
 use Rattle.rules.specs.Rule.{rightwards, dot}
-use Rattle.quantize.specs.Finished.{Setting, count, frame, dotOf, bitAt, byteAt, finished, setting}
+use Rattle.quantize.specs.Finished.{Setting, count, frame, dotOf, finished, setting}
+use Rattle.rules.specs.Packed.{paddedBit, byteAt}
 use Rattle.rules.proofs.Differences.{lt-or-le}
 use Rattle.rules.proofs.DigitsAppended.{appended-ext}
 use Rattle.rules.proofs.UptoList.{upto-ext}
@@ -27,7 +28,7 @@ use Rattle.quantize.proofs.WholePlanes.{count-all}
 -- ---- the bytes of h rows depend on the dots of these rows only
 
 module _ (w h : ℕ) (wide : 0 < w) (d e : ℕ → ℕ) (same : (n : ℕ) → n < h * w → d n ≡ e n) where
-  bit-same : (q c : ℕ) → q < h → bitAt w d q c ≡ bitAt w e q c
+  bit-same : (q c : ℕ) → q < h → paddedBit w d q c ≡ paddedBit w e q c
   bit-same q c l =
       ⊎-elim
       (λ (k : c < w). bit-in w d q c k ∙ same (q * w + c) (omega (arith, up-to w q h l)) ∙ sym (bit-in w e q c k))
