@@ -68,7 +68,7 @@ module _ (settings : Answer Decoding) (bytes old : List ℕ) (w h n b : ℕ) whe
       → (x ≡ readAsked settings bytes (length old)) × (new ≡ outputAsked settings bytes old)
   asked-is d new x e q = (
     q .answer ∙ ap (λ (a : Answer Decoding). readAsked a bytes (length old)) e,
-    q .output-is
+    q .outputIs
         ∙ ap (λ (a : Answer Decoding). outputAsked a bytes old) e,
   )
 

@@ -39,7 +39,11 @@ pub extern "C" fn wbmp_info(
     fields_len: &mut usize,
     pairs: &mut usize,
 ) -> u64
-    ensures { λ r. ⌜ Informs (now (bytes .entry)) r (now (width .entry), now (width .exit)) (now (height .entry), now (height .exit)) (now (frames .entry), now (frames .exit)) (now (body .entry), now (body .exit)) (now («fix_header» .entry), now («fix_header» .exit)) (now («fields_kind» .entry), now («fields_kind» .exit)) (now («fields_start» .entry), now («fields_start» .exit)) (now («fields_len» .entry), now («fields_len» .exit)) (now (pairs .entry), now (pairs .exit)) ⌝ }
+    ensures { λ r. ⌜ Informs (now (bytes .entry)) r (now (width .entry), now (width .exit)) (now (height .entry), now (height .exit))
+        (now (frames .entry), now (frames .exit)) (now (body .entry), now (body .exit))
+        (now («fix_header» .entry), now («fix_header» .exit)) (now («fields_kind» .entry), now («fields_kind» .exit))
+        (now («fields_start» .entry), now («fields_start» .exit)) (now («fields_len» .entry), now («fields_len» .exit))
+        (now (pairs .entry), now (pairs .exit)) ⌝ }
 {
     match api::info(bytes) {
         InfoRead::Info(told) => {
@@ -76,7 +80,9 @@ pub extern "C" fn wbmp_read(
     frames: &mut u32,
     written: &mut usize,
 ) -> u64
-    ensures { λ r. ⌜ Reads (settingsOf format strict «max_width» «max_height» «max_pixels» «max_bytes») (now (bytes .entry)) r (now (out .entry)) (now (out .exit)) (now (width .entry), now (width .exit)) (now (height .entry), now (height .exit)) (now (frames .entry), now (frames .exit)) (now (written .entry), now (written .exit)) ⌝ }
+    ensures { λ r. ⌜ Reads (settingsOf format strict «max_width» «max_height» «max_pixels» «max_bytes») (now (bytes .entry)) r
+        (now (out .entry)) (now (out .exit)) (now (width .entry), now (width .exit)) (now (height .entry), now (height .exit))
+        (now (frames .entry), now (frames .exit)) (now (written .entry), now (written .exit)) ⌝ }
 {
     match asked(format, strict, max_width, max_height, max_pixels, max_bytes) {
         DecodeSettings::Known(options) => match decoder::decode_frames(bytes, options, out) {

@@ -36,7 +36,13 @@ fn kind_number(kind: ExtFieldType) -> u8
 }
 
 pub(crate) fn field_numbers(fields: HeaderFields) -> FieldNumbers
-    ensures { λ r. ⌜ r ≡ record { kind = fieldsKind (extSpan fields); start = fieldsStart (extSpan fields); len = fieldsLength (extSpan fields); pairs = fieldsPairs (extSpan fields) } ⌝ }
+    ensures { λ r. ⌜ r ≡ record {
+      kind = fieldsKind (extSpan fields);
+      start = fieldsStart (extSpan fields);
+      len = fieldsLength
+          (extSpan fields);
+      pairs = fieldsPairs (extSpan fields);
+    } ⌝ }
 {
     match fields {
         HeaderFields::Absent => FieldNumbers {

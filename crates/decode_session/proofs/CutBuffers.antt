@@ -45,7 +45,7 @@ module _ (d : Decoding) (file : List ℕ) (h : Outline) (accepted : readImage d 
       let g = f .does (still at) st in
       let n = subst (Sends d file h accepted at ext (o .next)) (g .0) (sending d file h accepted at size out ext l) in
       record {
-        stands = subst (Stands (r .session)) (n .next-is) (g .1);
+        stands = subst (Stands (r .session)) (n .nextIs) (g .1);
         holds =
             λ k. subst (K (at + tookOf (fedMeaning (r .answer)))) (sym (n .stores))
             (more at (tookOf (fedMeaning (r .answer))) ext (n .there) k);

@@ -52,7 +52,7 @@ module _ (d : Decoding) (file : List ℕ) (h : Outline) (accepted : readImage d 
 
   -- what a feeding call comes to: nothing, or the next bytes
   pub record Sends (at : ℕ) (ext : List ℕ) (next : Model) (r : Reply) : Type 0 where
-    pub next-is : next ≡ still (at + tookOf (r .answer))
+    pub nextIs : next ≡ still (at + tookOf (r .answer))
     pub sends : bytesOf (r .answer) (r .output) ≡ drop (length (sent at)) (sent (at + tookOf (r .answer)))
     pub stores : r .extension ≡ storedTo at (at + tookOf (r .answer)) ext
     pub unmet : isMet (r .answer) ≡ false
@@ -68,7 +68,7 @@ module _ (d : Decoding) (file : List ℕ) (h : Outline) (accepted : readImage d 
         by-case (still at) piece out ext (λ o. Sends at ext (o .next) (o .reply))
         (let z : at ≡ at + 0 = omega arith in
         record {
-          next-is = ap still z;
+          nextIs = ap still z;
           sends = sym (drop-length (sent at)) ∙ ap (λ (n : ℕ). drop (length (sent at)) (sent n)) z;
           stores =
               ap (sets ext _) (sym (drop-length (fieldBytes (imageSettings (d .mode)) (take at file))))
@@ -79,7 +79,7 @@ module _ (d : Decoding) (file : List ℕ) (h : Outline) (accepted : readImage d 
         (let n = next-part file at size (takes (still at) piece (length out)) l
         (most-small ceiling d (take at file) piece (length out) (length piece)) in
         record {
-          next-is = ap (λ (bytes : List ℕ). record { options = d; live = true; bytes = bytes; met = nothing }) (n .0);
+          nextIs = ap (λ (bytes : List ℕ). record { options = d; live = true; bytes = bytes; met = nothing }) (n .0);
           sends =
               take-append-seam (written (still at) piece (length out)) _
               ∙ ap (λ (bytes : List ℕ). drop (length (sent at)) (sequence ceiling d bytes)) (n .0);
@@ -102,7 +102,7 @@ module _ (d : Decoding) (file : List ℕ) (h : Outline) (accepted : readImage d 
       let q : rs ≡ replies (o .next) cs = cc in
       let n = subst (Sends at ext (o .next)) p (sending at size out ext l) in
       let to = at + tookOf (r .answer) in
-      let ih = outputs {at = to} (n .there) (rw f (n .unmet)) c (q ∙ ap (λ (m : Model). replies m cs) (n .next-is)) in
+      let ih = outputs {at = to} (n .there) (rw f (n .unmet)) c (q ∙ ap (λ (m : Model). replies m cs) (n .nextIs)) in
       ap₂ _++_ (n .sends) ih ∙ seams (sent at) (sent to) (sequence ceiling d file) (grows at (tookOf (r .answer))) (to-end to)
   outputs {at} l f (taken {r = r} k) e =
       let p : r ≡ outcome (still at) close .reply = cc in

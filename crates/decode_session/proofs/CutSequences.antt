@@ -21,7 +21,7 @@ module _ (format : PixelFormat) (width : ℕ) where
   body-extends at s t e =
       record {
         rest = bodyFrom format width (at + length s) (e .rest);
-        whole-is = ap (bodyFrom format width at) (e .whole-is) ∙ body-append format width s (e .rest) at;
+        wholeIs = ap (bodyFrom format width at) (e .wholeIs) ∙ body-append format width s (e .rest) at;
       }
 
 pub sequence-none : (ceiling : ℕ) (d : Decoding) → sequence ceiling d [] ≡ []
@@ -40,5 +40,5 @@ module _ (ceiling : ℕ) (d : Decoding) (s ρ : List ℕ) where
           (take (ceiling * planeOf h) (drop (h .body) (s ++ ρ)))
           (let a = drop-extends (h .body) s ρ in
           let b = take-extends (ceiling * planeOf h) (drop (h .body) s) (a .rest) in
-          record { rest = b .rest; whole-is = ap (take (ceiling * planeOf h)) (a .whole-is) ∙ b .whole-is }))
-      go (refuses code place) e = record { rest = sequenceOf ceiling (d .format) (s ++ ρ) (headerOf (d .mode) (s ++ ρ)); whole-is = refl }
+          record { rest = b .rest; wholeIs = ap (take (ceiling * planeOf h)) (a .wholeIs) ∙ b .wholeIs }))
+      go (refuses code place) e = record { rest = sequenceOf ceiling (d .format) (s ++ ρ) (headerOf (d .mode) (s ++ ρ)); wholeIs = refl }

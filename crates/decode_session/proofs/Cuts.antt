@@ -46,7 +46,7 @@ module _ (d : Decoding) (file : List ℕ) where
 
   pub record Next (at : ℕ) (flag : Bool) (o : Outcome) : Type 0 where
     pub met′ : Met
-    pub next-is : o .next ≡ midway (at + tookOf (o .reply .answer)) met′
+    pub nextIs : o .next ≡ midway (at + tookOf (o .reply .answer)) met′
     pub holds : Meets (flag || isMet (o .reply .answer)) met′
     pub there : at + tookOf (o .reply .answer) ≤ length file
 
@@ -72,7 +72,7 @@ module _ (d : Decoding) (file : List ℕ) where
         let z : at + 0 ≡ at = omega arith in
         record {
           met′ = x;
-          next-is = ap (λ (n : ℕ). midway n x) (sym z);
+          nextIs = ap (λ (n : ℕ). midway n x) (sym z);
           holds = h;
           there = omega arith;
         }
@@ -86,7 +86,7 @@ module _ (d : Decoding) (file : List ℕ) where
         let n = next-part file at size count l (most-small ceiling d (take at file) piece (length out) (length piece)) in
         record {
           met′ = nothing;
-          next-is = ap (λ (bytes : List ℕ). record { options = d; live = true; bytes = bytes; met = nothing }) (n .0);
+          nextIs = ap (λ (bytes : List ℕ). record { options = d; live = true; bytes = bytes; met = nothing }) (n .0);
           holds = unmet;
           there = n .1;
         }
@@ -102,7 +102,7 @@ module _ (d : Decoding) (file : List ℕ) where
         let z : at + 0 ≡ at = omega arith in
         record {
           met′ = metAt code place;
-          next-is = ap (λ (n : ℕ). midway n (metAt code place)) (sym z);
+          nextIs = ap (λ (n : ℕ). midway n (metAt code place)) (sym z);
           holds = met (met-whole at size code place f e);
           there = omega arith;
         })
@@ -131,7 +131,7 @@ module _ (d : Decoding) (file : List ℕ) where
       let n = step at size out ext l flag x h in
       whole (n .met′) (subst (λ (r : Reply). Meets (flag || isMet (r .answer)) (n .met′)) p (n .holds))
       (subst (λ (r : Reply). at + tookOf (r .answer) ≤ length file) p (n .there)) c
-      (q ∙ ap (λ (m : Model). replies m cs) (n .next-is ∙ ap (λ (r : Reply). midway (at + tookOf (r .answer)) (n .met′)) p))
+      (q ∙ ap (λ (m : Model). replies m cs) (n .nextIs ∙ ap (λ (r : Reply). midway (at + tookOf (r .answer)) (n .met′)) p))
   whole {at} x h l (taken {r = r} k) e =
       let p : r ≡ outcome (midway at x) close .reply = cc in
       ap (λ (r : Reply). r .answer) p ∙ taken-whole at x h k

@@ -8,7 +8,8 @@ use Rattle.error.specs.Answer.{gives, refuses, map}
 use Rattle.laws.proofs.Tests.{zero-one}
 use Rattle.header.specs.Settings.{Settings}
 use Rattle.header.specs.Read.{Outline, outline, readHeader}
-use Rattle.header_reader.specs.Internal.Machine.{State, inType, atFix, inOctets, atOctet, atPair, inIdentifier, inValue, inWidth, inHeight, Step, more, done, refused, start, steps, stepOf, resume, after}
+use Rattle.header_reader.specs.Internal.Machine.{State, inType, atFix, inOctets, atOctet, atPair, inIdentifier, inValue, inWidth}
+use Rattle.header_reader.specs.Internal.Machine.{inHeight, Step, more, done, refused, start, steps, stepOf, resume, after}
 use Rattle.header_reader.specs.Internal.Pieces.{onward}
 use Rattle.header_reader.specs.Internal.Represents.{Sound}
 use Rattle.header_reader.specs.declared.reader.HeaderReader.{HeaderReader}

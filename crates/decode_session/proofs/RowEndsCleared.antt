@@ -63,8 +63,8 @@ cleared-none w at l e = record { same = refl; byte = λ j h. sym (padded-none w 
 
 -- the row ends before `last`, which is one, are cleared
 pub record Clearing (w at row mask : ℕ) (old new : List ℕ) (last : ℕ) : Type 0 where
-  pub row-is : row ≡ rowBytes w
-  pub mask-is : mask ≡ paddingMask w
+  pub rowIs : row ≡ rowBytes w
+  pub maskIs : mask ≡ paddingMask w
   pub wide : 0 < row
   pub same : length new ≡ length old
   pub aligned : (at + last) % rowBytes w + 1 ≡ rowBytes w
@@ -77,8 +77,8 @@ begins w at row mask l p q h =
     let a : (at + (row - 1 - at % row)) % rowBytes w + 1 ≡ rowBytes w =
     subst (λ (r : ℕ). (at + (row - 1 - at % row)) % r + 1 ≡ r) p (first-end row at h) in
     record {
-      row-is = p;
-      mask-is = q;
+      rowIs = p;
+      maskIs = q;
       wide = h;
       same = refl;
       aligned = a;
@@ -93,11 +93,11 @@ module _ {w at row mask : ℕ} {old new : List ℕ} {last : ℕ} (c : Clearing w
   pub goes-on : last < length new → getD new last 0 < 256
       → Clearing w at row mask old (set new last (bitAnd (getD new last 0) mask)) (last + row)
   goes-on h small =
-      let r = c .row-is in
+      let r = c .rowIs in
       let here = c .aligned in
       record {
-        row-is = c .row-is;
-        mask-is = c .mask-is;
+        rowIs = c .rowIs;
+        maskIs = c .maskIs;
         wide = c .wide;
         same = length-set new last _ ∙ c .same;
         aligned =
@@ -112,7 +112,7 @@ module _ {w at row mask : ℕ} {old new : List ℕ} {last : ℕ} (c : Clearing w
 
       cleared : value ≡ padded w (at + last) (getD old last 0)
       cleared =
-          ap (bitAnd (getD new last 0)) (c .mask-is)
+          ap (bitAnd (getD new last 0)) (c .maskIs)
           ∙ mask-low (paddingBits w) (getD new last 0) (omega arith) small
           ∙ ap (clearLow (paddingBits w)) (c .behind last (omega arith))
           ∙ sym (padded-end w (at + last) (getD old last 0) (c .aligned))
@@ -124,7 +124,7 @@ module _ {w at row mask : ℕ} {old new : List ℕ} {last : ℕ} (c : Clearing w
           getD-set-other new last j value 0 (λ e. omega arith) ∙ c .behind j (omega arith)
           ∙ sym
           (padded-inside w (at + j) (getD old j 0)
-          (λ e. let far = apart (rowBytes w) (at + last) (at + j) (c .aligned) e (omega arith) in omega (arith, c .row-is)))
+          (λ e. let far = apart (rowBytes w) (at + last) (at + j) (c .aligned) e (omega arith) in omega (arith, c .rowIs)))
       at-byte j k (no l) (no g) =
           let e : j ≡ last = omega arith in
           ap (λ (n : ℕ). getD (set new last value) n 0) e ∙ getD-set-same new last value 0 h ∙ cleared

@@ -11,7 +11,8 @@ use lib.Seq.{sets, take-suc, take-all, take-add, drop-append-le, length-take-le}
 use Rattle.laws.proofs.Tests.{zero-one}
 use Rattle.laws.proofs.Runs.{sets-append}
 use Rattle.header.specs.Settings.{Settings}
-use Rattle.header_reader.specs.Internal.Machine.{State, start, inType, atFix, inOctets, atOctet, atPair, inIdentifier, inValue, inWidth, inHeight, inFields, Step, more, steps}
+use Rattle.header_reader.specs.Internal.Machine.{State, start, inType, atFix, inOctets, atOctet, atPair}
+use Rattle.header_reader.specs.Internal.Machine.{inIdentifier, inValue, inWidth, inHeight, inFields, Step, more, steps}
 use Rattle.header_reader.specs.Internal.Represents.{Sound}
 use Rattle.header_reader.specs.Internal.Pieces.{onward}
 use Rattle.header_reader.specs.Internal.Run.{fieldsStart, Inside, RunReached, ReaderRuns}

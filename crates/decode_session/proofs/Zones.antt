@@ -11,7 +11,8 @@ use Rattle.mbi.specs.Read.{ByteRead, goes, ends, wrong, readByte}
 use Rattle.ext.specs.Kinds.{Span, absent, span, fieldsFollow, kindBits}
 use Rattle.ext.specs.Internal.Bytewise.{valueFault}
 use Rattle.header.specs.Settings.{Settings}
-use Rattle.header_reader.specs.Internal.Machine.{State, inType, atFix, inOctets, atOctet, atPair, inIdentifier, inValue, inWidth, inHeight, inFields, Step, more, done, refused, onByte, stepOf}
+use Rattle.header_reader.specs.Internal.Machine.{State, inType, atFix, inOctets, atOctet, atPair, inIdentifier, inValue}
+use Rattle.header_reader.specs.Internal.Machine.{inWidth, inHeight, inFields, Step, more, done, refused, onByte, stepOf}
 use Rattle.header_reader.specs.Internal.Represents.{Sound}
 use Rattle.header_reader.proofs.BytesTaken.{taken}
 

@@ -48,7 +48,7 @@ module _ (most : ℕ) (f : PixelFormat) (bytes : List ℕ) (h : Outline) (n : �
   too-short l =
       record {
         answer = sym (if-false _ _ _ (lt-leb _ _ l)) ∙ answers;
-        output-is = sym (if-false _ _ _ (lt-leb _ _ (subst (λ (k : ℕ). length old < k) (sym all-length) l))) ∙ outputs;
+        outputIs = sym (if-false _ _ _ (lt-leb _ _ (subst (λ (k : ℕ). length old < k) (sym all-length) l))) ∙ outputs;
       }
 
   pub long-enough : n * planeOf h ≤ length old → (new : List ℕ) → new ≡ planes f bytes h n ++ drop (n * planeOf h) old
@@ -56,7 +56,7 @@ module _ (most : ℕ) (f : PixelFormat) (bytes : List ℕ) (h : Outline) (n : �
   long-enough l new e written w =
       record {
         answer = ap (λ (k : ℕ). gives (imageWith h n k)) w ∙ sym (if-true _ _ _ (le-leb _ _ l)) ∙ answers;
-        output-is =
+        outputIs =
             e ∙ ap (λ (k : ℕ). planes f bytes h n ++ drop k old) (sym all-length)
             ∙ sym (if-true _ _ _ (le-leb _ _ (subst (λ (k : ℕ). k ≤ length old) (sym all-length) l)))
             ∙ outputs;
@@ -69,8 +69,8 @@ module _ (ceiling : ℕ) (d : Decoding) (bytes old : List ℕ) where
   imaged h r new e p =
       record {
         answer = p .answer ∙ sym (ap (λ (a : Answer Outline). bind a (λ h. fitted (length old) h (framesIn ceiling (length bytes) h))) e);
-        output-is =
-            p .output-is
+        outputIs =
+            p .outputIs
             ∙ sym (ap (λ (a : Answer Outline). output (map (λ h. planes (d .format) bytes h (framesIn ceiling (length bytes) h)) a) old) e);
       }
 
@@ -79,7 +79,7 @@ module _ (ceiling : ℕ) (d : Decoding) (bytes old : List ℕ) where
   refused code offset e =
       record {
         answer = sym (ap (λ (a : Answer Outline). bind a (λ h. fitted (length old) h (framesIn ceiling (length bytes) h))) e);
-        output-is =
+        outputIs =
             sym (ap (λ (a : Answer Outline). output (map (λ h. planes (d .format) bytes h (framesIn ceiling (length bytes) h)) a) old) e);
       }
 
@@ -91,8 +91,8 @@ module _ (ceiling : ℕ) (d : Decoding) (bytes old : List ℕ) where
         answer =
             p .answer ∙ ap (λ (n : ℕ). decoded n d bytes (length old)) c
             ∙ sym (ap (λ (a : Answer Decoding). bind a (λ s. decoded ceiling s bytes (length old))) s);
-        output-is =
-            p .output-is ∙ ap (λ (n : ℕ). output (shown n d bytes) old) c
+        outputIs =
+            p .outputIs ∙ ap (λ (n : ℕ). output (shown n d bytes) old) c
             ∙ sym (ap (λ (a : Answer Decoding). output (bind a (λ s. shown ceiling s bytes)) old) s);
       }
 

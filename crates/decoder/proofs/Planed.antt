@@ -51,22 +51,22 @@ module _ (f : PixelFormat) (bytes : List ℕ) (h : Outline) where
 
 -- the planes before k are written
 pub record Planing (f : PixelFormat) (bytes : List ℕ) (h : Outline) (out₀ : List ℕ) (plane frames : ℕ) (out : List ℕ) (k : ℕ) : Type 0 where
-  pub plane-is : plane ≡ planeOf h
+  pub planeIs : plane ≡ planeOf h
   pub turn : k ≤ frames
   pub inside : h .body + frames * plane ≤ length bytes
   pub room : frames * plane ≤ length out₀
-  pub now-is : out ≡ sets out₀ 0 (planes f bytes h k)
+  pub nowIs : out ≡ sets out₀ 0 (planes f bytes h k)
 
 pub begun : (f : PixelFormat) (bytes : List ℕ) (h : Outline) (out : List ℕ) (plane frames : ℕ) → plane ≡ planeOf h
     → h .body + frames * planeOf h ≤ length bytes → frames * planeOf h ≤ length out → Planing f bytes h out plane frames out 0
 unfolding planes
 begun f bytes h out plane frames e a b =
-    record { plane-is = e; turn = omega arith; inside = rw e a; room = rw e b; now-is = refl }
+    record { planeIs = e; turn = omega arith; inside = rw e a; room = rw e b; nowIs = refl }
 
 module _ {f : PixelFormat} {bytes : List ℕ} {h : Outline} {out₀ : List ℕ} {plane frames : ℕ} {out : List ℕ} {k : ℕ}
     (c : Planing f bytes h out₀ plane frames out k) where
   pub kept-length : length out ≡ length out₀
-  kept-length = ap length (c .now-is) ∙ length-sets out₀ 0 (planes f bytes h k)
+  kept-length = ap length (c .nowIs) ∙ length-sets out₀ 0 (planes f bytes h k)
 
   -- plane k is in the file and in the output
   pub next-in : k < frames → (h .body + k * plane + plane ≤ length bytes) × (k * plane + plane ≤ length out)
@@ -80,13 +80,13 @@ module _ {f : PixelFormat} {bytes : List ℕ} {h : Outline} {out₀ : List ℕ} 
       let e : from + plane - from ≡ plane = omega arith in
       ap (λ (n : ℕ). take n (drop from bytes)) e
       ∙ ap (λ (n : ℕ). take plane (drop n bytes)) p
-      ∙ ap (λ (n : ℕ). take n (drop (h .body + k * n) bytes)) (c .plane-is)
+      ∙ ap (λ (n : ℕ). take n (drop (h .body + k * n) bytes)) (c .planeIs)
 
   front : k ≤ frames → length (planes f bytes h k) ≡ k * plane
   front l =
       let p : k * plane ≤ frames * plane = mul-le-mul-right plane l in
       let b : h .body + k * plane ≤ length bytes = omega (arith, c .inside) in
-      planes-length f bytes h k (rw (c .plane-is) at b) ∙ rw (c .plane-is)
+      planes-length f bytes h k (rw (c .planeIs) at b) ∙ rw (c .planeIs)
 
   pub planed : (to : ℕ) (source new : List ℕ) → k < frames → to ≡ k * plane → source ≡ sourcePlane bytes h k
       → new ≡ convertFormat MonoBlack f (h .width) (h .height) (rowBytes (h .width)) source ++ drop (length source)
@@ -95,10 +95,10 @@ module _ {f : PixelFormat} {bytes : List ℕ} {h : Outline} {out₀ : List ℕ} 
   unfolding planes planeAt
   planed to source new l t s e =
       let v = planeAt f bytes h k in
-      let b : h .body + k * planeOf h + planeOf h ≤ length bytes = rw (c .plane-is) at (next-in l .0) in
+      let b : h .body + k * planeOf h + planeOf h ≤ length bytes = rw (c .planeIs) at (next-in l .0) in
       let n : length v ≡ planeOf h = plane-length f bytes h k b in
       let m : length source ≡ length v = ap length s ∙ length-part (planeOf h) (h .body + k * planeOf h) bytes b ∙ sym n in
-      let fits : to + length v ≤ length out = omega (arith, next-in l .1, c .plane-is) in
+      let fits : to + length v ≤ length out = omega (arith, next-in l .1, c .planeIs) in
       let d : midOf to (length out - to) out ≡ drop to out =
       take-all (length out - to) (drop to out) (rw (length-drop to out) (omega arith)) in
       let new-is : new ≡ v ++ drop (length v) (drop to out) =
@@ -108,15 +108,15 @@ module _ {f : PixelFormat} {bytes : List ℕ} {h : Outline} {out₀ : List ℕ} 
       ∙ ap (λ (q : List ℕ). v ++ drop (length v) q) d in
       let at-front : to ≡ 0 + length (planes f bytes h k) = omega (arith, front (c .turn)) in
       record {
-        plane-is = c .plane-is;
+        planeIs = c .planeIs;
         turn = omega arith;
         inside = c .inside;
         room = c .room;
-        now-is =
+        nowIs =
             ap (putMid to (length out - to) out) new-is
             ∙ sets-part out v to fits
             ∙ ap (λ (q : ℕ). sets out q v) at-front
-            ∙ ap (λ (q : List ℕ). sets q (0 + length (planes f bytes h k)) v) (c .now-is)
+            ∙ ap (λ (q : List ℕ). sets q (0 + length (planes f bytes h k)) v) (c .nowIs)
             ∙ sets-append out₀ 0 (planes f bytes h k) v
             ∙ ap (λ (q : ℕ). sets out₀ 0 (planes f bytes h q)) (sym (add-one k));
       }
@@ -126,6 +126,6 @@ module _ {f : PixelFormat} {bytes : List ℕ} {h : Outline} {out₀ : List ℕ} 
       let e : k ≡ frames = omega (arith, c .turn) in
       let n : length (planes f bytes h frames) ≡ frames * plane =
       ap (λ (k : ℕ). length (planes f bytes h k)) (sym e) ∙ front (c .turn) ∙ ap (λ (k : ℕ). k * plane) e in
-      c .now-is ∙ ap (λ (k : ℕ). sets out₀ 0 (planes f bytes h k)) e
+      c .nowIs ∙ ap (λ (k : ℕ). sets out₀ 0 (planes f bytes h k)) e
       ∙ sets-front out₀ (planes f bytes h frames) (omega (arith, c .room))
-      ∙ ap (λ (q : ℕ). planes f bytes h frames ++ drop q out₀) (n ∙ ap (λ (q : ℕ). frames * q) (c .plane-is))
+      ∙ ap (λ (q : ℕ). planes f bytes h frames ++ drop q out₀) (n ∙ ap (λ (q : ℕ). frames * q) (c .planeIs))

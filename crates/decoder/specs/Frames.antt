@@ -64,17 +64,17 @@ shownBy ceiling d bytes = bind (settled d) (λ s. shown ceiling s bytes)
 -- what whole reading promises of its answer and of the lent output; nothing is altered by a refusal
 pub record Decodes (ceiling : ℕ) (d : Decoding) (bytes : List ℕ) (r : Answer Image) (old new : List ℕ) : Type 0 where
   pub answer : r ≡ decodedBy ceiling d bytes (length old)
-  pub output-is : new ≡ output (shownBy ceiling d bytes) old
+  pub outputIs : new ≡ output (shownBy ceiling d bytes) old
 
 -- the same behind the test of the settings
 pub record Imaged (ceiling : ℕ) (d : Decoding) (bytes : List ℕ) (r : Answer Image) (old new : List ℕ) : Type 0 where
   pub answer : r ≡ decoded ceiling d bytes (length old)
-  pub output-is : new ≡ output (shown ceiling d bytes) old
+  pub outputIs : new ≡ output (shown ceiling d bytes) old
 
 -- and behind the tests of an image
 pub record Framed (ceiling : ℕ) (format : PixelFormat) (bytes : List ℕ) (h : Outline) (r : Answer Image) (old new : List ℕ) : Type 0 where
   pub answer : r ≡ fitted (length old) h (framesIn ceiling (length bytes) h)
-  pub output-is : new ≡ output (gives (planes format bytes h (framesIn ceiling (length bytes) h))) old
+  pub outputIs : new ≡ output (gives (planes format bytes h (framesIn ceiling (length bytes) h))) old
 
 -- what the code's values mean
 abbrev pub image : DecodedImage → Image

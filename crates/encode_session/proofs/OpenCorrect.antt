@@ -87,7 +87,8 @@ module _ (a : Opening) (work : ℕ) where
 
   pub passed : (bytes : List ℕ) → header a work ≡ gives bytes → Passed bytes
   passed bytes given =
-      go (eqb (a .width) 0) (eqb (a .height) 0) (knownRule (a .options .quantize)) (serves a work) refl refl refl refl (sym header-is ∙ given)
+      go (eqb (a .width) 0) (eqb (a .height) 0) (knownRule (a .options .quantize)) (serves a work) refl refl refl refl
+      (sym header-is ∙ given)
     where
       go : (p q r s : Bool) → eqb (a .width) 0 ≡ p → eqb (a .height) 0 ≡ q → knownRule (a .options .quantize) ≡ r → serves a work ≡ s
           → if (p || q) (refuses 8 0) (if r (if s fields (refuses 28 0)) (refuses 29 0)) ≡ gives bytes → Passed bytes

@@ -1,4 +1,5 @@
--- Two planes of nine by two dots as MonoWhite, a byte between their rows and dirty padding: the laws on planes to be written hold of something.
+-- Two planes of nine by two dots as MonoWhite, a byte between their rows and dirty padding: the laws on planes to be written hold of
+-- something.
 use Prim.Native.Nat.{ℕ, _*_, _≤_}
 use mathlib.Core.Path.{_≡_, refl}
 use mathlib.Core.Bool.{false}

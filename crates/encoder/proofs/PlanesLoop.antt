@@ -34,24 +34,24 @@ module _ (f : PixelFormat) (w h s : ℕ) where
 
 -- the planes before k are written
 pub record Planing (f : PixelFormat) (w h s : ℕ) (planes out₀ : List ℕ) (count plane needed : ℕ) (out : List ℕ) (k : ℕ) : Type 0 where
-  pub plane-is : plane ≡ planeBytes w h
-  pub needed-is : needed ≡ neededBytes w h s
+  pub planeIs : plane ≡ planeBytes w h
+  pub neededIs : needed ≡ neededBytes w h s
   pub turn : k ≤ count
   pub inside : count * needed ≤ length planes
   pub room : count * plane ≤ length out₀
-  pub now-is : out ≡ sets out₀ 0 (wirePlanes f w h s planes k)
+  pub nowIs : out ≡ sets out₀ 0 (wirePlanes f w h s planes k)
 
 pub begun : (f : PixelFormat) (w h s : ℕ) (planes out : List ℕ) (count plane needed : ℕ) → plane ≡ planeBytes w h
     → needed ≡ neededBytes w h s
     → count * neededBytes w h s ≤ length planes → count * planeBytes w h ≤ length out → Planing f w h s planes out count plane needed out 0
 unfolding wirePlanes
 begun f w h s planes out count plane needed e d a b =
-    record { plane-is = e; needed-is = d; turn = omega arith; inside = rw d a; room = rw e b; now-is = refl }
+    record { planeIs = e; neededIs = d; turn = omega arith; inside = rw d a; room = rw e b; nowIs = refl }
 
 module _ {f : PixelFormat} {w h s : ℕ} {planes out₀ : List ℕ} {count plane needed : ℕ} {out : List ℕ} {k : ℕ}
     (c : Planing f w h s planes out₀ count plane needed out k) where
   pub kept-length : length out ≡ length out₀
-  kept-length = ap length (c .now-is) ∙ length-sets out₀ 0 (wirePlanes f w h s planes k)
+  kept-length = ap length (c .nowIs) ∙ length-sets out₀ 0 (wirePlanes f w h s planes k)
 
   -- plane k is among those that are lent and has room in the output
   pub next-in : k < count → (k * needed + needed ≤ length planes) × (k * plane + plane ≤ length out)
@@ -66,10 +66,10 @@ module _ {f : PixelFormat} {w h s : ℕ} {planes out₀ : List ℕ} {count plane
       let e : from + needed - from ≡ needed = omega arith in
       ap (λ (n : ℕ). take n (drop from planes)) e
       ∙ ap (λ (n : ℕ). take needed (drop n planes)) p
-      ∙ ap (λ (n : ℕ). take n (drop (k * n) planes)) (c .needed-is)
+      ∙ ap (λ (n : ℕ). take n (drop (k * n) planes)) (c .neededIs)
 
   front : length (wirePlanes f w h s planes k) ≡ k * plane
-  front = planes-length f w h s planes k ∙ ap (λ (n : ℕ). k * n) (sym (c .plane-is))
+  front = planes-length f w h s planes k ∙ ap (λ (n : ℕ). k * n) (sym (c .planeIs))
 
   pub planed : (from to : ℕ) (r : Answer ℕ) (new : List ℕ) → k < count → from ≡ k * needed → to ≡ k * plane
       → Emits (gives (wireBits f w h s (take (from + needed - from) (drop from planes)))) r (midOf to (length out - to) out) new
@@ -78,20 +78,20 @@ module _ {f : PixelFormat} {w h s : ℕ} {planes out₀ : List ℕ} {count plane
   planed from to r new l p t e =
       let v = wireBits f w h s (lentPlane w h s planes k) in
       let n : length v ≡ planeBytes w h = plane-length f w h s (lentPlane w h s planes k) in
-      let fits : to + length v ≤ length out = omega (arith, next-in l .1, c .plane-is) in
+      let fits : to + length v ≤ length out = omega (arith, next-in l .1, c .planeIs) in
       let emitted : Emits (gives v) r (midOf to (length out - to) out) new =
       subst (λ (q : List ℕ). Emits (gives (wireBits f w h s q)) r (midOf to (length out - to) out) new) (source-is from p) e in
       let at-front : to ≡ 0 + length (wirePlanes f w h s planes k) = omega (arith, front) in
       record {
-        plane-is = c .plane-is;
-        needed-is = c .needed-is;
+        planeIs = c .planeIs;
+        neededIs = c .neededIs;
         turn = omega arith;
         inside = c .inside;
         room = c .room;
-        now-is =
+        nowIs =
             emits-part to out v new r fits emitted
             ∙ ap (λ (q : ℕ). sets out q v) at-front
-            ∙ ap (λ (q : List ℕ). sets q (0 + length (wirePlanes f w h s planes k)) v) (c .now-is)
+            ∙ ap (λ (q : List ℕ). sets q (0 + length (wirePlanes f w h s planes k)) v) (c .nowIs)
             ∙ sets-append out₀ 0 (wirePlanes f w h s planes k) v
             ∙ ap (λ (q : ℕ). sets out₀ 0 (wirePlanes f w h s planes q)) (sym (add-one k));
       }
@@ -100,8 +100,8 @@ module _ {f : PixelFormat} {w h s : ℕ} {planes out₀ : List ℕ} {count plane
   ended l =
       let e : k ≡ count = omega (arith, c .turn) in
       let n : length (wirePlanes f w h s planes count) ≡ count * planeBytes w h = planes-length f w h s planes count in
-      let m : count * planeBytes w h ≡ count * plane = ap (λ (q : ℕ). count * q) (sym (c .plane-is)) in
-      c .now-is
+      let m : count * planeBytes w h ≡ count * plane = ap (λ (q : ℕ). count * q) (sym (c .planeIs)) in
+      c .nowIs
       ∙ ap (λ (q : ℕ). sets out₀ 0 (wirePlanes f w h s planes q)) e
       ∙ sets-front out₀ (wirePlanes f w h s planes count) (omega (arith, c .room))
       ∙ ap (λ (q : ℕ). wirePlanes f w h s planes count ++ drop q out₀) n

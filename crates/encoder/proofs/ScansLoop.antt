@@ -46,12 +46,12 @@ module _ {ceiling : ℕ} {rule : Quantize} {w h n gray work : ℕ} (p : Passed c
 pub record Scanning (rule : Quantize) (w h count : ℕ) (gray : List ℕ) (work₀ : List ℤ) (out₀ : List ℕ) (area plane : ℕ) (work : List ℤ)
     (out : List ℕ) (k : ℕ) : Type 0 where
   pub passed : Passed 16 rule w h count (length gray) (length work₀)
-  pub area-is : area ≡ w * h
-  pub plane-is : plane ≡ planeBytes w h
+  pub areaIs : area ≡ w * h
+  pub planeIs : plane ≡ planeBytes w h
   pub room : count * planeBytes w h ≤ length out₀
   pub turn : k ≤ count
-  pub now-is : out ≡ sets out₀ 0 (scanBytes rule w h gray k)
-  pub work-long : length work ≡ length work₀
+  pub nowIs : out ≡ sets out₀ 0 (scanBytes rule w h gray k)
+  pub workLong : length work ≡ length work₀
   pub beyond : drop w work ≡ drop w work₀
   pub spared : carries (meaning rule) ≡ false → work ≡ work₀
 
@@ -61,12 +61,12 @@ pub begun : (rule : Quantize) (w h count : ℕ) (gray : List ℕ) (work : List �
 begun rule w h count gray work out plane p e r =
     record {
       passed = p;
-      area-is = refl;
-      plane-is = e;
+      areaIs = refl;
+      planeIs = e;
       room = r;
       turn = omega arith;
-      now-is = ap (sets out 0) (sym (scans-none rule w h gray (p .sized .wide) (p .sized .high)));
-      work-long = refl;
+      nowIs = ap (sets out 0) (sym (scans-none rule w h gray (p .sized .wide) (p .sized .high)));
+      workLong = refl;
       beyond = refl;
       spared = λ _. refl;
     }
@@ -78,15 +78,15 @@ module _ {rule : Quantize} {w h count : ℕ} {gray : List ℕ} {work₀ : List �
   made = scanBytes rule w h gray k
 
   pub out-long : length out ≡ length out₀
-  out-long = ap length (c .now-is) ∙ length-sets out₀ 0 made
+  out-long = ap length (c .nowIs) ∙ length-sets out₀ 0 made
 
   -- scan k is among the samples, and its plane in the output
   pub next-in : k < count → (k * area + area ≤ length gray) × (k * plane + plane ≤ length out)
   next-in l =
       let a : suc k * area ≤ count * area = mul-le-mul-right area l in
       let b : suc k * plane ≤ count * plane = mul-le-mul-right plane l in
-      let p : count * area ≤ length gray = rw (c .area-is) (c .passed .enough) in
-      let q : count * plane ≤ length out₀ = rw (c .plane-is) (c .room) in
+      let p : count * area ≤ length gray = rw (c .areaIs) (c .passed .enough) in
+      let q : count * plane ≤ length out₀ = rw (c .planeIs) (c .room) in
       let o = out-long in
       (omega arith, omega arith)
 
@@ -103,33 +103,33 @@ module _ {rule : Quantize} {w h count : ℕ} {gray : List ℕ} {work₀ : List �
       let samples = drop (k * (w * h)) gray in
       let v = finished (setting rule w h 1) (take (w * h) samples) in
       let i = next-in l in
-      let m : from ≡ k * (w * h) = f ∙ ap (λ (a : ℕ). k * a) (c .area-is) in
+      let m : from ≡ k * (w * h) = f ∙ ap (λ (a : ℕ). k * a) (c .areaIs) in
       let source : take (length gray - from) (drop from gray) ≡ samples =
       take-all (length gray - from) (drop from gray) (rw (length-drop from gray) (omega arith)) ∙ ap (λ (a : ℕ). drop a gray) m in
-      let enough : w * h ≤ length samples = rw (length-drop (k * (w * h)) gray) (omega (arith, i .0, c .area-is)) in
+      let enough : w * h ≤ length samples = rw (length-drop (k * (w * h)) gray) (omega (arith, i .0, c .areaIs)) in
       let given : quantized rule w h (take (length gray - from) (drop from gray)) (length work) ≡ gives v =
       ap (λ (s : List ℕ). quantized rule w h s (length work)) source
-      ∙ ap (quantized rule w h samples) (c .work-long)
+      ∙ ap (quantized rule w h samples) (c .workLong)
       ∙ plane-given (c .passed) samples enough in
       let long : length v ≡ planeBytes w h = plane-long rule w h wide high samples enough ∙ mul-comm h (rowBytes w) in
-      let fits : to + length v ≤ length out = omega (arith, i .1, c .plane-is) in
-      let place : k * plane ≡ k * planeBytes w h = ap (λ (a : ℕ). k * a) (c .plane-is) in
+      let fits : to + length v ≤ length out = omega (arith, i .1, c .planeIs) in
+      let place : k * plane ≡ k * planeBytes w h = ap (λ (a : ℕ). k * a) (c .planeIs) in
       let front : to ≡ 0 + length made = omega (arith, scans-long rule w h gray wide high k (there (c .turn))) in
       record {
         passed = c .passed;
-        area-is = c .area-is;
-        plane-is = c .plane-is;
+        areaIs = c .areaIs;
+        planeIs = c .planeIs;
         room = c .room;
         turn = omega arith;
-        now-is =
+        nowIs =
             emits-part to out v new r fits
             (subst (λ (a : Answer (List ℕ)). Emits a r (midOf to (length out - to) out) new) given (q .emits))
             ∙ ap (λ (p : ℕ). sets out p v) front
-            ∙ ap (λ (o : List ℕ). sets o (0 + length made) v) (c .now-is)
+            ∙ ap (λ (o : List ℕ). sets o (0 + length made) v) (c .nowIs)
             ∙ sets-append out₀ 0 made v
             ∙ ap (sets out₀ 0) (sym (scans-more rule w h gray wide high k (there (c .turn)))
             ∙ ap (scanBytes rule w h gray) (sym (add-one k)));
-        work-long = n ∙ c .work-long;
+        workLong = n ∙ c .workLong;
         beyond = q .beyond ∙ c .beyond;
         spared = λ d. q .spared d ∙ c .spared d;
       }
@@ -142,7 +142,7 @@ module _ {rule : Quantize} {w h count : ℕ} {gray : List ℕ} {work₀ : List �
       scans-long rule w h gray (c .passed .sized .wide) (c .passed .sized .high) count (c .passed .enough) in
       record {
         bytes =
-            c .now-is ∙ ap (λ (k : ℕ). sets out₀ 0 (scanBytes rule w h gray k)) e
+            c .nowIs ∙ ap (λ (k : ℕ). sets out₀ 0 (scanBytes rule w h gray k)) e
             ∙ sets-front out₀ all (omega (arith, c .room))
             ∙ ap (λ (i : ℕ). all ++ drop i out₀) n;
         beyond = c .beyond;

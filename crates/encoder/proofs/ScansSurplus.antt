@@ -53,7 +53,8 @@ unfolding mbiBytes groups fieldsBytes
 two-fronted = refl
 
 two-finished : finished (setting Dither 2 1 2) (127 ∷ 128 ∷ 128 ∷ 128 ∷ []) ≡ 0x40 ∷ 0x80 ∷ []
-unfolding upto appended part value white residual valueFrom handed rowValue above valueAt dot begunBytes count frame dotOf paddedBit byteAt finished
+unfolding upto appended part value white residual valueFrom handed rowValue above valueAt dot begunBytes count frame dotOf paddedBit byteAt
+    finished
 two-finished = refl
 
 two-surplus : (ρ : List ℕ) → fileOfScans 16 dithering 2 1 2 (scans ++ ρ) [] [] 4 ≡ fileOfScans 16 dithering 2 1 2 scans [] [] 4

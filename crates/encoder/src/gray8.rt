@@ -62,9 +62,11 @@ fn check_scans(
 // The planes of scans that passed the test, each in its own stretch of the lent output.
 fn put_scans(scans: Scans, gray: &[u8], rule: Quantize, work: &mut [i16], out: &mut [u8])
     requires { ⌜ Laid (scans .layout) ⌝ }
-    requires { ⌜ checkScans madeFrames rule (scans .layout .width) (scans .layout .height) (scans .count) (length (now gray)) (length (now work)) ≡ gives tt ⌝ }
+    requires { ⌜ checkScans madeFrames rule (scans .layout .width) (scans .layout .height) (scans .count) (length (now gray))
+        (length (now work)) ≡ gives tt ⌝ }
     requires { ⌜ scans .count * planeBytes (scans .layout .width) (scans .layout .height) ≤ length (now out) ⌝ }
-    ensures { λ r. ⌜ PutsScans rule (scans .layout .width) (scans .layout .height) (scans .count) (now (gray .entry)) (now (out .entry)) (now (work .entry)) (now (out .exit)) (now (work .exit)) ⌝ }
+    ensures { λ r. ⌜ PutsScans rule (scans .layout .width) (scans .layout .height) (scans .count) (now (gray .entry)) (now (out .entry))
+        (now (work .entry)) (now (out .exit)) (now (work .exit)) ⌝ }
 {
     let width = scans.layout.width;
     let height = scans.layout.height;
@@ -91,8 +93,10 @@ fn begin_made(
     out: &mut [u8],
 ) -> PairsBegun
     requires { ⌜ Laid (scans .layout) ⌝ }
-    requires { ⌜ checkScans madeFrames (options .quantize) (scans .layout .width) (scans .layout .height) (scans .count) (length (now gray)) (length (now work)) ≡ gives tt ⌝ }
-    ensures { λ r. ⌜ BeginsMade (scans .layout .width) (scans .layout .height) (scans .count) (now (gray .entry)) options (now (text .entry)) found (now (work .entry)) (now (work .exit)) (now (out .entry)) (now (out .exit)) r ⌝ }
+    requires { ⌜ checkScans madeFrames (options .quantize) (scans .layout .width) (scans .layout .height) (scans .count)
+        (length (now gray)) (length (now work)) ≡ gives tt ⌝ }
+    ensures { λ r. ⌜ BeginsMade (scans .layout .width) (scans .layout .height) (scans .count) (now (gray .entry)) options
+        (now (text .entry)) found (now (work .entry)) (now (work .exit)) (now (out .entry)) (now (out .exit)) r ⌝ }
 {
     let rule = options.quantize;
     let width = scans.layout.width;
@@ -131,7 +135,8 @@ fn begin_gray8(
     work: &mut [i16],
     out: &mut [u8],
 ) -> PairsBegun
-    ensures { λ r. ⌜ BeginsMade width height count (now (gray .entry)) options (now (text .entry)) found (now (work .entry)) (now (work .exit)) (now (out .entry)) (now (out .exit)) r ⌝ }
+    ensures { λ r. ⌜ BeginsMade width height count (now (gray .entry)) options (now (text .entry)) found (now (work .entry))
+        (now (work .exit)) (now (out .entry)) (now (out .exit)) r ⌝ }
 {
     let rule = options.quantize;
     let layout = PlaneLayout::new(width, height);
@@ -145,7 +150,8 @@ fn begin_gray8(
     }
 }
 
-// A file of `count` scans, each width × height samples; surplus gray is ignored. Nothing is written on a refusal. The pairs are lent as records.
+// A file of `count` scans, each width × height samples; surplus gray is ignored. Nothing is written on a refusal. The pairs are lent as
+// records.
 pub fn encode_gray8(
     width: u32,
     height: u32,
@@ -157,7 +163,8 @@ pub fn encode_gray8(
     work: &mut [i16],
     out: &mut [u8],
 ) -> Written
-    ensures { λ r. ⌜ Makes madeFrames options width height count (now (gray .entry)) (now (text .entry)) (flattened (now (parameters .entry))) (now (out .entry)) (now (work .entry)) (written r) (now (out .exit)) (now (work .exit)) ⌝ }
+    ensures { λ r. ⌜ Makes madeFrames options width height count (now (gray .entry)) (now (text .entry))
+        (flattened (now (parameters .entry))) (now (out .entry)) (now (work .entry)) (written r) (now (out .exit)) (now (work .exit)) ⌝ }
 {
     let found = ext_write::check_parameters(text, parameters, options.strict);
     let begun = begin_gray8(
@@ -186,7 +193,8 @@ pub fn encode_gray8_lengths(
     work: &mut [i16],
     out: &mut [u8],
 ) -> Written
-    ensures { λ r. ⌜ Makes madeFrames options width height count (now (gray .entry)) (now (text .entry)) (now (lengths .entry)) (now (out .entry)) (now (work .entry)) (written r) (now (out .exit)) (now (work .exit)) ⌝ }
+    ensures { λ r. ⌜ Makes madeFrames options width height count (now (gray .entry)) (now (text .entry)) (now (lengths .entry))
+        (now (out .entry)) (now (work .entry)) (written r) (now (out .exit)) (now (work .exit)) ⌝ }
 {
     let found = ext_write::check_lengths(text, lengths, options.strict);
     let begun = begin_gray8(

@@ -66,9 +66,12 @@ fn check_planes(width: u32, height: u32, count: usize, stride: usize, bytes: usi
 // Planes that were tested, as a file has them, each in its own stretch of the lent output.
 fn write_planes(lent: Planes, planes: &[u8], out: &mut [u8])
     requires { ⌜ Laid (lent .layout) ⌝ }
-    requires { ⌜ checkPlanes madeFrames (lent .layout .width) (lent .layout .height) (lent .count) (lent .stride) (length (now planes)) ≡ gives tt ⌝ }
+    requires { ⌜ checkPlanes madeFrames (lent .layout .width) (lent .layout .height) (lent .count) (lent .stride) (length (now planes))
+        ≡ gives tt ⌝ }
     requires { ⌜ lent .count * planeBytes (lent .layout .width) (lent .layout .height) ≤ length (now out) ⌝ }
-    ensures { λ r. ⌜ now (out .exit) ≡ wirePlanes (lent .format) (lent .layout .width) (lent .layout .height) (lent .stride) (now (planes .entry)) (lent .count) ++ drop (lent .count * planeBytes (lent .layout .width) (lent .layout .height)) (now (out .entry)) ⌝ }
+    ensures { λ r. ⌜ now (out .exit)
+        ≡ wirePlanes (lent .format) (lent .layout .width) (lent .layout .height) (lent .stride) (now (planes .entry)) (lent .count)
+        ++ drop (lent .count * planeBytes (lent .layout .width) (lent .layout .height)) (now (out .entry)) ⌝ }
 {
     let width = lent.layout.width;
     let height = lent.layout.height;
@@ -104,8 +107,10 @@ fn begin_file(
     out: &mut [u8],
 ) -> PairsBegun
     requires { ⌜ Laid (lent .layout) ⌝ }
-    requires { ⌜ checkPlanes madeFrames (lent .layout .width) (lent .layout .height) (lent .count) (lent .stride) (length (now planes)) ≡ gives tt ⌝ }
-    ensures { λ r. ⌜ BeginsFile (lent .layout .width) (lent .layout .height) (lent .count) (now (planes .entry)) (lent .stride) (lent .format) options (now (text .entry)) found (now (out .entry)) (now (out .exit)) r ⌝ }
+    requires { ⌜ checkPlanes madeFrames (lent .layout .width) (lent .layout .height) (lent .count) (lent .stride) (length (now planes))
+        ≡ gives tt ⌝ }
+    ensures { λ r. ⌜ BeginsFile (lent .layout .width) (lent .layout .height) (lent .count) (now (planes .entry)) (lent .stride)
+        (lent .format) options (now (text .entry)) found (now (out .entry)) (now (out .exit)) r ⌝ }
 {
     let width = lent.layout.width;
     let height = lent.layout.height;
@@ -144,7 +149,8 @@ fn begin_images(
     found: FieldsCheck,
     out: &mut [u8],
 ) -> PairsBegun
-    ensures { λ r. ⌜ BeginsImages width height count (now (planes .entry)) stride format options (now (text .entry)) found (now (out .entry)) (now (out .exit)) r ⌝ }
+    ensures { λ r. ⌜ BeginsImages width height count (now (planes .entry)) stride format options (now (text .entry)) found
+        (now (out .entry)) (now (out .exit)) r ⌝ }
 {
     let layout = PlaneLayout::new(width, height);
     let lent = Planes {
@@ -176,7 +182,8 @@ pub fn encode_images(
     parameters: &[Parameter],
     out: &mut [u8],
 ) -> Written
-    ensures { λ r. ⌜ Emits (fileOfPlanes madeFrames options format width height count stride (now (planes .entry)) (now (text .entry)) (flattened (now (parameters .entry)))) (written r) (now (out .entry)) (now (out .exit)) ⌝ }
+    ensures { λ r. ⌜ Emits (fileOfPlanes madeFrames options format width height count stride (now (planes .entry)) (now (text .entry))
+        (flattened (now (parameters .entry)))) (written r) (now (out .entry)) (now (out .exit)) ⌝ }
 {
     let found = ext_write::check_parameters(text, parameters, options.strict);
     let begun = begin_images(
@@ -207,7 +214,8 @@ pub fn encode_images_lengths(
     lengths: &[usize],
     out: &mut [u8],
 ) -> Written
-    ensures { λ r. ⌜ Emits (fileOfPlanes madeFrames options format width height count stride (now (planes .entry)) (now (text .entry)) (now (lengths .entry))) (written r) (now (out .entry)) (now (out .exit)) ⌝ }
+    ensures { λ r. ⌜ Emits (fileOfPlanes madeFrames options format width height count stride (now (planes .entry)) (now (text .entry))
+        (now (lengths .entry))) (written r) (now (out .entry)) (now (out .exit)) ⌝ }
 {
     let found = ext_write::check_lengths(text, lengths, options.strict);
     let begun = begin_images(

@@ -19,8 +19,8 @@ use Rattle.image.proofs.RowStarts.{Started}
 
 -- what is left to convert gives what converting everything gives
 pub record Converting (plane₀ : List ℕ) (w h s row mask : ℕ) (plane : List ℕ) (y : ℕ) : Type 0 where
-  pub row-is : row ≡ rowBytes w
-  pub mask-is : mask ≡ paddingMask w
+  pub rowIs : row ≡ rowBytes w
+  pub maskIs : mask ≡ paddingMask w
   pub turn : y ≤ h
   pub same : length plane ≡ length plane₀
   pub rest : convertRows w s (h - y) y plane ≡ convertRows w s h 0 plane₀
@@ -29,8 +29,8 @@ pub begun : (plane : List ℕ) (w h s : ℕ) (l : PlaneLayout) → l ≡ layoutO
     → Converting plane w h s (l .stride) (l .«last_byte_pad_mask») plane 0
 begun plane w h s l e =
     record {
-      row-is = sizes.stride-is e;
-      mask-is = sizes.mask-is e;
+      rowIs = sizes.stride-is e;
+      maskIs = sizes.mask-is e;
       turn = omega arith;
       same = refl;
       rest = let n : h - 0 ≡ h = omega arith in rw n;
@@ -62,17 +62,17 @@ module _ {plane₀ : List ℕ} {w h s row mask : ℕ} {plane : List ℕ} {y : �
       → new ≡ maskLast mask (invert (midOf at (at + row - at) plane))
       → Converting plane₀ w h s row mask (putMid at (at + row - at) plane new) (y + 1)
   converted at new k st e =
-      let b = row-back w s plane y at row mask new (st .place) (c .row-is) (c .mask-is) e in
+      let b = row-back w s plane y at row mask new (st .place) (c .rowIs) (c .maskIs) e in
       let n : h - y ≡ suc (h - (y + 1)) = omega arith in
       let long : length new ≡ length (midOf at (at + row - at) plane) = ap length e ∙ simp (length-set, invert-length) in
       record {
-        row-is = c .row-is;
-        mask-is = c .mask-is;
+        rowIs = c .rowIs;
+        maskIs = c .maskIs;
         turn = omega arith;
         same = same-len-mid at (at + row - at) plane new long ∙ c .same;
         rest =
             ap (convertRows w s (h - (y + 1)) (y + 1)) b
-            ∙ sym (rows-next w s plane y (h - (y + 1)) (omega (arith, st .room, c .row-is)))
+            ∙ sym (rows-next w s plane y (h - (y + 1)) (omega (arith, st .room, c .rowIs)))
             ∙ ap (λ (k : ℕ). convertRows w s k y plane) (sym n)
             ∙ c .rest;
       }
@@ -80,7 +80,7 @@ module _ {plane₀ : List ℕ} {w h s row mask : ℕ} {plane : List ℕ} {y : �
   pub stopped : y < h → length plane < y * s + row → plane ≡ convertRows w s h 0 plane₀
   stopped k m =
       let n : h - y ≡ suc (h - (y + 1)) = omega arith in
-      sym (rows-stop w s plane y (h - (y + 1)) (omega (arith, c .row-is))) ∙ ap (λ (k : ℕ). convertRows w s k y plane) (sym n) ∙ c .rest
+      sym (rows-stop w s plane y (h - (y + 1)) (omega (arith, c .rowIs))) ∙ ap (λ (k : ℕ). convertRows w s k y plane) (sym n) ∙ c .rest
 
   pub ended : h ≤ y → plane ≡ convertRows w s h 0 plane₀
   unfolding convertRows

@@ -12,24 +12,24 @@ use lib.Seq.{drop-cons, drop-drop, drop-append-add, drop-length}
 pub record FilledTo (target l₀ l : List ℕ) (i : ℕ) : Type 0 where
   pub same : length target ≡ length l₀
   pub within : i ≤ length l₀
-  pub now-is : l ≡ take i target ++ drop i l₀
+  pub nowIs : l ≡ take i target ++ drop i l₀
 
 module _ {target l₀ : List ℕ} where
   pub begun : length target ≡ length l₀ → FilledTo target l₀ l₀ 0
-  begun e = record { same = e; within = omega arith; now-is = refl }
+  begun e = record { same = e; within = omega arith; nowIs = refl }
 
   module _ {l : List ℕ} {i : ℕ} (f : FilledTo target l₀ l i) where
     pub kept-length : length l ≡ length l₀
     kept-length =
         let p : i ≤ length l₀ = f .within in
         let q : length target ≡ length l₀ = f .same in
-        ap length (f .now-is) ∙ length-append (take i target) (drop i l₀) ∙ simp (length-take, length-drop) (omega arith)
+        ap length (f .nowIs) ∙ length-append (take i target) (drop i l₀) ∙ simp (length-take, length-drop) (omega arith)
 
     head-length : length (take i target) ≡ i
     head-length = length-take-le i target (omega (arith, f .within, f .same))
 
     split : i < length l₀ → l ≡ take i target ++ getD l₀ i 0 ∷ drop (suc i) l₀
-    split h = f .now-is ∙ ap (λ (r : List ℕ). take i target ++ r) (drop-cons l₀ i 0 h)
+    split h = f .nowIs ∙ ap (λ (r : List ℕ). take i target ++ r) (drop-cons l₀ i 0 h)
 
     -- the next element is still as it was
     pub next-is : i < length l₀ → getD l i 0 ≡ getD l₀ i 0
@@ -40,7 +40,7 @@ module _ {target l₀ : List ℕ} where
         record {
           same = f .same;
           within = omega arith;
-          now-is =
+          nowIs =
               ap (λ (r : List ℕ). set r i v) (split h)
               ∙ set-at (take i target) (getD l₀ i 0) (drop (suc i) l₀) v i head-length
               ∙ sym (append-snoc (take i target) v (drop (suc i) l₀))
@@ -67,8 +67,8 @@ module _ {target l₀ : List ℕ} where
         record {
           same = f .same;
           within = q;
-          now-is =
-              rw (post-is i e l p, f .now-is, take-at (take i target) (drop i l₀) i head-length, behind e p, r)
+          nowIs =
+              rw (post-is i e l p, f .nowIs, take-at (take i target) (drop i l₀) i head-length, behind e p, r)
               (sym (append-assoc (take i target) (midOf i (e - i) target) (drop e l₀))
               ∙ ap (λ (r : List ℕ). r ++ drop e l₀) (sym (take-add i (e - i) target) ∙ ap (λ (j : ℕ). take j target) m));
         }
@@ -76,7 +76,7 @@ module _ {target l₀ : List ℕ} where
     pub done : length l₀ ≤ i → l ≡ target
     done h =
         let e : i ≡ length l₀ = omega (arith, f .within) in
-        f .now-is
+        f .nowIs
         ∙ ap (λ (r : List ℕ). r ++ drop i l₀) (take-all i target (omega (arith, f .same)))
         ∙ ap (λ (k : ℕ). target ++ drop k l₀) e
         ∙ ap (λ (r : List ℕ). target ++ r) (drop-length l₀)

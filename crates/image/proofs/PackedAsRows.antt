@@ -11,7 +11,8 @@ use lib.Arith.{lt-of-le-ne}
 use lib.Bits.{bitAnd}
 use lib.Dec.{eqb, ltb}
 use lib.ListN.{length, getD, set, take, drop, length-append, length-drop, length-set, List·getD-append}
-use lib.Seq.{length-take-le, take-all, drop-length, getD-append-add, getD-take, getD-drop, getD-set-same, getD-set-other, set-getD, ext-getD}
+use lib.Seq.{length-take-le, take-all, drop-length, getD-append-add, getD-take}
+use lib.Seq.{getD-drop, getD-set-same, getD-set-other, set-getD, ext-getD}
 use Rattle.laws.proofs.Products.{up-to, some-size}
 use Rattle.image.specs.Geometry.{rowBytes, planeBytes, paddingBits, paddingMask}
 use Rattle.image.specs.Internal.Parts.{clearRows}

@@ -56,12 +56,12 @@ module _ (f : PixelFormat) (w s : ℕ) (plane : List ℕ) where
 
 -- the rows before y are written
 pub record Wiring (plane : List ℕ) (w h s : ℕ) (f : PixelFormat) (out₀ : List ℕ) (row mask : ℕ) (out : List ℕ) (at y : ℕ) : Type 0 where
-  pub row-is : row ≡ rowBytes w
-  pub mask-is : mask ≡ paddingMask w
+  pub rowIs : row ≡ rowBytes w
+  pub maskIs : mask ≡ paddingMask w
   pub turn : y ≤ h
   pub place : at ≡ y * rowBytes w
   pub room : h * rowBytes w ≤ length out₀
-  pub now-is : out ≡ wireBits f w y s plane ++ drop at out₀
+  pub nowIs : out ≡ wireBits f w y s plane ++ drop at out₀
 
 pub begun : (plane : List ℕ) (w h s : ℕ) (f : PixelFormat) (out : List ℕ) (l : PlaneLayout) → l ≡ layoutOf w h
     → planeBytes w h ≤ length out → Wiring plane w h s f out (l .stride) (l .«last_byte_pad_mask») out 0 0
@@ -69,12 +69,12 @@ unfolding wireBits
 begun plane w h s f out l e k =
     let m = mul-comm (rowBytes w) h in
     record {
-      row-is = sizes.stride-is e;
-      mask-is = sizes.mask-is e;
+      rowIs = sizes.stride-is e;
+      maskIs = sizes.mask-is e;
       turn = omega arith;
       place = omega arith;
       room = omega arith;
-      now-is = refl;
+      nowIs = refl;
     }
 
 module _ {plane : List ℕ} {w h s : ℕ} {f : PixelFormat} {out₀ : List ℕ} {row mask : ℕ} {out : List ℕ} {at y : ℕ}
@@ -83,11 +83,11 @@ module _ {plane : List ℕ} {w h s : ℕ} {f : PixelFormat} {out₀ : List ℕ} 
   kept-length =
       let p = wire-length f w s plane y in
       let q : y * rowBytes w ≤ h * rowBytes w = mul-le-mul-right (rowBytes w) (c .turn) in
-      ap length (c .now-is) ∙ length-append (wireBits f w y s plane) (drop at out₀) ∙ simp length-drop (omega (arith, c .place, c .room))
+      ap length (c .nowIs) ∙ length-append (wireBits f w y s plane) (drop at out₀) ∙ simp length-drop (omega (arith, c .place, c .room))
 
   pub next-fits : y < h → at + row ≤ length out
   next-fits k =
-      omega (arith, up-to (rowBytes w) y h k, kept-length, c .place, c .room, c .row-is)
+      omega (arith, up-to (rowBytes w) y h k, kept-length, c .place, c .room, c .rowIs)
 
   -- what stands after the next row
   back : length (wireBits f w y s plane) ≡ at → drop (at + row) (wireBits f w y s plane ++ drop at out₀) ≡ drop (at + row) out₀
@@ -101,22 +101,22 @@ module _ {plane : List ℕ} {w h s : ℕ} {f : PixelFormat} {out₀ : List ℕ} 
       → Wiring plane w h s f out₀ row mask (putMid at (at + row - at) out new) (at + row) (y + 1)
   unfolding wireBits wireRow
   wired new b k e =
-      let n : at + row - at ≡ rowBytes w = omega (arith, c .row-is) in
+      let n : at + row - at ≡ rowBytes w = omega (arith, c .rowIs) in
       let mid : length (midOf at (at + row - at) out) ≡ rowBytes w = mid-len at (at + row) out (next-fits k) ∙ n in
       let row-new : new ≡ wireRow f w s plane y =
-      e ∙ rw (mid, c .mask-is)
+      e ∙ rw (mid, c .maskIs)
       (mask-clears w (toNative f (sourceRow (rowBytes w) s plane y)) (bytes-native f _ (bytes-source (rowBytes w) s plane y b))) in
       let front : length (wireBits f w y s plane) ≡ at = wire-length f w s plane y ∙ sym (c .place) in
       record {
-        row-is = c .row-is;
-        mask-is = c .mask-is;
+        rowIs = c .rowIs;
+        maskIs = c .maskIs;
         turn = omega arith;
-        place = let m : (y + 1) * rowBytes w ≡ y * rowBytes w + rowBytes w = omega arith in omega (arith, c .place, c .row-is);
+        place = let m : (y + 1) * rowBytes w ≡ y * rowBytes w + rowBytes w = omega arith in omega (arith, c .place, c .rowIs);
         room = c .room;
-        now-is =
+        nowIs =
             rw (
               post-is at (at + row) out (omega arith),
-              c .now-is,
+              c .nowIs,
               take-at (wireBits f w y s plane)
                   (drop at out₀) at front,
               back front,
@@ -130,4 +130,4 @@ module _ {plane : List ℕ} {w h s : ℕ} {f : PixelFormat} {out₀ : List ℕ} 
   ended k =
       let e : y ≡ h = omega (arith, c .turn) in
       let n : at ≡ planeBytes w h = c .place ∙ ap (λ (k : ℕ). k * rowBytes w) e ∙ mul-comm h (rowBytes w) in
-      c .now-is ∙ ap (λ (k : ℕ). wireBits f w k s plane ++ drop at out₀) e ∙ ap (λ (k : ℕ). wireBits f w h s plane ++ drop k out₀) n
+      c .nowIs ∙ ap (λ (k : ℕ). wireBits f w k s plane ++ drop at out₀) e ∙ ap (λ (k : ℕ). wireBits f w h s plane ++ drop k out₀) n

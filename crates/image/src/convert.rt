@@ -119,7 +119,8 @@ pub fn into_format(
     to: PixelFormat,
     out: &mut [u8],
 ) -> Written
-    ensures { λ r. ⌜ Emits (gives (convertFormat from to width height (rowBytes width) (now (plane .entry)))) (written r) (now (out .entry)) (now (out .exit)) ⌝ }
+    ensures { λ r. ⌜ Emits (gives (convertFormat from to width height (rowBytes width) (now (plane .entry)))) (written r)
+        (now (out .entry)) (now (out .exit)) ⌝ }
 {
     let n = plane.len();
     if out.len() < n {

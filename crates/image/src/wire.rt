@@ -50,7 +50,8 @@ fn to_native(format: PixelFormat, row: &mut [u8])
 }
 
 fn wire_row(plane: &[u8], stride: usize, y: usize, format: PixelFormat, mask: u8, row: &mut [u8])
-    ensures { λ r. ⌜ now (row .exit) ≡ maskLast mask (toNative format (sourceRow (length (now (row .entry))) stride (now (plane .entry)) y)) ⌝ }
+    ensures { λ r. ⌜ now (row .exit)
+        ≡ maskLast mask (toNative format (sourceRow (length (now (row .entry))) stride (now (plane .entry)) y)) ⌝ }
 {
     take_row(plane, stride, y, row);
     to_native(format, row);
@@ -61,7 +62,9 @@ fn wire_row(plane: &[u8], stride: usize, y: usize, format: PixelFormat, mask: u8
 fn wire_rows(plane: &[u8], layout: PlaneLayout, stride: usize, format: PixelFormat, out: &mut [u8])
     requires { ⌜ Laid layout ⌝ }
     requires { ⌜ planeBytes (layout .width) (layout .height) ≤ length (now out) ⌝ }
-    ensures { λ r. ⌜ now (out .exit) ≡ wireBits format (layout .width) (layout .height) stride (now (plane .entry)) ++ drop (planeBytes (layout .width) (layout .height)) (now (out .entry)) ⌝ }
+    ensures { λ r. ⌜ now (out .exit)
+        ≡ wireBits format (layout .width) (layout .height) stride (now (plane .entry))
+        ++ drop (planeBytes (layout .width) (layout .height)) (now (out .entry)) ⌝ }
 {
     let row = layout.stride;
     let mask = layout.last_byte_pad_mask;
@@ -110,7 +113,8 @@ pub fn wire_bits(
     format: PixelFormat,
     out: &mut [u8],
 ) -> Written
-    ensures { λ r. ⌜ Emits (gives (wireBits format width height stride (now (plane .entry)))) (written r) (now (out .entry)) (now (out .exit)) ⌝ }
+    ensures { λ r. ⌜ Emits (gives (wireBits format width height stride (now (plane .entry)))) (written r) (now (out .entry))
+        (now (out .exit)) ⌝ }
 {
     let layout = PlaneLayout::new(width, height);
     let row = layout.stride;

@@ -14,7 +14,8 @@ use Rattle.laws.proofs.Octets.{Octets, octets-by, octets-drop}
 use Rattle.laws.proofs.Tests.{zero-one}
 use Rattle.mbi.specs.Bytes.{mbiBytes}
 use Rattle.mbi.specs.Read.{ByteRead, goes, ends, wrong, readByte, readRest, readMbi, upon}
-use Rattle.mbi.proofs.Groups.{above, count, above-zero, count-zero, above-group, count-group, length-above, groups-append, bytes-above}
+use Rattle.mbi.proofs.Groups.{above, count, above-zero, count-zero}
+use Rattle.mbi.proofs.Groups.{above-group, count-group, length-above, groups-append, bytes-above}
 use Rattle.mbi.proofs.Length.{count-le}
 use Rattle.mbi.proofs.Step.{Taken, known}
 use Rattle.mbi.proofs.Continuation.{found, rest-cons, rest-integer}

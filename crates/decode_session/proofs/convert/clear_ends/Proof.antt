@@ -47,7 +47,7 @@ slice-write-bytes c = search needs
 add-last : tie.Need-add-last Inv-loop μ-loop
 add-last c =
     let l = c .before .before .loop in
-    omega (arith, l .inv .same, l .inv .row-is, c .before .loop-test .taken, c .before .before .before .before .before .before .good)
+    omega (arith, l .inv .same, l .inv .rowIs, c .before .loop-test .taken, c .before .before .before .before .before .before .good)
 
 loop-less : tie.Need-loop-less Inv-loop μ-loop
 loop-less c = let l = c .before .before .loop in omega (arith, l .inv .same, l .inv .wide, c .before .loop-test .taken)

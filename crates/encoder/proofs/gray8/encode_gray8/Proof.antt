@@ -1,4 +1,5 @@
--- `encoder::gray8::encode_gray8` meets its contract: a walk of its MIR, by hand. It calls `check_parameters`, `begin_gray8` and `put_parameters`; out is lent again to the last two, and
+-- `encoder::gray8::encode_gray8` meets its contract: a walk of its MIR, by hand. It calls `check_parameters`, `begin_gray8` and
+-- `put_parameters`; out is lent again to the last two, and
 -- work, which is not needed after it, goes to `begin_gray8` for good. All that the proof knows of them is that each meets its contract.
 -- Assumes nothing.
 use mathlib.Core.Path.{_≡_, refl, sym, _∙_, ap, subst}
@@ -19,9 +20,11 @@ use prog.Wp.{Heap, WpFn, Tables}
 use ghost.Atoms.{Atoms}
 use contract.Monad.{Fun, fact}
 use contract.Running.{givenOf, tables, tablesOf}
-use types.Kit.{Given, Item, ‵, raw, _⊛_, some, later, ⋆, _$_, _∵_, !, qed, by, move, keep, drop, cut, use1, split, join, pick, rewrite, fsplit, fjoin, feqL, suffices, frame, await, done}
+use types.Kit.{Given, Item, ‵, raw, _⊛_, some, later, ⋆, _$_, _∵_, !, qed, by, move}
+use types.Kit.{keep, drop, cut, use1, split, join, pick, rewrite, fsplit, fjoin, feqL, suffices, frame, await, done}
 use types.Part.{agg, whole, sub, look-in}
-use types.Run.{look, init, forget, stop, hop, fld, from, load, addr, and-then, no-more, assigns, land, returns, enter, alloc1, alloc0, params1, pass1, pass0, free1, free0}
+use types.Run.{look, init, forget, stop, hop, fld, from, load, addr, and-then, no-more}
+use types.Run.{assigns, land, returns, enter, alloc1, alloc0, params1, pass1, pass0, free1, free0}
 use sound.WpLaws.{FmC, fmOf, WpFn-mono}
 use denote.RattleType.{RattleType, owns}
 use denote.Laws.{Is, shows}
@@ -40,7 +43,8 @@ use denote.Triple.Clauses.{ensured, lasts, Lasts}
 use denote.Triple.Entry.{Vals, Args, onEntry}
 use denote.Triple.Spec.{Meets, tripleOf}
 use denote.Triple.Table.{entered, cited}
-use denote.Triple.Walked.{says, Stays, stay-none, stay-none-slice, stay-slice, gave-slice, walkOf, goes-none, goes-none-slice, goes-slice, goes-gave-slice, Walks, ends-at, walked, walk-meets}
+use denote.Triple.Walked.{says, Stays, stay-none, stay-none-slice, stay-slice, gave-slice, walkOf}
+use denote.Triple.Walked.{goes-none, goes-none-slice, goes-slice, goes-gave-slice, Walks, ends-at, walked, walk-meets}
 use denote.Exit.{yes}
 use Rattle.error.specs.Answer.{written}
 use Rattle.error.specs.declared.Written.{Written}
@@ -330,7 +334,8 @@ module _ {M : Type 1} (𝓤 : URA M) (H : Heap 𝓤) (A : Atoms 𝓤) (W : Given
         (init ! 18 refl (tt, (tt, (record { fits = room-k .0 }, tt)))) $ pass1 !
         (init ! 16 refl (tt, (tt, (record { fits = room .0 }, tt)))) $ pass0 ! $
         move ! (36 ∷ 37 ∷ []) $ cut (Toks ∷ ‵ Owns ∷ []) (Apart os Ks) _ apart $
-        -- [text's token; text; records' token; records; out's token; out; gray's token; gray; work's token; work; _17; …; _16; …]: local i stands at 10 + 2 * (17 - i)
+        -- [text's token; text; records' token; records; out's token; out; gray's token; gray; work's token; work; _17; …; _16; …]: local i
+        -- stands at 10 + 2 * (17 - i)
         checks κ₀ κ₁ q₀ q₁ y x mem run ! fm k-check (c .strict)
         (λ i₀ i₁ i₂. and-then ! (load ! (from ! (stop !)) (look ! 31 refl))
         (and-then ! (load ! (from ! (stop !)) (look ! 29 refl))
@@ -373,12 +378,15 @@ module _ {M : Type 1} (𝓤 : URA M) (H : Heap 𝓤) (A : Atoms 𝓤) (W : Given
         (lasts begin.ended (κg, (κ₀, (κw, (ν ∷ [], tt)))) (passed ν δ r) ws) ⊛ raw
         (fact 𝓤 (Said ν δ r s (ws .1 .1 .1 .1 .1 .1 .1 .1 .0) (ws .1 .1 .1 .1 .1 .1 .1 .0))))) (id⊢ 𝓤 _) $ pick ! (λ ws.
         split ! $ move ! (1 ∷ []) $ heard ! (Said ν δ r s (ws .1 .1 .1 .1 .1 .1 .1 .1 .0) (ws .1 .1 .1 .1 .1 .1 .1 .0)) (λ e₂.
-        fsplit ! $ drop ! $ fsplit ! $ drop ! $ fsplit ! $ drop ! $ fsplit ! $ drop ! $ fsplit ! $ drop ! $ fsplit ! $ drop ! $ fsplit ! $ drop ! $ fsplit ! $ fsplit ! $ move ! (1 ∷ []) $ feqL ! (λ lk. move ! (1 ∷ []) $ fsplit ! $ fsplit ! $ move ! (1 ∷ []) $ feqL ! (λ l. move ! (1 ∷ []) $ drop ! $
+        fsplit ! $ drop ! $ fsplit ! $ drop ! $ fsplit ! $ drop ! $ fsplit ! $ drop ! $ fsplit ! $ drop ! $ fsplit ! $ drop ! $ fsplit ! $
+        drop ! $ fsplit ! $ fsplit ! $ move ! (1 ∷ []) $ feqL !
+        (λ lk. move ! (1 ∷ []) $ fsplit ! $ fsplit ! $ move ! (1 ∷ []) $ feqL ! (λ l. move ! (1 ∷ []) $ drop ! $
         -- [out's last list; work's last list; the tokens and the result; what lends out; gray; text; records' token; records; _17; …]
         move ! (2 ∷ []) $ split ! $ move ! (1 ∷ []) $ peeks ! B.the-row (Is B.the-row) (shows 𝓤 H A B.the-row) s (u ∷ [])
         (λ is. drop ! $ split ! $ move ! (1 ∷ []) $ split ! $ move ! (1 ∷ []) $ split ! $ move ! (1 ∷ []) $ split ! $ move !
         (1 ∷ []) $ drop ! $
-        -- [ν; work's token; text's token; gray's token; out's last list; work's last list; what lends out; gray; text; records' token; records; _17; …]
+        -- [ν; work's token; text's token; gray's token; out's last list; work's last list; what lends out; gray; text; records' token;
+        -- records; _17; …]
         move ! (0 ∷ 4 ∷ 6 ∷ []) $ backs κ₂ q₂ b o γ m ! tt os (ws .1 .1 .1 .1 .1 .1 .1 .1 .0) refl l room $ move !
         (3 ∷ 7 ∷ 8 ∷ 9 ∷ 0 ∷ 1 ∷ 4 ∷ 6 ∷ 2 ∷ 5 ∷ []) $
         land ! (from ! (stop !)) (init ! 22 refl (LL.lawful B.the-type B′.the-laws 𝓤 H A W .typed s _ is .0)) $ rewrite ! 22
@@ -396,7 +404,9 @@ module _ {M : Type 1} (𝓤 : URA M) (H : Heap 𝓤) (A : Atoms 𝓤) (W : Given
         (and-then ! (load ! (from ! (stop !)) (look ! 20 refl)) (and-then ! (load ! (from ! (stop !)) (look ! 8 refl)) (no-more !)))))
         (λ w l₂′ is-w len e₃.
         land ! (from ! (stop !)) (init ! 44 refl (answer-typed w is-w)) $
-        returns ! (look ! 44 refl) $ forget ! 10 refl $ forget ! 12 refl $ forget ! 14 refl $ forget ! 16 refl $ forget ! 18 refl $ forget ! 20 refl $ forget ! 22 refl $ forget ! 24 refl $ forget ! 26 refl $ forget ! 28 refl $ forget ! 30 refl $ forget ! 32 refl $ forget ! 34 refl $ forget ! 36 refl $ forget ! 38 refl $ forget ! 40 refl $ forget ! 42 refl $ forget ! 44 refl $
+        returns ! (look ! 44 refl) $ forget ! 10 refl $ forget ! 12 refl $ forget ! 14 refl $ forget ! 16 refl $ forget ! 18 refl $ forget
+        ! 20 refl $ forget ! 22 refl $ forget ! 24 refl $ forget ! 26 refl $ forget ! 28 refl $ forget ! 30 refl $ forget ! 32 refl $
+        forget ! 34 refl $ forget ! 36 refl $ forget ! 38 refl $ forget ! 40 refl $ forget ! 42 refl $ forget ! 44 refl $
         move ! (44 ∷ 45 ∷ []) $ free1 ! $ move ! (42 ∷ 43 ∷ []) $ free1 ! $ move ! (40 ∷ 41 ∷ []) $ free1 ! $ move !
         (38 ∷ 39 ∷ []) $ free1 ! $ move ! (36 ∷ 37 ∷ []) $ free1 ! $ move ! (34 ∷ 35 ∷ []) $ free1 ! $ move !
         (32 ∷ 33 ∷ []) $ free1 ! $ move ! (30 ∷ 31 ∷ []) $ free1 ! $ move ! (28 ∷ 29 ∷ []) $ free1 ! $ move !
@@ -495,4 +505,5 @@ encode-gray8-spec 𝓤 H 𝓜 𝓖 𝓡 =
     (check-thm.met 𝓤 H 𝓜 𝓖 𝓡))
     (cited 𝓤 H (Begin 𝓤 H (𝓖 .A) (𝓜 .mem) (𝓡 .run)) 𝓜 𝓡 code.env #begin begin-def.routine code.calls-encoder·gray8·begin-gray8
     (begin-thm.met 𝓤 H 𝓜 𝓖 𝓡))
-    (cited 𝓤 H (Put 𝓤 H (𝓖 .A) (𝓜 .mem) (𝓡 .run)) 𝓜 𝓡 code.env #put put-def.routine code.calls-ext-write·put-parameters (put-thm.met 𝓤 H 𝓜 𝓖 𝓡)))
+    (cited 𝓤 H (Put 𝓤 H (𝓖 .A) (𝓜 .mem) (𝓡 .run)) 𝓜 𝓡 code.env #put put-def.routine code.calls-ext-write·put-parameters
+    (put-thm.met 𝓤 H 𝓜 𝓖 𝓡)))

@@ -87,7 +87,7 @@ loop-again c =
     scanned (l .before .loop .inv) _ _ _ _ _ (l .loop-test .taken) refl refl (o .before .work .given) (q .quantize-gray8 .ensures)
 
 same-length : tie.Need-same-length Inv-loop μ-loop
-same-length c = c .before .loop .inv .work-long
+same-length c = c .before .loop .inv .workLong
 
 same-length-2 : tie.Need-same-length-2 Inv-loop μ-loop
 same-length-2 c = out-long (c .before .loop .inv)

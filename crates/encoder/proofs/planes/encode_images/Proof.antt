@@ -1,4 +1,5 @@
--- `encoder::planes::encode_images` meets its contract: a walk of its MIR, by hand. It calls `check_parameters`, `begin_images` and `put_parameters`, and lends out again to the last
+-- `encoder::planes::encode_images` meets its contract: a walk of its MIR, by hand. It calls `check_parameters`, `begin_images` and
+-- `put_parameters`, and lends out again to the last
 -- two. All that the proof knows of them is that each meets its contract.
 -- Assumes nothing.
 use mathlib.Core.Path.{_≡_, refl, sym, _∙_, ap, subst}
@@ -18,9 +19,11 @@ use prog.Wp.{Heap, WpFn, Tables}
 use ghost.Atoms.{Atoms}
 use contract.Monad.{Fun, fact}
 use contract.Running.{givenOf, tables, tablesOf}
-use types.Kit.{Given, Item, ‵, raw, _⊛_, some, later, ⋆, _$_, _∵_, !, qed, by, move, keep, drop, cut, use1, split, join, pick, rewrite, fsplit, fjoin, feqL, suffices, frame, await, done}
+use types.Kit.{Given, Item, ‵, raw, _⊛_, some, later, ⋆, _$_, _∵_, !, qed, by, move}
+use types.Kit.{keep, drop, cut, use1, split, join, pick, rewrite, fsplit, fjoin, feqL, suffices, frame, await, done}
 use types.Part.{agg, whole, sub, look-in}
-use types.Run.{look, init, forget, stop, hop, fld, from, load, addr, and-then, no-more, assigns, land, returns, enter, alloc1, alloc0, params1, pass1, pass0, free1, free0}
+use types.Run.{look, init, forget, stop, hop, fld, from, load, addr, and-then, no-more}
+use types.Run.{assigns, land, returns, enter, alloc1, alloc0, params1, pass1, pass0, free1, free0}
 use sound.WpLaws.{FmC, fmOf, WpFn-mono}
 use denote.RattleType.{RattleType, owns}
 use denote.Laws.{Is, shows}
@@ -39,7 +42,8 @@ use denote.Triple.Clauses.{ensured, lasts, Lasts}
 use denote.Triple.Entry.{Vals, Args, onEntry}
 use denote.Triple.Spec.{Meets, tripleOf}
 use denote.Triple.Table.{entered, cited}
-use denote.Triple.Walked.{says, Stays, stay-none, stay-none-slice, stay-slice, walkOf, goes-none, goes-none-slice, goes-slice, Walks, ends-at, walked, walk-meets}
+use denote.Triple.Walked.{says, Stays, stay-none, stay-none-slice, stay-slice, walkOf}
+use denote.Triple.Walked.{goes-none, goes-none-slice, goes-slice, Walks, ends-at, walked, walk-meets}
 use denote.Exit.{yes}
 use Rattle.error.specs.Answer.{written}
 use Rattle.error.specs.Emits.{Emits}
@@ -222,7 +226,8 @@ module _ {M : Type 1} (𝓤 : URA M) (H : Heap 𝓤) (A : Atoms 𝓤) (W : Given
       move ! (5 ∷ []) $ fsplit ! $ move ! (1 ∷ []) $ fsplit ! $ move ! (1 ∷ []) $ fsplit ! $ move ! (1 ∷ []) $ fsplit ! $ move !
       (1 ∷ []) $ fsplit ! $ move ! (1 ∷ []) $ fsplit ! $ move ! (1 ∷ []) $ fsplit ! $ move ! (1 ∷ []) $ fsplit ! $ move !
       (1 ∷ []) $ fsplit ! $ move ! (1 ∷ []) $ fsplit ! $
-      -- [out; true; records; text; the options; the format; stride; planes; count; height; width; out's token; true; records'; text's; planes']
+      -- [out; true; records; text; the options; the format; stride; planes; count; height; width; out's token; true; records'; text's;
+      -- planes']
       keep ! (14 ∷ 3 ∷ 13 ∷ 2 ∷ 11 ∷ 0 ∷ 15 ∷ 7 ∷ []) $ done !
 
   exits : (w : Written) (l : List ℕ) → GoodWritten w → length l ≡ m → Promise w l → ent 𝓤 (⋆ 𝓤 H A (Apart l)) (Post (Wr′.lowered w))
@@ -331,7 +336,8 @@ module _ {M : Type 1} (𝓤 : URA M) (H : Heap 𝓤) (A : Atoms 𝓤) (W : Given
         (init ! 14 refl (tt, (tt, (record { fits = room₁ .0 }, tt)))) $ pass1 !
         (init ! 12 refl (tt, (tt, (record { fits = room .0 }, tt)))) $ pass0 ! $
         move ! (34 ∷ 35 ∷ []) $ cut (Toks ∷ ‵ Owns ∷ []) (Apart os) _ apart $
-        -- [text's token; text; records' token; records; out's token; out; planes' token; planes; _16; …; _15; …]: local i stands at 8 + 2 * (16 - i)
+        -- [text's token; text; records' token; records; out's token; out; planes' token; planes; _16; …; _15; …]: local i stands at 8 + 2
+        -- * (16 - i)
         checks κ₀ κ₁ q₀ q₁ y x mem run ! fm k-check (c .strict)
         (λ i₀ i₁ i₂. and-then ! (load ! (from ! (stop !)) (look ! 23 refl))
         (and-then ! (load ! (from ! (stop !)) (look ! 21 refl))
@@ -369,7 +375,8 @@ module _ {M : Type 1} (𝓤 : URA M) (H : Heap 𝓤) (A : Atoms 𝓤) (W : Given
         (lasts begin.ended (κg, (κ₀, (ν ∷ [], tt))) (passed ν δ r) ws) ⊛ raw (fact 𝓤 (Said ν δ r s (ws .1 .1 .1 .1 .1 .1 .1 .1 .1 .0)))))
         (id⊢ 𝓤 _) $ pick ! (λ ws.
         split ! $ move ! (1 ∷ []) $ heard ! (Said ν δ r s (ws .1 .1 .1 .1 .1 .1 .1 .1 .1 .0)) (λ e₂.
-        fsplit ! $ drop ! $ fsplit ! $ drop ! $ fsplit ! $ drop ! $ fsplit ! $ drop ! $ fsplit ! $ drop ! $ fsplit ! $ drop ! $ fsplit ! $ drop ! $ fsplit ! $ drop ! $ fsplit ! $ drop ! $ fsplit ! $ fsplit ! $ move ! (1 ∷ []) $ feqL ! (λ l. move ! (1 ∷ []) $ drop ! $
+        fsplit ! $ drop ! $ fsplit ! $ drop ! $ fsplit ! $ drop ! $ fsplit ! $ drop ! $ fsplit ! $ drop ! $ fsplit ! $ drop ! $ fsplit ! $
+        drop ! $ fsplit ! $ drop ! $ fsplit ! $ drop ! $ fsplit ! $ fsplit ! $ move ! (1 ∷ []) $ feqL ! (λ l. move ! (1 ∷ []) $ drop ! $
         -- [out's last list; the tokens and the result; what lends out; planes; text; records' token; records; _16; …]
         move ! (1 ∷ []) $ split ! $ move ! (1 ∷ []) $ peeks ! B.the-row (Is B.the-row) (shows 𝓤 H A B.the-row) s (u ∷ [])
         (λ is. drop ! $ split ! $ move ! (1 ∷ []) $ split ! $ move ! (1 ∷ []) $ split ! $ move ! (1 ∷ []) $ drop ! $
@@ -391,7 +398,9 @@ module _ {M : Type 1} (𝓤 : URA M) (H : Heap 𝓤) (A : Atoms 𝓤) (W : Given
         (and-then ! (load ! (from ! (stop !)) (look ! 14 refl)) (and-then ! (load ! (from ! (stop !)) (look ! 6 refl)) (no-more !)))))
         (λ w l₂′ is-w len e₃.
         land ! (from ! (stop !)) (init ! 40 refl (answer-typed w is-w)) $
-        returns ! (look ! 40 refl) $ forget ! 8 refl $ forget ! 10 refl $ forget ! 12 refl $ forget ! 14 refl $ forget ! 16 refl $ forget ! 18 refl $ forget ! 20 refl $ forget ! 22 refl $ forget ! 24 refl $ forget ! 26 refl $ forget ! 28 refl $ forget ! 30 refl $ forget ! 32 refl $ forget ! 34 refl $ forget ! 36 refl $ forget ! 38 refl $ forget ! 40 refl $
+        returns ! (look ! 40 refl) $ forget ! 8 refl $ forget ! 10 refl $ forget ! 12 refl $ forget ! 14 refl $ forget ! 16 refl $ forget !
+        18 refl $ forget ! 20 refl $ forget ! 22 refl $ forget ! 24 refl $ forget ! 26 refl $ forget ! 28 refl $ forget ! 30 refl $
+        forget ! 32 refl $ forget ! 34 refl $ forget ! 36 refl $ forget ! 38 refl $ forget ! 40 refl $
         move ! (40 ∷ 41 ∷ []) $ free1 ! $ move ! (38 ∷ 39 ∷ []) $ free1 ! $ move ! (36 ∷ 37 ∷ []) $ free1 ! $ move !
         (34 ∷ 35 ∷ []) $ free1 ! $ move ! (32 ∷ 33 ∷ []) $ free1 ! $ move ! (30 ∷ 31 ∷ []) $ free1 ! $ move !
         (28 ∷ 29 ∷ []) $ free1 ! $ move ! (26 ∷ 27 ∷ []) $ free1 ! $ move ! (24 ∷ 25 ∷ []) $ free1 ! $ move !
@@ -504,4 +513,5 @@ encode-images-spec 𝓤 H 𝓜 𝓖 𝓡 =
     (check-thm.met 𝓤 H 𝓜 𝓖 𝓡))
     (cited 𝓤 H (Begin 𝓤 H (𝓖 .A) (𝓜 .mem) (𝓡 .run)) 𝓜 𝓡 code.env #begin begin-def.routine code.calls-encoder·planes·begin-images
     (begin-thm.met 𝓤 H 𝓜 𝓖 𝓡))
-    (cited 𝓤 H (Put 𝓤 H (𝓖 .A) (𝓜 .mem) (𝓡 .run)) 𝓜 𝓡 code.env #put put-def.routine code.calls-ext-write·put-parameters (put-thm.met 𝓤 H 𝓜 𝓖 𝓡)))
+    (cited 𝓤 H (Put 𝓤 H (𝓖 .A) (𝓜 .mem) (𝓡 .run)) 𝓜 𝓡 code.env #put put-def.routine code.calls-ext-write·put-parameters
+    (put-thm.met 𝓤 H 𝓜 𝓖 𝓡)))

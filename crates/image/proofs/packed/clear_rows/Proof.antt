@@ -16,12 +16,12 @@ use Rattle.image.proofs.packed.clear_rows.Tie as tie
 
 -- the rows before y are cleared
 record Clearing (plane₀ : List ℕ) (w h row mask : ℕ) (plane : List ℕ) (y : ℕ) : Type 0 where
-  row-is : row ≡ rowBytes w
-  mask-is : mask ≡ paddingMask w
+  rowIs : row ≡ rowBytes w
+  maskIs : mask ≡ paddingMask w
   wide : 0 < row
   room : planeBytes w h ≤ length plane₀
   turn : y ≤ h
-  now-is : plane ≡ clearRows w y plane₀
+  nowIs : plane ≡ clearRows w y plane₀
 
 abbrev Inv-loop : tie.InvT-loop
 Inv-loop plane₀ layout row mask y₀ plane y = Clearing plane₀ (layout .width) (layout .height) row mask plane y
@@ -31,29 +31,29 @@ abbrev μ-loop : tie.MeasureT-loop
 
 module _ {plane₀ : List ℕ} {w h row mask : ℕ} {plane : List ℕ} {y : ℕ} (i : Clearing plane₀ w h row mask plane y) where
   kept : length plane ≡ length plane₀
-  kept = ap length (i .now-is) ∙ clear-length w y plane₀
+  kept = ap length (i .nowIs) ∙ clear-length w y plane₀
 
   -- the last byte of row y is in the plane
   last-in : y < h → y * row + (row - 1) < length plane
   last-in k =
       let p : suc y * row ≤ h * row = mul-le-mul-right row k in
       let m : suc y * row ≡ y * row + row = omega arith in
-      let t : planeBytes w h ≡ h * row = mul-comm (rowBytes w) h ∙ ap (λ (r : ℕ). h * r) (sym (i .row-is)) in
+      let t : planeBytes w h ≡ h * row = mul-comm (rowBytes w) h ∙ ap (λ (r : ℕ). h * r) (sym (i .rowIs)) in
       omega (arith, kept, i .room, i .wide)
 
   cleared : y < h → getD plane (y * row + (row - 1)) 0 < 256
       → Clearing plane₀ w h row mask (set plane (y * row + (row - 1)) (bitAnd (getD plane (y * row + (row - 1)) 0) mask)) (y + 1)
   cleared k b =
       record {
-        row-is = i .row-is;
-        mask-is = i .mask-is;
+        rowIs = i .rowIs;
+        maskIs = i .maskIs;
         wide = i .wide;
         room = i .room;
         turn = omega arith;
-        now-is =
-            ap (λ (r : ℕ). set plane (y * r + (r - 1)) (bitAnd (getD plane (y * r + (r - 1)) 0) mask)) (i .row-is)
-            ∙ clear-next w y mask plane₀ plane (i .mask-is) (i .now-is)
-            (let e : y * row + (row - 1) ≡ y * rowBytes w + (rowBytes w - 1) = ap (λ (r : ℕ). y * r + (r - 1)) (i .row-is) in rw e at b);
+        nowIs =
+            ap (λ (r : ℕ). set plane (y * r + (r - 1)) (bitAnd (getD plane (y * r + (r - 1)) 0) mask)) (i .rowIs)
+            ∙ clear-next w y mask plane₀ plane (i .maskIs) (i .nowIs)
+            (let e : y * row + (row - 1) ≡ y * rowBytes w + (rowBytes w - 1) = ap (λ (r : ℕ). y * r + (r - 1)) (i .rowIs) in rw e at b);
       }
 
 returns : tie.Need-returns Inv-loop μ-loop
@@ -65,12 +65,12 @@ unfolding clearRows
 loop-holds c =
     let s = c .before .before in
     record {
-      row-is = sizes.stride-is (s .pre .0);
-      mask-is = sizes.mask-is (s .pre .0);
+      rowIs = sizes.stride-is (s .pre .0);
+      maskIs = sizes.mask-is (s .pre .0);
       wide = omega (arith, sizes.stride-is (s .pre .0), c .if1 .left);
       room = s .pre .1;
       turn = omega arith;
-      now-is = refl;
+      nowIs = refl;
     }
 
 cast-last : tie.Need-cast-last Inv-loop μ-loop
@@ -112,7 +112,7 @@ returns-2 c =
     let i = c .before .before .loop .inv in
     let a = c .before .before .before .before .before .args in
     let e : c .before .before .loop .y ≡ a .layout .height = omega (arith, i .turn, c .if2 .left) in
-    i .now-is ∙ ap (λ k. clearRows (a .layout .width) k (now (a .plane))) e
+    i .nowIs ∙ ap (λ k. clearRows (a .layout .width) k (now (a .plane))) e
 
 pub clear-rows-spec : {M : Type 1} → statement M
 clear-rows-spec =
