@@ -22,11 +22,11 @@ use Rattle.options.specs.Settings.{defaults, withFormat}
 use Rattle.options.specs.declared.DecodeOptions.{DecodeOptions}
 use Rattle.options.specs.declared.EncodeOptions.{EncodeOptions}
 use Rattle.options.specs.declared.Quantize.{Quantize}
-use Rattle.rules.specs.Rule.{knownRule}
 use Rattle.encoder.specs.Make.{Makes}
 use Rattle.encode_session.specs.Model as Making
 use Rattle.encode_session.specs.Session as MakingSession
 use Rattle.encode_session.specs.declared.EncodeOpened.{EncodeOpened}
+use Rattle.encode_session.proofs.OpenCorrect.{passed}
 use Rattle.decode_session.specs.Model as Reading
 use Rattle.decode_session.specs.Session as ReadingSession
 use Rattle.decode_session.specs.declared.DecodeOpened.{DecodeOpened}
@@ -75,17 +75,13 @@ reads-list inverted numbers file out ext answers s o last out′ ext′ answers�
 -- a header without fields is short
 short : (w h work : ℕ) (dithered : Bool) (bytes : List ℕ) → w < 4294967296 → h < 4294967296
     → Making.header (Making.opening (rule dithered) w h [] []) work ≡ gives bytes → length bytes ≤ 12
-unfolding Making.header fieldsBytes
-short w h work dithered bytes wide high =
-    go (eqb w 0 || eqb h 0) (knownRule (ruleOf dithered)) (Making.serves (Making.opening (rule dithered) w h [] []) work)
+unfolding fieldsBytes
+short w h work dithered bytes wide high e =
+    go (eqb w 0 || eqb h 0) (passed (Making.opening (rule dithered) w h [] []) work bytes e .headed)
   where
-    go : (z k s : Bool)
-        → if z (refuses 8 0) (if k (if s (if z (refuses 8 0) (gives (headerBytes 0 [] w h))) (refuses 28 0)) (refuses 29 0)) ≡ gives bytes
-        → length bytes ≤ 12
-    go true k s e = zero-one (cc)
-    go false false s e = zero-one (cc)
-    go false true false e = zero-one (cc)
-    go false true true e =
+    go : (z : Bool) → if z (refuses 8 0) (gives (headerBytes 0 [] w h)) ≡ gives bytes → length bytes ≤ 12
+    go true e = zero-one (cc)
+    go false e =
         let b : headerBytes 0 [] w h ≡ bytes = cc in
         let l : length (headerBytes 0 [] w h) ≡ length bytes = ap length b in
         omega (arith, l, header-length 0 [] w h, sizes-ten w h wide high)
