@@ -4,7 +4,7 @@ use crate::front::Front;
 use crate::front::read_front;
 use image::PlaneLayout;
 ghost use mathlib.Core.Path.{_≡_};
-ghost use Prim.Native.Nat.{_<_, _+_, _*_, _/_, _^_};
+ghost use Prim.Native.Nat.{_<_, _≤_, _+_, _*_, _/_, _^_};
 ghost use lib.ListN.{length};
 ghost use Rattle.api.specs.Sniff.{sniffLength, sniffBody, sniffed, isExact, sniffSizes};
 ghost use Rattle.api.specs.Internal.Parts.{eightEnds, AreClear, Small, Sized};
@@ -22,14 +22,18 @@ fn eight_ends(body: &[u8], row: usize, at: usize) -> u8
     first | second
 }
 
-// Whether the padding of a body's whole rows is clear: eight rows a turn, and then the others. `at` is the last byte of row y.
+// Whether the padding of a body's whole rows is clear: the first row alone, since most other files fail there, then eight rows a turn, and then the others. `at` is the last byte of row y.
 fn are_clear(body: &[u8], row: usize, mask: u8) -> bool
-    requires { ⌜ 0 < row ⌝ }
+    requires { ⌜ (0 < row) × (row ≤ length (now body)) ⌝ }
     ensures { λ r. ⌜ AreClear (now (body .entry)) row mask (length (now (body .entry)) / row) r ⌝ }
 {
     let rows = body.len() / row;
     let mut y: usize = 0;
     let mut at: usize = row - 1;
+    let first = body[at];
+    if first & mask != first {
+        return false;
+    }
     while 7 < rows - y {
         let ends = eight_ends(body, row, at);
         if ends & mask != ends {

@@ -1,4 +1,4 @@
-use Prim.Native.Nat.{ℕ, _/_, _^_, _<_}
+use Prim.Native.Nat.{ℕ, _/_, _^_, _<_, _≤_}
 use mathlib.Core.Path.{_≡_, sym, _∙_}
 use mathlib.Core.Bool.{Bool, true, false}
 use mathlib.Core.List.{List}
@@ -54,6 +54,9 @@ module _ (m : tie.After-sniff-length2) where
   abbrev layout : PlaneLayout
   layout = n .new .result
 
+  lent : (0 < layout .stride) × (layout .stride ≤ length body)
+  lent = (some n, omega (arith, m .before .before .if1 .left))
+
   module _ (r : Bool) (told : AreClear body (layout .stride) (layout .«last_byte_pad_mask») (length body / layout .stride) r) where
     where-dirty : r ≡ false → Neither ≡ sniffBody width height body
     where-dirty p =
@@ -93,7 +96,7 @@ enum-told : tie.Need-enum-told
 enum-told c = search needs
 
 are-clear-requires : tie.Need-are-clear-requires
-are-clear-requires c κs = some (c .before .before .before .before .before)
+are-clear-requires c κs = lent (c .before .before)
 
 returns-3 : tie.Need-returns-3
 returns-3 c = let k = c .before in where-dirty (k .before .before .before) _ (k .are-clear .ensures) (not-true _ (c .if3 .taken))
@@ -102,7 +105,7 @@ enum-told-2 : tie.Need-enum-told-2
 enum-told-2 c = search needs
 
 are-clear-requires-2 : tie.Need-are-clear-requires-2
-are-clear-requires-2 c κs = some (c .before .before .before .before .before)
+are-clear-requires-2 c κs = lent (c .before .before)
 
 returns-4 : tie.Need-returns-4
 returns-4 c = let k = c .before in where-dirty (k .before .before .before) _ (k .are-clear2 .ensures) (not-true _ (c .if4 .taken))
