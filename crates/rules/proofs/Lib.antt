@@ -19,3 +19,6 @@ pub mod Words
 pub mod WordCompared
 pub mod WordGathered
 pub mod RuleAsked
+pub mod UptoOverlaid
+pub mod PlaneBytes
+pub mod PlaneWritten

@@ -6,7 +6,7 @@ ghost use Rattle.rules.specs.Bits.{digits, appended};
 ghost use Rattle.rules.specs.Internal.Words.{bytes, samplesFrom, Below, Compares, Gathers};
 ghost use Rattle.rules.specs.Internal.Kernels.{Packs, thresholdBit, thresholdFrom, stored};
 
-fn dot(bound: u8, gray: &[u8], at: usize) -> u32
+pub(crate) fn dot(bound: u8, gray: &[u8], at: usize) -> u32
     requires { ⌜ at + 1 ≤ length (now gray) ⌝ }
     ensures { λ r. ⌜ (r ≡ thresholdBit bound (now (gray .entry)) at) × (r ≤ 1) ⌝ }
 {
@@ -71,7 +71,7 @@ fn gathered(dots: u64) -> u8
 }
 
 // The dots of eight samples as a byte.
-fn byte(bound: u8, gray: &[u8], at: usize) -> u8
+pub(crate) fn byte(bound: u8, gray: &[u8], at: usize) -> u8
     requires { ⌜ at + 8 ≤ length (now gray) ⌝ }
     ensures { λ r. ⌜ r ≡ digits (thresholdFrom bound (now (gray .entry)) at) 8 ⌝ }
 {

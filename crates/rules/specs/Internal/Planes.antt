@@ -1,5 +1,5 @@
 -- What the functions promise that write whole planes, or whole rows, at once.
-use Prim.Native.Nat.{ℕ, _+_, _*_, _%_, _/_, _≤_}
+use Prim.Native.Nat.{ℕ, _+_, _-_, _*_, _%_, _/_, _^_, _≤_}
 use mathlib.Core.Path.{_≡_}
 use mathlib.Core.Bool.{Bool, true, _&&_}
 use mathlib.Core.List.{List, _++_}
@@ -7,20 +7,32 @@ use lib.Dec.{leb}
 use lib.ListN.{length, getD, drop}
 use Rattle.error.specs.Choice.{if}
 use Rattle.image.specs.Geometry.{rowBytes}
-use Rattle.rules.specs.Bits.{upto, bit}
+use Rattle.rules.specs.Bits.{upto, bit, digits}
 use Rattle.rules.specs.Diffusion.{Scan, white, valueAt}
 use Rattle.rules.specs.Packed.{byteAt}
 use Rattle.rules.specs.Rule.{rightwards}
-use Rattle.rules.specs.Internal.Kernels.{thresholdBit}
+use Rattle.rules.specs.Internal.Kernels.{thresholdBit, thresholdFrom}
 use Rattle.rules.specs.Internal.Row.{Plain}
 
 -- the bytes of h rows of w dots, where the dot of sample n is d n
 abbrev pub plane : ℕ → ℕ → (ℕ → ℕ) → List ℕ
 plane w h d = upto (h * rowBytes w) (byteAt w d)
 
+-- the plane at the output's front
+abbrev pub planeAt : ℕ → ℕ → (ℕ → ℕ) → List ℕ → List ℕ
+planeAt w h d out = plane w h d ++ drop (h * rowBytes w) out
+
 -- the plane at the output's front, where there are samples and room for it, and otherwise the output as it was
 abbrev pub planeIn : ℕ → ℕ → (ℕ → ℕ) → ℕ → List ℕ → List ℕ
-planeIn w h d samples out = if (leb (w * h) samples && leb (h * rowBytes w) (length out)) (plane w h d ++ drop (h * rowBytes w) out) out
+planeIn w h d samples out = if (leb (w * h) samples && leb (h * rowBytes w) (length out)) (planeAt w h d out) out
+
+-- there are samples and room for it
+abbrev pub PlaneFits : ℕ → ℕ → ℕ → ℕ → Type 0
+PlaneFits w h samples bytes = (w * h ≤ samples) × (h * rowBytes w ≤ bytes)
+
+-- the last byte of a row whose m last samples stand from an index on
+abbrev pub endingByte : ℕ → List ℕ → ℕ → ℕ → ℕ
+endingByte t gray at m = digits (thresholdFrom t gray at) m * 2 ^ (8 - m)
 
 -- the scan whose samples stand row by row in a list
 abbrev pub scanOf : ℕ → List ℕ → Scan
