@@ -11,9 +11,9 @@ use lib.IntN.{ℤ, pos, subℕ, _+ℤ_, +ℤ-assoc}
 use Rattle.rules.specs.Bits.{bit}
 use Rattle.rules.specs.Diffusion.{Scan, toRight, part, value, white, residual, before, after, valueFrom, handed, rowValue, above, valueAt}
 use Rattle.rules.specs.Rule.{rightwards}
-use Rattle.rules.specs.Internal.Kernels.{Stepped}
 use Rattle.rules.proofs.Differences.{lt-or-le, sub-eq, sub-add, pos-is, part-is, stepped}
-use Rattle.diffusion.specs.Internal.Sums.{partOf, restOf, handedRight, valueBy, restBy, restBefore, restAfter, handedDown, none, Handed, Level}
+use Rattle.diffusion.specs.Internal.Sums.{partOf, restOf, handedRight, valueBy, restBy, restBefore, restAfter, handedDown}
+use Rattle.diffusion.specs.Internal.Sums.{none, Handed, Level}
 
 -- ---- parts
 
@@ -50,65 +50,65 @@ value-small gray sums x h =
     omega (arith, small .0, small .1, right-small gray sums x (λ i k. h i (omega arith)))
 
 module _ (w : ℕ) (gray sums : ℕ → ℕ) (small : (i : ℕ) → i < w → (gray i < 256) × (sums i ≤ 144)) where
-  value-within : (x : ℕ) → x < w → valueBy gray sums x < 512
-  value-within x k = value-small gray sums x (λ i l. small i (omega arith))
+  valueBy-small : (x : ℕ) → x < w → valueBy gray sums x < 512
+  valueBy-small x k = value-small gray sums x (λ i l. small i (omega arith))
 
-  rest-within : (x : ℕ) → x < w → restBy gray sums x ≤ 256
+  restBy-small : (x : ℕ) → x < w → restBy gray sums x ≤ 256
   unfolding restBy
-  rest-within x k = rest-small (valueBy gray sums x) (value-within x k)
+  restBy-small x k = rest-small (valueBy gray sums x) (valueBy-small x k)
 
-  before-within : (x : ℕ) → x < w → restBefore gray sums x ≤ 256
+  restBefore-small : (x : ℕ) → x < w → restBefore gray sums x ≤ 256
   unfolding restBefore
-  before-within zero k = omega arith
-  before-within (suc x) k = rest-within x (omega arith)
+  restBefore-small zero k = omega arith
+  restBefore-small (suc x) k = restBy-small x (omega arith)
 
-  after-within : (x : ℕ) → restAfter w gray sums x ≤ 256
+  restAfter-small : (x : ℕ) → restAfter w gray sums x ≤ 256
   unfolding restAfter
-  after-within x =
+  restAfter-small x =
       ⊎-elim
-      (λ k. rw (lt-ltb (suc x) w k) (rest-within (suc x) k))
+      (λ k. rw (lt-ltb (suc x) w k) (restBy-small (suc x) k))
       (λ k. rw (le-ltb (suc x) w k) (omega arith))
       (lt-or-le (suc x) w)
 
   pub down-small : (x : ℕ) → x < w → handedDown w gray sums x ≤ 144
   unfolding handedDown
   down-small x k =
-      omega (arith, part-small 1 _ (before-within x k), part-small 5 _ (rest-within x k), part-small 3 _ (after-within x))
+      omega (arith, part-small 1 _ (restBefore-small x k), part-small 5 _ (restBy-small x k), part-small 3 _ (restAfter-small x))
 
 -- ---- gray and sums that agree on the first w columns give the same
 
-right-same : (gray gray′ sums sums′ : ℕ → ℕ) (x : ℕ) → ((i : ℕ) → i < x → (gray i ≡ gray′ i) × (sums i ≡ sums′ i))
+handedRight-same : (gray gray′ sums sums′ : ℕ → ℕ) (x : ℕ) → ((i : ℕ) → i < x → (gray i ≡ gray′ i) × (sums i ≡ sums′ i))
     → handedRight gray sums x ≡ handedRight gray′ sums′ x
 unfolding handedRight
-right-same gray gray′ sums sums′ zero h = refl
-right-same gray gray′ sums sums′ (suc x) h =
-    rw (h x (omega arith) .0, h x (omega arith) .1, right-same gray gray′ sums sums′ x (λ i k. h i (omega arith)))
+handedRight-same gray gray′ sums sums′ zero h = refl
+handedRight-same gray gray′ sums sums′ (suc x) h =
+    rw (h x (omega arith) .0, h x (omega arith) .1, handedRight-same gray gray′ sums sums′ x (λ i k. h i (omega arith)))
 
 module _ (w : ℕ) (gray gray′ sums sums′ : ℕ → ℕ) (same : (i : ℕ) → i < w → (gray i ≡ gray′ i) × (sums i ≡ sums′ i)) where
   pub value-same : (x : ℕ) → x < w → valueBy gray sums x ≡ valueBy gray′ sums′ x
   unfolding valueBy
-  value-same x k = rw (same x k .0, same x k .1, right-same gray gray′ sums sums′ x (λ i l. same i (omega arith)))
+  value-same x k = rw (same x k .0, same x k .1, handedRight-same gray gray′ sums sums′ x (λ i l. same i (omega arith)))
 
-  rest-same : (x : ℕ) → x < w → restBy gray sums x ≡ restBy gray′ sums′ x
+  restBy-same : (x : ℕ) → x < w → restBy gray sums x ≡ restBy gray′ sums′ x
   unfolding restBy
-  rest-same x k = ap restOf (value-same x k)
+  restBy-same x k = ap restOf (value-same x k)
 
-  before-same : (x : ℕ) → x < w → restBefore gray sums x ≡ restBefore gray′ sums′ x
+  restBefore-same : (x : ℕ) → x < w → restBefore gray sums x ≡ restBefore gray′ sums′ x
   unfolding restBefore
-  before-same zero k = refl
-  before-same (suc x) k = rest-same x (omega arith)
+  restBefore-same zero k = refl
+  restBefore-same (suc x) k = restBy-same x (omega arith)
 
-  after-same : (x : ℕ) → restAfter w gray sums x ≡ restAfter w gray′ sums′ x
+  restAfter-same : (x : ℕ) → restAfter w gray sums x ≡ restAfter w gray′ sums′ x
   unfolding restAfter
-  after-same x =
+  restAfter-same x =
       ⊎-elim
-      (λ k. rw (lt-ltb (suc x) w k) (rest-same (suc x) k))
+      (λ k. rw (lt-ltb (suc x) w k) (restBy-same (suc x) k))
       (λ k. rw (le-ltb (suc x) w k))
       (lt-or-le (suc x) w)
 
   pub down-same : (x : ℕ) → x < w → handedDown w gray sums x ≡ handedDown w gray′ sums′ x
   unfolding handedDown
-  down-same x k = rw (before-same x k, rest-same x k, after-same x)
+  down-same x k = rw (restBefore-same x k, restBy-same x k, restAfter-same x)
 
 -- ---- a row of black and white to which nothing is handed: its dots are those of the threshold 128, and nothing is handed down
 
@@ -117,36 +117,37 @@ unfolding restOf
 rest-none g h e = omega arith
 
 module _ (w : ℕ) (gray sums : ℕ → ℕ) (level : Level w sums) (plain : (i : ℕ) → i < w → (gray i < 256) × (gray i % 255 ≡ 0)) where
-  level-right : (x : ℕ) → x ≤ w → handedRight gray sums x ≡ 56
+  handedRight-level : (x : ℕ) → x ≤ w → handedRight gray sums x ≡ 56
   unfolding handedRight
-  level-right zero k = refl
-  level-right (suc x) k =
-      rw (level x (omega arith), level-right x (omega arith), rest-none (gray x) (plain x (omega arith) .0) (plain x (omega arith) .1)) (part-of-128 7)
+  handedRight-level zero k = refl
+  handedRight-level (suc x) k =
+      let p = plain x (omega arith) in
+      rw (level x (omega arith), handedRight-level x (omega arith), rest-none (gray x) (p .0) (p .1)) (part-of-128 7)
 
-  level-value : (x : ℕ) → x < w → valueBy gray sums x ≡ gray x + 72 + 56
+  valueBy-level : (x : ℕ) → x < w → valueBy gray sums x ≡ gray x + 72 + 56
   unfolding valueBy
-  level-value x k = rw (level x k, level-right x (omega arith))
+  valueBy-level x k = rw (level x k, handedRight-level x (omega arith))
 
-  level-rest : (x : ℕ) → x < w → restBy gray sums x ≡ 128
+  restBy-level : (x : ℕ) → x < w → restBy gray sums x ≡ 128
   unfolding restBy
-  level-rest x k = ap restOf (level-value x k) ∙ rest-none (gray x) (plain x k .0) (plain x k .1)
+  restBy-level x k = ap restOf (valueBy-level x k) ∙ rest-none (gray x) (plain x k .0) (plain x k .1)
 
-  level-before : (x : ℕ) → x < w → restBefore gray sums x ≡ 128
+  restBefore-level : (x : ℕ) → x < w → restBefore gray sums x ≡ 128
   unfolding restBefore
-  level-before zero k = refl
-  level-before (suc x) k = level-rest x (omega arith)
+  restBefore-level zero k = refl
+  restBefore-level (suc x) k = restBy-level x (omega arith)
 
-  level-after : (x : ℕ) → restAfter w gray sums x ≡ 128
+  restAfter-level : (x : ℕ) → restAfter w gray sums x ≡ 128
   unfolding restAfter
-  level-after x =
+  restAfter-level x =
       ⊎-elim
-      (λ k. rw (lt-ltb (suc x) w k) (level-rest (suc x) k))
+      (λ k. rw (lt-ltb (suc x) w k) (restBy-level (suc x) k))
       (λ k. rw (le-ltb (suc x) w k))
       (lt-or-le (suc x) w)
 
   pub level-dot : (x : ℕ) → x < w → valueBy gray sums x / 256 ≡ bit (leb 128 (gray x))
   level-dot x k =
-      let value = level-value x k in
+      let value = valueBy-level x k in
       let small = plain x k .0 in
       ⊎-elim
       (λ l. rw (lt-leb 128 (gray x) l) (omega (arith, plain x k .1)))
@@ -155,7 +156,8 @@ module _ (w : ℕ) (gray sums : ℕ → ℕ) (level : Level w sums) (plain : (i 
 
   pub level-down : Level w (handedDown w gray sums)
   unfolding handedDown
-  level-down x k = rw (level-before x k, level-rest x k, level-after x) (omega (arith, part-of-128 1, part-of-128 5, part-of-128 3))
+  level-down x k =
+      rw (restBefore-level x k, restBy-level x k, restAfter-level x) (omega (arith, part-of-128 1, part-of-128 5, part-of-128 3))
 
 -- a row of one column
 pub one-down : (gray sums : ℕ → ℕ) → handedDown 1 gray sums 0 ≡ 32 + partOf 5 (restBy gray sums 0)
@@ -189,18 +191,23 @@ unfolding restOf
 residual-of z v e h = stepped v e (omega arith) .restIs .is
 
 module _ (w : ℕ) (gray : ℕ → ℕ) (upper : ℕ → ℤ) (sums : ℕ → ℕ)
-    (summed : (x : ℕ) → x < w → subℕ (sums x) none ≡ part 1 (before toRight w upper x) +ℤ part 5 (upper x) +ℤ part 3 (after toRight w upper x))
+    (summed : (x : ℕ) → x < w
+    → subℕ (sums x) none ≡ part 1 (before toRight w upper x) +ℤ part 5 (upper x) +ℤ part 3 (after toRight w upper x))
     (small : (i : ℕ) → i < w → (gray i < 256) × (sums i ≤ 144)) where
-  from-sums : (x : ℕ) → x < w → (l : ℤ) → part 7 l ≡ subℕ (handedRight gray sums x) 56 → valueFrom toRight w gray upper x l ≡ subℕ (valueBy gray sums x) 128
+  from-sums : (x : ℕ) → x < w → (l : ℤ) → part 7 l ≡ subℕ (handedRight gray sums x) 56
+      → valueFrom toRight w gray upper x l ≡ subℕ (valueBy gray sums x) 128
   unfolding valueFrom valueBy
-  from-sums x k l e = value-of (gray x) l (before toRight w upper x) (upper x) (after toRight w upper x) (handedRight gray sums x) (sums x) e (summed x k)
+  from-sums x k l e =
+      let b = before toRight w upper x in
+      let a = after toRight w upper x in
+      value-of (gray x) l b (upper x) a (handedRight gray sums x) (sums x) e (summed x k)
 
   right-is : (x : ℕ) → x ≤ w → part 7 (handed toRight toRight w gray upper x) ≡ subℕ (handedRight gray sums x) 56
   unfolding handed handedRight part valueBy
   right-is zero k = refl
   right-is (suc x) k =
       let e = from-sums x (omega arith) (handed toRight toRight w gray upper x) (right-is x (omega arith)) in
-      let v = value-within w gray sums small x (omega arith) in
+      let v = valueBy-small w gray sums small x (omega arith) in
       ap (part 7) (residual-of _ (valueBy gray sums x) e v) ∙ part-held 7 (restOf (valueBy gray sums x)) (rest-small _ v)
 
   row-value-is : (x : ℕ) → x < w → rowValue toRight toRight w gray upper x ≡ subℕ (valueBy gray sums x) 128
@@ -209,7 +216,7 @@ module _ (w : ℕ) (gray : ℕ → ℕ) (upper : ℕ → ℤ) (sums : ℕ → �
 
   row-rest-is : (x : ℕ) → x < w → residual (rowValue toRight toRight w gray upper x) ≡ subℕ (restBy gray sums x) 128
   unfolding restBy
-  row-rest-is x k = residual-of _ (valueBy gray sums x) (row-value-is x k) (value-within w gray sums small x k)
+  row-rest-is x k = residual-of _ (valueBy gray sums x) (row-value-is x k) (valueBy-small w gray sums small x k)
 
 -- a row's residuals, held: the three parts that they hand down to a column
 module _ (w : ℕ) (gray sums : ℕ → ℕ) (row : ℕ → ℤ) (rests : (x : ℕ) → x < w → row x ≡ subℕ (restBy gray sums x) 128)
@@ -234,9 +241,9 @@ module _ (w : ℕ) (gray sums : ℕ → ℕ) (row : ℕ → ℤ) (rests : (x : �
       let b = restBefore gray sums x in
       let r = restBy gray sums x in
       let a = restAfter w gray sums x in
-      let eb = ap (part 1) (before-is x k) ∙ part-held 1 b (before-within w gray sums small x k) in
-      let er = ap (part 5) (rests x k) ∙ part-held 5 r (rest-within w gray sums small x k) in
-      let ea = ap (part 3) (after-is x) ∙ part-held 3 a (after-within w gray sums small x) in
+      let eb = ap (part 1) (before-is x k) ∙ part-held 1 b (restBefore-small w gray sums small x k) in
+      let er = ap (part 5) (rests x k) ∙ part-held 5 r (restBy-small w gray sums small x k) in
+      let ea = ap (part 3) (after-is x) ∙ part-held 3 a (restAfter-small w gray sums small x) in
       sym (
       ap (λ (z : ℤ). z +ℤ part 5 (row x) +ℤ part 3 (after toRight w row x)) eb ∙
       ap (λ (z : ℤ). subℕ (partOf 1 b) 8 +ℤ z +ℤ part 3 (after toRight w row x)) er ∙
@@ -267,7 +274,7 @@ module _ (w : ℕ) (scan : Scan) (bytes : (x y : ℕ) → scan x y < 256) (y : �
   -- the same as a bit
   pub dot-correct : (x : ℕ) → x < w → bit (white (valueAt rightwards w scan x y)) ≡ valueBy (λ c. scan c y) sums x / 256
   dot-correct x k =
-      let v = value-within w (λ c. scan c y) sums row-small x k in
+      let v = valueBy-small w (λ c. scan c y) sums row-small x k in
       sym (stepped (valueBy (λ c. scan c y) sums x) (value-correct x k) (omega arith) .dotIs)
 
   above-is : (x : ℕ) → x < w → above rightwards w scan (suc y) x ≡ subℕ (restBy (λ c. scan c y) sums x) 128
