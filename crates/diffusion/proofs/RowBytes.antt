@@ -101,7 +101,7 @@ module _ (gray : List ℕ) (old : List ℤ) (n room : ℕ) (f : Flow) (out : Lis
         }
 
 -- bytes after others
-pub record BytesRun (gray : List ℕ) (last room n₀ : ℕ) (f₀ : Flow) (out₀ : List ℕ) (work₀ : List ℤ) (n : ℕ) (f : Flow) (out : List ℕ) (work : List ℤ) : Type 0 where
+pub record BytesRun (gray : List ℕ) (last n₀ : ℕ) (f₀ : Flow) (out₀ : List ℕ) (work₀ : List ℤ) (n : ℕ) (f : Flow) (out : List ℕ) (work : List ℤ) : Type 0 where
   pub from : n₀ ≤ n
   pub to : n ≤ last
-  pub passed : (old : List ℤ) → BytesPassed gray old n₀ room f₀ out₀ work₀ → BytesPassed gray old n room f out work
+  pub passed : (old : List ℤ) (room : ℕ) → BytesPassed gray old n₀ room f₀ out₀ work₀ → BytesPassed gray old n room f out work
