@@ -4,3 +4,4 @@ pub mod TableRule
 pub mod DotStep
 pub mod RowGrows
 pub mod RowBytes
+pub mod RowEnds

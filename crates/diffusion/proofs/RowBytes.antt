@@ -51,11 +51,11 @@ module _ (w : ℕ) (d : ℕ → ℕ) (j : ℕ) where
 
 -- ---- from the row's start on
 
-abbrev pub none : Flow
-none = record { right = 56; down = 524288; stirred = 0; digits = 0 }
+abbrev pub firstFlow : Flow
+firstFlow = record { right = 56; down = 524288; stirred = 0; digits = 0 }
 
 module _ (gray : List ℕ) (old : List ℤ) (room : ℕ) (lent : RowLent gray old room) (byte : (k : ℕ) → grayOf gray k < 256) where
-  pub row-start : RowAt gray old 0 none old
+  pub row-start : RowAt gray old 0 firstFlow old
   unfolding handedRight owed restBefore
   row-start =
       let p = part-of-128 1 in
@@ -71,7 +71,7 @@ module _ (gray : List ℕ) (old : List ℤ) (room : ℕ) (lent : RowLent gray ol
         still = λ e k h. let z : ⊥ = omega arith in absurd z;
       }
 
-  pub bytes-start : (n : ℕ) (out : List ℕ) → n ≡ 0 → length out ≡ room → BytesPassed gray old n room none out old
+  pub bytes-start : (n : ℕ) (out : List ℕ) → n ≡ 0 → length out ≡ room → BytesPassed gray old n room firstFlow out old
   unfolding upto
   bytes-start n out e l = rw e (record { at = row-start; outLong = l; written = refl })
 

@@ -90,7 +90,7 @@ module _ (gray : List ℕ) (old : List ℤ) (x : ℕ) (f : Flow) (work : List �
   before-le zero h = omega arith
   before-le (suc k) h = rest-le k (omega arith)
 
-  owed-le : (k : ℕ) → k ≤ length gray → owed g s k ≤ 96
+  pub owed-le : (k : ℕ) → k ≤ length gray → owed g s k ≤ 96
   unfolding owed
   owed-le zero h = omega arith
   owed-le (suc k) h = omega (arith, part-small 1 _ (before-le k (omega arith)), part-small 5 _ (rest-le k (omega arith)))
