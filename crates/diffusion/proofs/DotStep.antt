@@ -24,7 +24,6 @@ or-none a b e = let s = or-add-and a b in let l = and-le-l a b in let r = and-le
 pub xor-none : (a b : ℕ) → bitXor a b ≡ 0 → a ≡ b
 xor-none a b e = let s = xor-add-and a b in let l = and-le-l a b in let r = and-le-r a b in omega arith
 
-
 -- a sum of the work buffer is read as it is held
 pub sum-fits : (z sum : ℤ) → z ≡ sum → sum ≡ pos (natAbs sum) → natAbs sum ≤ 144 → T (nonNeg z) × Fits w16 (natAbs z)
 sum-fits z sum e p h = subst⁻¹ (λ (i : ℤ). T (nonNeg i) × Fits w16 (natAbs i)) (e ∙ p) (tt, record { fits = omega arith })

@@ -73,4 +73,3 @@ module _ (w : ℕ) (gray sums : ℕ → ℕ) (small : (i : ℕ) → i < w → (g
   unfolding handedDown
   down-small x k =
       omega (arith, part-small 1 _ (restBefore-small x k), part-small 5 _ (restBy-small x k), part-small 3 _ (restAfter-small x))
-

@@ -60,9 +60,14 @@ dot-requires : tie.Need-dot-requires Inv-loop μ-loop
 dot-requires c κs =
     let l = c .before .before .before in
     let s = start l in
-    let p = s .pre .1 .1 in
-    (s .pre .0, (s .pre .1 .0, subst⁻¹ (λ (z : ℤ). DotLent (l .loop .s) z) (same-sum c)
-    (run-lent _ _ _ _ _ _ _ _ (l .loop .inv) (p .old) (begins _ _ _ _ _ (p .at)) (in-row l (c .before .before .loop-test .taken)) (omega (arith, p .oneByte)))))
+    let p = s .pre .1 .1 in (
+      s .pre .0,
+      (
+        s .pre .1 .0,
+        subst⁻¹ (λ (z : ℤ). DotLent (l .loop .s) z) (same-sum c)
+            (run-lent _ _ _ _ _ _ _ _ (l .loop .inv) (p .old) (begins _ _ _ _ _ (p .at)) (in-row l (c .before .before .loop-test .taken)) (omega (arith, p .oneByte))),
+      ),
+    )
 
 sub-j : tie.Need-sub-j Inv-loop μ-loop
 sub-j c = c .if1 .taken
