@@ -6,3 +6,8 @@ pub mod RowHanded
 pub mod RowsGoing
 pub mod OnesLoop
 pub mod PlaneServed
+pub mod TableRule
+pub mod DotStep
+pub mod RowGrows
+pub mod RowBytes
+pub mod RowEnds

@@ -2,3 +2,4 @@
 pub mod Sums
 pub mod Rows
 pub mod Planes
+pub mod Flow
