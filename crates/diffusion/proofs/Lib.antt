@@ -1,0 +1,13 @@
+-- The laws that several proofs cite.
+pub mod SumsCorrect
+pub mod PlaneRows
+pub mod RowsLoop
+pub mod RowHanded
+pub mod RowsGoing
+pub mod OnesLoop
+pub mod PlaneServed
+pub mod TableRule
+pub mod DotStep
+pub mod RowGrows
+pub mod RowBytes
+pub mod RowEnds

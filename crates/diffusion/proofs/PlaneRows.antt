@@ -1,0 +1,84 @@
+-- The bytes of a plane row by row.
+-- Assumes nothing.
+use Prim.Native.Nat.{ℕ, zero, suc, _+_, _*_, _/_, _%_, _≤_, _<_}
+use mathlib.Core.Path.{_≡_, refl, sym, ap, _∙_}
+use mathlib.Core.Logic.{⊎-elim}
+use mathlib.Core.List.{List, [], _∷_, _++_, append-nil}
+use native.Mathlib.Nat.{mul-add-div-right, mul-add-mod-self-right, mod-eq-of-lt, div-eq-of-lt, add-zero, suc-mul, one-mul}
+use native.Mathlib.Omega.{arith}
+use borrow.Author.Tests.{lt-ltb, le-ltb}
+use lib.ListN.{length, drop}
+use lib.Seq.{drop-length}
+use Rattle.image.specs.Geometry.{rowBytes}
+use Rattle.rules.specs.Bits.{upto, digits, appended}
+use Rattle.rules.specs.Packed.{paddedBit, byteAt}
+use Rattle.rules.specs.Internal.Planes.{plane}
+use Rattle.rules.proofs.Differences.{lt-or-le}
+use Rattle.rules.proofs.DigitsAppended.{appended-ext}
+use Rattle.rules.proofs.UptoList.{length-upto, upto-ext, upto-add}
+use Rattle.diffusion.specs.Internal.Rows.{rowOf}
+
+-- ---- a number by row and column
+
+module _ (w q c : ℕ) (h : c < w) where
+  pub div-at : (q * w + c) / w ≡ q
+  div-at = let p : 0 < w = omega arith in rw (mul-add-div-right p q c, div-eq-of-lt h, add-zero)
+
+  pub mod-at : (q * w + c) % w ≡ c
+  mod-at = rw (mul-add-mod-self-right q w c, mod-eq-of-lt h)
+
+-- ---- row q of one plane and row r of another have the same dots
+
+module _ (w : ℕ) (d e : ℕ → ℕ) (q r : ℕ) (same : (c : ℕ) → c < w → d (q * w + c) ≡ e (r * w + c)) where
+  bit-same : (c : ℕ) → paddedBit w d q c ≡ paddedBit w e r c
+  unfolding paddedBit
+  bit-same c =
+      ⊎-elim
+      (λ (k : c < w). rw (lt-ltb c w k) (same c k))
+      (λ (k : w ≤ c). rw (le-ltb c w k))
+      (lt-or-le c w)
+
+  byte-same : (b : ℕ) → b < rowBytes w → byteAt w d (q * rowBytes w + b) ≡ byteAt w e (r * rowBytes w + b)
+  unfolding byteAt
+  byte-same b l =
+      rw (div-at (rowBytes w) q b l, mod-at (rowBytes w) q b l, div-at (rowBytes w) r b l, mod-at (rowBytes w) r b l)
+      (appended-ext 0 (λ i. paddedBit w d q (8 * b + i)) (λ i. paddedBit w e r (8 * b + i)) 8 (λ i k. bit-same (8 * b + i)))
+
+module _ (w : ℕ) where
+  first-row : (d : ℕ → ℕ) (b : ℕ) → byteAt w d (0 * rowBytes w + b) ≡ byteAt w d b
+  first-row d b = let e : 0 * rowBytes w + b ≡ b = omega arith in ap (byteAt w d) e
+
+  pub row-length : (d : ℕ → ℕ) → length (rowOf w d) ≡ rowBytes w
+  row-length d = length-upto (byteAt w d) (rowBytes w)
+
+  -- a row's bytes depend on its dots only
+  pub row-same : (d e : ℕ → ℕ) → ((c : ℕ) → c < w → d c ≡ e c) → rowOf w d ≡ rowOf w e
+  row-same d e h =
+      upto-ext (byteAt w d) (byteAt w e) (rowBytes w)
+      (λ b l. sym (first-row d b) ∙ byte-same w d e 0 0 (λ c k. let z : 0 * w + c ≡ c = omega arith in rw z (h c k)) b l ∙ first-row e b)
+
+  -- the first y + 1 rows of a plane are the first y and one more
+  pub rows-more : (d : ℕ → ℕ) (y : ℕ) → plane w (suc y) d ≡ plane w y d ++ rowOf w (λ c. d (y * w + c))
+  rows-more d y =
+      let e : ℕ → ℕ = λ c. d (y * w + c) in
+      ap (λ (n : ℕ). upto n (byteAt w d)) (suc-mul y (rowBytes w))
+      ∙ upto-add (byteAt w d) (y * rowBytes w) (rowBytes w)
+      ∙ ap (λ (l : List ℕ). plane w y d ++ l) (
+      upto-ext (λ b. byteAt w d (y * rowBytes w + b)) (byteAt w e) (rowBytes w)
+      (λ b l. byte-same w d e y 0 (λ c k. let z : 0 * w + c ≡ c = omega arith in ap (λ (n : ℕ). d (y * w + n)) (sym z)) b l ∙ first-row e b))
+
+  -- one row is a plane
+  pub row-alone : (d : ℕ → ℕ) (out out′ : List ℕ) → length out ≡ rowBytes w → out′ ≡ plane w 1 d ++ drop (rowBytes w) out → out′ ≡ rowOf w d
+  row-alone d out out′ n e =
+      e
+      ∙ ap (λ (k : ℕ). plane w 1 d ++ drop k out) (sym n)
+      ∙ ap (λ (l : List ℕ). plane w 1 d ++ l) (drop-length out)
+      ∙ append-nil (plane w 1 d)
+      ∙ ap (λ (k : ℕ). upto k (byteAt w d)) (one-mul (rowBytes w))
+
+-- a row of one dot
+pub row-one : (d : ℕ → ℕ) → rowOf 1 d ≡ 128 * d 0 ∷ []
+unfolding upto byteAt paddedBit appended
+row-one d =
+    let e : (((((((0 + d 0) * 2 + 0) * 2 + 0) * 2 + 0) * 2 + 0) * 2 + 0) * 2 + 0) * 2 + 0 ≡ 128 * d 0 = omega arith in
+    ap (λ (n : ℕ). n ∷ []) e

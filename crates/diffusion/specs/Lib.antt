@@ -1,0 +1,2 @@
+-- What dithering a plane at once promises.
+pub mod Internal
