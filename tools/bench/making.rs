@@ -29,7 +29,7 @@ pub fn quantize(card: Card, picture: Picture, dithered: bool, rounds: usize) -> 
     let mut work = vec![0; 2 * width as usize];
     let times = medians(
         rounds,
-        [&mut || drop(black_box(plane())), &mut || {
+        [&mut |_| drop(black_box(plane())), &mut |_| {
             let gray = black_box(&gray);
             let refusal = match dithered {
                 true => kernels::dither(width, height, gray, &mut work, &mut out),
@@ -60,8 +60,8 @@ pub fn make(card: Card, picture: Picture, dithered: bool, rounds: usize) -> Time
     let times = medians(
         rounds,
         [
-            &mut || drop(black_box(rust_file(card, black_box(&gray), dithered))),
-            &mut || {
+            &mut |_| drop(black_box(rust_file(card, black_box(&gray), dithered))),
+            &mut |_| {
                 let refusal = kernels::make(making, black_box(&gray), &mut work, &mut out);
                 assert_eq!(refusal, 0);
             },
@@ -84,7 +84,7 @@ pub fn write(card: Card, inverted: bool, rounds: usize) -> Times {
     let mut out = Lent::new(file().len(), 64);
     let times = medians(
         rounds,
-        [&mut || drop(black_box(file())), &mut || {
+        [&mut |_| drop(black_box(file())), &mut |_| {
             let refusal = kernels::write(card, black_box(&planes), inverted, out.next());
             assert_eq!(refusal, 0);
         }],

@@ -1,7 +1,7 @@
 //! Whole reading and info.
 
 use crate::capi::{self, Asked, Image, Info};
-use crate::lent::Lent;
+use crate::lent::{Copies, Lent};
 use crate::rounds::{Times, medians};
 use oracle::calls;
 use oracle::image::WbmpPixelFormat::{MonoBlack, MonoWhite};
@@ -38,18 +38,19 @@ pub fn planes(file: &[u8], format: u32) -> Vec<u8> {
 /// does; ours are lent.
 pub fn read(file: &[u8], format: u32, rounds: usize) -> Times {
     let (asked, options) = (asked(format), options(format));
+    let files = Copies::new(file);
     let mut out = Lent::new(file.len(), 64);
     let mut copied = Lent::new(file.len(), 64);
     let mut image = Image::default();
     let times = medians(
         rounds,
         [
-            &mut || drop(black_box(calls::decode_frames(black_box(file), &options))),
-            &mut || {
-                let refusal = capi::read(black_box(file), &asked, out.next(), &mut image);
+            &mut |round| drop(black_box(calls::decode_frames(files.of(round), &options))),
+            &mut |round| {
+                let refusal = capi::read(files.of(round), &asked, out.next(), &mut image);
                 assert_eq!(refusal, 0);
             },
-            &mut || black_box(copied.next()).copy_from_slice(black_box(file)),
+            &mut |round| black_box(copied.next()).copy_from_slice(files.of(round)),
         ],
     );
     assert!(
@@ -64,8 +65,8 @@ pub fn info(file: &[u8], rounds: usize) -> Times {
     let times = medians(
         rounds,
         [
-            &mut || drop(black_box(calls::info(black_box(file)))),
-            &mut || assert_eq!(capi::info(black_box(file), black_box(&mut told)), 0),
+            &mut |_| drop(black_box(calls::info(black_box(file)))),
+            &mut |_| assert_eq!(capi::info(black_box(file), black_box(&mut told)), 0),
         ],
     );
     let rust = calls::info(file).expect("a good file");

@@ -47,8 +47,9 @@ impl std::fmt::Display for Times {
     }
 }
 
-/// The median time in ns of one run of each side; the sides take turns in every round.
-pub fn medians<const N: usize>(rounds: usize, mut sides: [&mut dyn FnMut(); N]) -> [f64; N] {
+/// The median time in ns of one run of each side; the sides take turns in every round, and are told
+/// its number.
+pub fn medians<const N: usize>(rounds: usize, mut sides: [&mut dyn FnMut(usize); N]) -> [f64; N] {
     let counts = sides.each_mut().map(|side| calls_a_round(side));
     let mut times = [const { Vec::new() }; N];
     let mut spent = 0.0;
@@ -56,7 +57,7 @@ pub fn medians<const N: usize>(rounds: usize, mut sides: [&mut dyn FnMut(); N]) 
         || (times[0].len() < rounds && spent < rounds as f64 * SHARE)
     {
         for (i, side) in sides.iter_mut().enumerate() {
-            let each = time(side, counts[i]);
+            let each = time(side, times[i].len(), counts[i]);
             spent += each * counts[i] as f64;
             times[i].push(each);
         }
@@ -68,9 +69,9 @@ pub fn medians<const N: usize>(rounds: usize, mut sides: [&mut dyn FnMut(); N]) 
 }
 
 /// How many calls last about a round; two runs of the side come before its first round.
-fn calls_a_round(side: &mut dyn FnMut()) -> usize {
-    let first = time(side, 1);
-    let each = time(side, count_of(first).min(1000));
+fn calls_a_round(side: &mut dyn FnMut(usize)) -> usize {
+    let first = time(side, 0, 1);
+    let each = time(side, 0, count_of(first).min(1000));
     count_of(each)
 }
 
@@ -78,10 +79,10 @@ fn count_of(each: f64) -> usize {
     ((ROUND / each) as usize).clamp(1, 100_000)
 }
 
-fn time(side: &mut dyn FnMut(), count: usize) -> f64 {
+fn time(side: &mut dyn FnMut(usize), round: usize, count: usize) -> f64 {
     let start = now();
     for _ in 0..count {
-        side();
+        side(round);
     }
     (now() - start) as f64 / count as f64
 }
@@ -95,8 +96,23 @@ fn now() -> i64 {
     time[0] * 1_000_000_000 + time[1]
 }
 
+/// Memory that is freed stays with the process, so that no call of the Rust's waits for the system.
+pub fn keep_memory() {
+    // SAFETY: the numbers are those of glibc's malloc.h, and 32 MB is the most that it takes.
+    let kept = unsafe {
+        [
+            mallopt(M_TRIM_THRESHOLD, i32::MAX),
+            mallopt(M_MMAP_THRESHOLD, 32 << 20),
+        ]
+    };
+    assert_eq!(kept, [1, 1], "mallopt");
+}
+
 const CLOCK_THREAD_CPUTIME_ID: i32 = 3;
+const M_TRIM_THRESHOLD: i32 = -1;
+const M_MMAP_THRESHOLD: i32 = -3;
 
 unsafe extern "C" {
     fn clock_gettime(clock: i32, time: *mut [i64; 2]) -> i32;
+    fn mallopt(what: i32, value: i32) -> i32;
 }

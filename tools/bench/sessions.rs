@@ -4,7 +4,7 @@
 
 use crate::capi::{self, Image};
 use crate::kernels::{self, Making};
-use crate::lent::Lent;
+use crate::lent::{Copies, Lent};
 use crate::making::rust_file;
 use crate::pictures::Picture;
 use crate::reading::{asked, options, planes};
@@ -58,19 +58,20 @@ pub fn read(file: &[u8], format: u32, piece: usize, rounds: usize) -> Times {
     let mut out = Lent::new(file.len(), 17);
     let mut ext = vec![0; 4118];
     let mut list = List::new(file.len(), piece, ext.len());
-    let mut session = |List { calls, answers }: &mut List, out: &mut [u8]| {
-        kernels::read_list(format == 1, calls, black_box(file), out, &mut ext, answers)
+    let files = Copies::new(file);
+    let mut session = |List { calls, answers }: &mut List, round: usize, out: &mut [u8]| {
+        kernels::read_list(format == 1, calls, files.of(round), out, &mut ext, answers)
     };
-    session(&mut list, out.next());
+    session(&mut list, 0, out.next());
     list.fit();
     let mut made = 0;
     let times = medians(
         rounds,
         [
-            &mut || drop(black_box(calls::decode_frames(black_box(file), &options))),
-            &mut || made = session(&mut list, out.next()),
-            &mut || {
-                let refusal = capi::read(black_box(file), &asked, whole.next(), &mut image);
+            &mut |round| drop(black_box(calls::decode_frames(files.of(round), &options))),
+            &mut |round| made = session(&mut list, round, out.next()),
+            &mut |round| {
+                let refusal = capi::read(files.of(round), &asked, whole.next(), &mut image);
                 assert_eq!(refusal, 0)
             },
         ],
@@ -103,9 +104,9 @@ pub fn make(making: Making, piece: usize, rounds: usize) -> Times {
     let times = medians(
         rounds,
         [
-            &mut || drop(black_box(rust_file(card, black_box(&gray), dithered))),
-            &mut || made = session(&mut list, &mut out[..card.plane()]),
-            &mut || {
+            &mut |_| drop(black_box(rust_file(card, black_box(&gray), dithered))),
+            &mut |_| made = session(&mut list, &mut out[..card.plane()]),
+            &mut |_| {
                 let refusal = kernels::make(making, black_box(&gray), &mut work, &mut whole);
                 assert_eq!(refusal, 0)
             },

@@ -58,8 +58,8 @@ pub fn sniff(card: Card, sniffed: Sniffed, rounds: usize) -> Times {
     let times = medians(
         rounds,
         [
-            &mut || assert_eq!(calls::sniff(black_box(&file)), answer),
-            &mut || assert_eq!(capi::sniff(black_box(&file)), answer),
+            &mut |_| assert_eq!(calls::sniff(black_box(&file)), answer),
+            &mut |_| assert_eq!(capi::sniff(black_box(&file)), answer),
         ],
     );
     Times::of_two(times)

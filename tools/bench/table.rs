@@ -7,8 +7,8 @@ use std::process::Command;
 /// How many bytes behind a multiple of 64 the four programs have the code of the archives.
 const PLACES: [usize; 4] = [0, 16, 32, 48];
 const ROUNDS: usize = 61;
-/// The rounds of a line that is timed again.
-const AGAIN: usize = 201;
+/// How often a line that misses its goal is timed again.
+const AGAIN: usize = 4;
 /// A goal of 1.0 is met from here on: medians of two runs differ as much.
 const EQUAL: f64 = 0.97;
 /// A line is timed again where it comes to this part of its goal.
@@ -25,33 +25,60 @@ pub fn print(name: &str) {
     let mut asked: Vec<(usize, &Line)> = lines.iter().enumerate().collect();
     asked.retain(|(_, line)| line.call.starts_with(name.trim_end_matches('s')));
     for &(index, line) in &asked {
-        let timed = Timed::new(index, line, ROUNDS);
+        let mut timed = Timed::new(index, line);
+        timed.run();
         timed.print();
         missing.extend((!timed.meets(1.0)).then_some(timed));
     }
     println!("again:");
-    for timed in missing.iter_mut().filter(|timed| timed.meets(CLOSE)) {
-        *timed = Timed::new(timed.index, timed.line, AGAIN);
-        timed.print();
+    for _ in 0..AGAIN {
+        let close = missing.iter_mut().filter(|timed| timed.meets(CLOSE));
+        close.for_each(Timed::run);
     }
+    let again = missing.iter().filter(|timed| timed.runs[0].len() > 1);
+    again.for_each(Timed::print);
     missing.retain(|timed| !timed.meets(1.0));
-    let which: Vec<String> = missing.iter().map(Timed::short).collect();
-    let (all, missed) = (asked.len(), which.len());
-    println!("{all} lines, {missed} miss their goal{}", which.concat());
+    let (all, missed) = (asked.len(), missing.len());
+    let names = missing.iter().map(|timed| format!("; {}", timed.name()));
+    println!(
+        "{all} lines, {missed} miss their goal{}",
+        names.collect::<String>()
+    );
 }
 
-/// A line of the list and its times at the four places, by rising ratio.
+/// A line of the list and the times of its runs at each of the four places.
 struct Timed<'a> {
     index: usize,
     line: &'a Line,
-    times: [Times; 4],
+    runs: [Vec<Times>; 4],
 }
 
 impl Timed<'_> {
-    fn new(index: usize, line: &Line, rounds: usize) -> Timed<'_> {
-        let mut times = PLACES.map(|place| run(place, index, rounds));
-        times.sort_by(|a, b| a.ratio().total_cmp(&b.ratio()));
-        Timed { index, line, times }
+    fn new(index: usize, line: &Line) -> Timed<'_> {
+        let runs = [const { Vec::new() }; 4];
+        Timed { index, line, runs }
+    }
+
+    /// Times the line once more at every place.
+    fn run(&mut self) {
+        for (runs, place) in self.runs.iter_mut().zip(PLACES) {
+            runs.push(times_at(place, self.index));
+        }
+    }
+
+    /// The times of the four places by rising ratio, each of its quietest run: the one in which
+    /// both sides together took least.
+    fn times(&self) -> Vec<Times> {
+        let both = |times: &&Times| times.rust + times.ours;
+        let quietest = |runs: &Vec<Times>| {
+            *runs
+                .iter()
+                .min_by(|a, b| both(a).total_cmp(&both(b)))
+                .expect("a run")
+        };
+        let mut places: Vec<Times> = self.runs.iter().map(quietest).collect();
+        places.sort_by(|a, b| a.ratio().total_cmp(&b.ratio()));
+        places
     }
 
     /// Whether the times come to this part of the goal at every place.
@@ -63,12 +90,15 @@ impl Timed<'_> {
     }
 
     fn lowest(&self) -> f64 {
-        self.times[0].ratio()
+        self.times()[0].ratio()
     }
 
     /// The most that a session takes of our whole call's time.
     fn of_whole(&self) -> f64 {
-        let parts = self.times.iter().map(|times| times.ours / times.beside);
+        let parts = self
+            .times()
+            .into_iter()
+            .map(|times| times.ours / times.beside);
         parts.fold(0.0, f64::max)
     }
 
@@ -80,8 +110,8 @@ impl Timed<'_> {
             goal,
             ..
         } = self.line;
-        let Times { rust, ours, beside } = self.times[0];
-        let (low, high) = (short(self.lowest()), short(self.times[3].ratio()));
+        let Times { rust, ours, beside } = self.times()[0];
+        let (low, high) = (digits(self.lowest()), digits(self.times()[3].ratio()));
         let least = goal
             .least
             .map_or(String::new(), |least| format!("{least:.1}"));
@@ -98,35 +128,31 @@ impl Timed<'_> {
         }
     }
 
-    /// The line as the last one names it.
-    fn short(&self) -> String {
+    /// The line with its ratio, and with its part of our whole call's time where that misses.
+    fn name(&self) -> String {
         let Line { call, card, of, .. } = self.line;
-        let ratio = short(self.lowest());
+        let name = format!("{call} {card} {of} {}", digits(self.lowest()));
         match self.line.goal.most {
-            Some(most) if self.of_whole() > most => format!(
-                "{call} {card} {of} {ratio}, {:.2} of whole",
-                self.of_whole()
-            ),
-            _ => format!("; {call} {card} {of} {ratio}"),
+            Some(most) if self.of_whole() > most => {
+                format!("{name}, {:.2} of whole", self.of_whole())
+            }
+            _ => name,
         }
     }
 }
 
 /// A ratio in at most six characters.
-fn short(ratio: f64) -> String {
-    if ratio < 1000.0 {
-        format!("{ratio:.2}")
-    } else {
-        format!("{ratio:.0}")
-    }
+fn digits(ratio: f64) -> String {
+    let places = if ratio < 1000.0 { 2 } else { 0 };
+    format!("{ratio:.places$}")
 }
 
 /// Asks the program of this place, which stands beside this one.
-fn run(place: usize, index: usize, rounds: usize) -> Times {
+fn times_at(place: usize, index: usize) -> Times {
     let program = std::env::current_exe()
         .expect("a path")
         .with_file_name(format!("bench-{place}"));
-    let words = ["time".to_string(), index.to_string(), rounds.to_string()];
+    let words = ["time".to_string(), index.to_string(), ROUNDS.to_string()];
     let ended = Command::new(&program)
         .args(words)
         .output()
