@@ -31,9 +31,8 @@ const LARGE: [Card; 6] = [
     Card::new(16384, 16),
     Card::new(16, 16384),
 ];
-/// Widths of high cards.
 const NARROW: [u32; 15] = [1, 2, 3, 7, 8, 9, 15, 16, 17, 23, 24, 25, 31, 32, 33];
-/// Cards of several frames.
+/// Cards of which there are several frames.
 const SERIES: [Card; 4] = [
     Card::new(96, 65),
     Card::new(101, 80),
@@ -45,27 +44,27 @@ pub fn sizes() -> impl Iterator<Item = Card> {
     [&TINY[..], &SCREENS, &LARGE].concat().into_iter()
 }
 
+/// Narrow cards of 4,096 rows.
 pub fn high() -> impl Iterator<Item = Card> {
     NARROW.into_iter().map(|width| Card::new(width, 4096))
 }
 
+/// Narrow cards of 256 rows, of every width.
 pub fn low() -> impl Iterator<Item = Card> {
     (1..=33).map(|width| Card::new(width, 256))
 }
 
-/// The Rust and ours read 16 frames where there are more.
+/// Around the most frames that are read, which is 16.
 pub fn all_frames() -> impl Iterator<Item = Card> {
     SERIES
         .into_iter()
         .flat_map(|card| [15, 16, 17].map(|frames| card.of(frames)))
 }
 
-/// Files that are made and written: of one frame and of 16, and large ones of one.
+/// Files that are made and written: of one frame and of 16.
 pub fn files() -> impl Iterator<Item = Card> {
-    let cards = [Card::new(8, 8), Card::new(16, 16)]
-        .into_iter()
-        .chain(SERIES);
-    cards.flat_map(|card| [card, card.of(16)]).chain(LONG)
+    let several = TINY[4..].iter().chain(&SERIES).map(|card| card.of(16));
+    sizes().chain(several)
 }
 
 /// What sessions make and read.

@@ -25,19 +25,19 @@ pub fn print(name: &str) {
     let mut asked: Vec<(usize, &Line)> = lines.iter().enumerate().collect();
     asked.retain(|(_, line)| line.call.starts_with(name.trim_end_matches('s')));
     for &(index, line) in &asked {
-        let mut timed = Timed::new(index, line);
-        timed.run();
+        let timed = Timed::new(index, line);
         timed.print();
         missing.extend((!timed.meets(1.0)).then_some(timed));
     }
     println!("again:");
+    let close = |timed: &Timed| timed.meets(CLOSE);
+    let (mut again, far): (Vec<Timed>, Vec<Timed>) = missing.into_iter().partition(close);
     for _ in 0..AGAIN {
-        let close = missing.iter_mut().filter(|timed| timed.meets(CLOSE));
-        close.for_each(Timed::run);
+        again.iter_mut().for_each(Timed::again);
     }
-    let again = missing.iter().filter(|timed| timed.runs[0].len() > 1);
-    again.for_each(Timed::print);
-    missing.retain(|timed| !timed.meets(1.0));
+    again.iter().for_each(Timed::print);
+    again.retain(|timed| !timed.meets(1.0));
+    let missing = [far, again].concat();
     let (all, missed) = (asked.len(), missing.len());
     let names = missing.iter().map(|timed| format!("; {}", timed.name()));
     println!(
@@ -46,39 +46,37 @@ pub fn print(name: &str) {
     );
 }
 
-/// A line of the list and the times of its runs at each of the four places.
+/// A line of the list and its times at the four places.
+#[derive(Clone)]
 struct Timed<'a> {
     index: usize,
     line: &'a Line,
-    runs: [Vec<Times>; 4],
+    times: [Times; 4],
 }
 
 impl Timed<'_> {
     fn new(index: usize, line: &Line) -> Timed<'_> {
-        let runs = [const { Vec::new() }; 4];
-        Timed { index, line, runs }
+        let times = PLACES.map(|place| times_at(place, index));
+        Timed { index, line, times }
     }
 
-    /// Times the line once more at every place.
-    fn run(&mut self) {
-        for (runs, place) in self.runs.iter_mut().zip(PLACES) {
-            runs.push(times_at(place, self.index));
+    /// Times the line once more; at each place the quieter run stays, in which both sides together
+    /// took less.
+    fn again(&mut self) {
+        let both = |times: &Times| times.rust + times.ours;
+        for (times, place) in self.times.iter_mut().zip(PLACES) {
+            let other = times_at(place, self.index);
+            if both(&other) < both(times) {
+                *times = other;
+            }
         }
     }
 
-    /// The times of the four places by rising ratio, each of its quietest run: the one in which
-    /// both sides together took least.
-    fn times(&self) -> Vec<Times> {
-        let both = |times: &&Times| times.rust + times.ours;
-        let quietest = |runs: &Vec<Times>| {
-            *runs
-                .iter()
-                .min_by(|a, b| both(a).total_cmp(&both(b)))
-                .expect("a run")
-        };
-        let mut places: Vec<Times> = self.runs.iter().map(quietest).collect();
-        places.sort_by(|a, b| a.ratio().total_cmp(&b.ratio()));
-        places
+    /// The times with the lowest ratio, and the highest ratio.
+    fn range(&self) -> (Times, f64) {
+        let mut ordered = self.times;
+        ordered.sort_by(|a, b| a.ratio().total_cmp(&b.ratio()));
+        (ordered[0], ordered[3].ratio())
     }
 
     /// Whether the times come to this part of the goal at every place.
@@ -90,15 +88,12 @@ impl Timed<'_> {
     }
 
     fn lowest(&self) -> f64 {
-        self.times()[0].ratio()
+        self.range().0.ratio()
     }
 
     /// The most that a session takes of our whole call's time.
     fn of_whole(&self) -> f64 {
-        let parts = self
-            .times()
-            .into_iter()
-            .map(|times| times.ours / times.beside);
+        let parts = self.times.iter().map(|times| times.ours / times.beside);
         parts.fold(0.0, f64::max)
     }
 
@@ -110,8 +105,8 @@ impl Timed<'_> {
             goal,
             ..
         } = self.line;
-        let Times { rust, ours, beside } = self.times()[0];
-        let (low, high) = (digits(self.lowest()), digits(self.times()[3].ratio()));
+        let (Times { rust, ours, beside }, high) = self.range();
+        let (low, high) = (digits(rust / ours), digits(high));
         let least = goal
             .least
             .map_or(String::new(), |least| format!("{least:.1}"));
