@@ -1,7 +1,7 @@
 //! The functions of include/wbmp.h over slices, for the tools that compare and time them.
 
 /// What `wbmp_info` lends its numbers to.
-#[derive(Clone, Copy, Debug, PartialEq, Eq)]
+#[derive(Clone, Copy, Debug, Default, PartialEq, Eq)]
 pub struct Info {
     pub width: u32,
     pub height: u32,
@@ -15,7 +15,7 @@ pub struct Info {
 }
 
 /// What `wbmp_read` lends its numbers to.
-#[derive(Clone, Copy, Debug, PartialEq, Eq)]
+#[derive(Clone, Copy, Debug, Default, PartialEq, Eq)]
 pub struct Image {
     pub width: u32,
     pub height: u32,

@@ -1,5 +1,7 @@
-//! Threshold and dithering, sessions and whole making of this codec over slices, by the functions
-//! of crates/bench.
+//! Threshold and dithering, sessions, whole making and writing of this codec over slices, by the
+//! functions of crates/bench.
+
+use crate::pictures::Card;
 
 /// The number of a refusal, 0 where there is none.
 pub fn threshold(width: u32, height: u32, gray: &[u8], threshold: u8, out: &mut [u8]) -> u8 {
@@ -54,15 +56,14 @@ pub fn read_list(
     }
 }
 
-/// What is made: of this size, dithered or by threshold 128.
+/// What is made, dithered or by threshold 128.
 #[derive(Clone, Copy)]
 pub struct Making {
-    pub width: u32,
-    pub height: u32,
+    pub card: Card,
     pub dithered: bool,
 }
 
-/// Makes the body of a file by the calls of a list on a session: how many were made.
+/// Makes the planes of a file by the calls of a list on a session: how many were made.
 pub fn make_list(
     making: Making,
     calls: &[usize],
@@ -75,8 +76,8 @@ pub fn make_list(
     // SAFETY: the pointers and lengths are those of slices, which do not overlap.
     unsafe {
         bench_make_list(
-            making.width,
-            making.height,
+            making.card.width,
+            making.card.height,
             making.dithered,
             calls.as_ptr(),
             calls.len(),
@@ -98,13 +99,34 @@ pub fn make(making: Making, gray: &[u8], work: &mut [i16], out: &mut [u8]) -> u8
     // SAFETY: the pointers and lengths are those of slices, which do not overlap.
     unsafe {
         bench_make(
-            making.width,
-            making.height,
+            making.card.width,
+            making.card.height,
+            making.card.frames as usize,
             from,
             gray.len(),
             making.dithered,
             kept,
             work.len(),
+            to,
+            out.len(),
+        )
+    }
+}
+
+/// Writes a whole file of planes: the number of a refusal, 0 where there is none.
+pub fn write(card: Card, planes: &[u8], inverted: bool, out: &mut [u8]) -> u8 {
+    let (from, to) = (planes.as_ptr(), out.as_mut_ptr());
+    let (count, stride) = (card.frames as usize, card.row());
+    // SAFETY: the pointers and lengths are those of slices, which do not overlap.
+    unsafe {
+        bench_write(
+            card.width,
+            card.height,
+            count,
+            from,
+            planes.len(),
+            stride,
+            inverted,
             to,
             out.len(),
         )
@@ -140,9 +162,21 @@ unsafe extern "C" {
         answers: *mut usize,
         answers_len: usize,
     ) -> usize;
+    fn bench_write(
+        width: u32,
+        height: u32,
+        count: usize,
+        planes: *const u8,
+        planes_len: usize,
+        stride: usize,
+        inverted: bool,
+        out: *mut u8,
+        out_len: usize,
+    ) -> u8;
     fn bench_make(
         width: u32,
         height: u32,
+        count: usize,
         gray: *const u8,
         gray_len: usize,
         dithered: bool,

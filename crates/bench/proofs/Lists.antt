@@ -10,7 +10,7 @@ use lib.ListN.{length}
 use borrow.Author.Tests.{le-leb}
 use Rattle.error.specs.Choice.{if}
 use Rattle.error.specs.Answer.{Answer, gives, refuses, written}
-use Rattle.error.specs.Emits.{emitted}
+use Rattle.error.specs.Emits.{Emits, emitted}
 use Rattle.laws.proofs.Tests.{if-true, if-false, zero-one}
 use Rattle.ext_write.specs.Write.{fieldsBytes}
 use Rattle.header.specs.Write.{headerBytes}
@@ -23,6 +23,7 @@ use Rattle.options.specs.declared.DecodeOptions.{DecodeOptions}
 use Rattle.options.specs.declared.EncodeOptions.{EncodeOptions}
 use Rattle.options.specs.declared.Quantize.{Quantize}
 use Rattle.encoder.specs.Make.{Makes}
+use Rattle.encoder.specs.Write.{fileOfPlanes}
 use Rattle.encode_session.specs.Model as Making
 use Rattle.encode_session.specs.Session as MakingSession
 use Rattle.encode_session.specs.declared.EncodeOpened.{EncodeOpened}
@@ -34,8 +35,9 @@ use Rattle.replay.specs.Encode as Encode
 use Rattle.replay.specs.Decode as Decode
 use Rattle.replay.specs.declared.EncodeReplayed.{EncodeReplayed}
 use Rattle.replay.specs.declared.DecodeReplayed.{DecodeReplayed}
-use Rattle.bench.specs.Made.{codeOf}
-use Rattle.bench.specs.Lists.{formatOf, asked, rule, ruleOf, ReadsList, startedBy, makingFrom, MakesList, MadeWhole}
+use Rattle.bench.specs.Made.{codeOf, Made}
+use Rattle.bench.specs.Lists.{formatOf, asked, rule, ruleOf, planesFile, ReadsList, startedBy, makingFrom, MakesList, MadeWhole}
+use Rattle.bench.proofs.Makes.{made}
 
 -- ---- settings
 
@@ -122,10 +124,19 @@ makes-list w h dithered numbers gray work out answers s o old new last work′ o
       };
     }
 
--- ---- whole making
+-- ---- whole making and writing
 
-pub made-whole : (w h : ℕ) (dithered : Bool) (gray out : List ℕ) (work : List ℤ) (s : EncodeOptions) (x : Answer ℕ) (r : ℕ) (out′ : List ℕ)
-    (work′ : List ℤ) → s ≡ rule dithered → Makes 16 s w h 1 gray [] [] out work x out′ work′ → r ≡ codeOf x
-    → MadeWhole w h dithered gray out work r out′ work′
-made-whole w h dithered gray out work s x r out′ work′ e p q =
-    record { told = x; code = q; makes = subst (λ (t : EncodeOptions). Makes 16 t w h 1 gray [] [] out work x out′ work′) e p }
+pub made-whole : (w h count : ℕ) (dithered : Bool) (gray out : List ℕ) (work : List ℤ) (s : EncodeOptions) (x : Answer ℕ) (r : ℕ) (out′ : List ℕ)
+    (work′ : List ℤ) → s ≡ rule dithered → Makes 16 s w h count gray [] [] out work x out′ work′ → r ≡ codeOf x
+    → MadeWhole w h count dithered gray out work r out′ work′
+made-whole w h count dithered gray out work s x r out′ work′ e p q =
+    record { told = x; code = q; makes = subst (λ (t : EncodeOptions). Makes 16 t w h count gray [] [] out work x out′ work′) e p }
+
+pub written-whole : (w h count stride : ℕ) (inverted : Bool) (planes : List ℕ) (s : EncodeOptions) (f : PixelFormat) (x : Answer ℕ) (r : ℕ)
+    (out out′ : List ℕ) → s ≡ rule false → f ≡ formatOf inverted → Emits (fileOfPlanes 16 s f w h count stride planes [] []) x out out′
+    → r ≡ codeOf x
+    → Made (planesFile inverted w h count stride planes) r out out′
+written-whole w h count stride inverted planes s f x r out out′ e g p q =
+    let a = subst (λ (t : EncodeOptions). Emits (fileOfPlanes 16 t f w h count stride planes [] []) x out out′) e p in
+    let b = subst (λ (y : PixelFormat). Emits (fileOfPlanes 16 (rule false) y w h count stride planes [] []) x out out′) g a in
+    made _ x r out out′ b q

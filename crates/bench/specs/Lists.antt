@@ -1,4 +1,4 @@
--- What the timed lists of calls, and whole making, promise.
+-- What the timed lists of calls, and whole making and writing, promise.
 use Prim.Native.Nat.{ℕ}
 use mathlib.Core.Path.{_≡_}
 use mathlib.Core.Bool.{Bool, true, false}
@@ -18,6 +18,7 @@ use Rattle.options.specs.declared.Quantize.{Quantize}
 use Rattle.options.specs.declared.Quantize.the-variants.{Threshold, Dither}
 use Rattle.quantize.specs.Internal.Turn.{stateOf}
 use Rattle.encoder.specs.Make.{Makes}
+use Rattle.encoder.specs.Write.{fileOfPlanes}
 use Rattle.encode_session.specs.Model as Making
 use Rattle.encode_session.specs.declared.EncodeSession.{EncodeSession}
 use Rattle.decode_session.specs.Model as Reading
@@ -89,10 +90,14 @@ pub record MakesList (width height : ℕ) (dithered : Bool) (numbers gray : List
   pub does : let cs = named numbers (length gray) (length out) (length work) (length answers) in
       MakesBy (makingFrom width height dithered (length work)) (Encode.callsOf cs gray out) work out answers r work′ out′ answers′
 
--- ---- whole making of one scan
+-- ---- whole making and writing, without fields
 
-pub record MadeWhole (width height : ℕ) (dithered : Bool) (gray out : List ℕ) (work : List ℤ) (r : ℕ) (out′ : List ℕ)
+pub record MadeWhole (width height count : ℕ) (dithered : Bool) (gray out : List ℕ) (work : List ℤ) (r : ℕ) (out′ : List ℕ)
     (work′ : List ℤ) : Type 0 where
   pub told : Answer ℕ
   pub code : r ≡ codeOf told
-  pub makes : Makes madeFrames (rule dithered) width height 1 gray [] [] out work told out′ work′
+  pub makes : Makes madeFrames (rule dithered) width height count gray [] [] out work told out′ work′
+
+abbrev pub planesFile : Bool → ℕ → ℕ → ℕ → ℕ → List ℕ → Answer (List ℕ)
+planesFile inverted width height count stride planes =
+    fileOfPlanes madeFrames (rule false) (formatOf inverted) width height count stride planes [] []

@@ -1,4 +1,5 @@
-// Threshold and dithering, sessions and whole making under C names, for tools/bench, which times them. They are no part of include/wbmp.h.
+// Threshold and dithering, sessions, whole making and writing under C names, for tools/bench, which times them. They are no part of
+// include/wbmp.h.
 use error::Written;
 ghost use mathlib.Core.Path.{_≡_};
 ghost use Rattle.error.specs.Answer.{written};

@@ -1,4 +1,5 @@
-// Lists of calls on sessions, and whole making, under C names. The lists are those of crate replay: five numbers a call, three an answer.
+// Lists of calls on sessions, and whole making and writing, under C names. The lists are those of crate replay: five numbers a call, three
+// an answer.
 use crate::number;
 use decode_session::DecodeSession;
 use encode_session::EncodeSession;
@@ -8,7 +9,8 @@ use options::EncodeOptions;
 use options::Quantize;
 ghost use mathlib.Core.Path.{_≡_};
 ghost use Rattle.options.specs.Limits.{decoding};
-ghost use Rattle.bench.specs.Lists.{formatOf, ruleOf, asked, rule, ReadsList, MakesList, MadeWhole};
+ghost use Rattle.bench.specs.Made.{Made};
+ghost use Rattle.bench.specs.Lists.{formatOf, ruleOf, asked, rule, planesFile, ReadsList, MakesList, MadeWhole};
 
 fn format_of(inverted: bool) -> PixelFormat
     ensures { λ r. ⌜ r ≡ formatOf inverted ⌝ }
@@ -95,20 +97,61 @@ pub extern "C" fn bench_make_list(
     last.calls
 }
 
-// Makes a file of one scan whole, and gives the number of a refusal, 0 where there is none.
+// Makes a file of so many scans whole, and gives the number of a refusal, 0 where there is none.
 #[no_mangle]
 pub extern "C" fn bench_make(
     width: u32,
     height: u32,
+    count: usize,
     gray: &[u8],
     dithered: bool,
     work: &mut [i16],
     out: &mut [u8],
 ) -> u8
-    ensures { λ r. ⌜ MadeWhole width height dithered (now (gray .entry)) (now (out .entry)) (now (work .entry))
+    ensures { λ r. ⌜ MadeWhole width height count dithered (now (gray .entry)) (now (out .entry)) (now (work .entry))
         r (now (out .exit)) (now (work .exit)) ⌝ }
 {
     let options = making(dithered);
     let lengths = [0usize; 0];
-    number(encoder::encode_gray8_lengths(width, height, 1, gray, options, b"", &lengths, work, out))
+    number(encoder::encode_gray8_lengths(
+        width,
+        height,
+        count,
+        gray,
+        options,
+        b"",
+        &lengths,
+        work,
+        out,
+    ))
+}
+
+// Writes a file of so many planes without fields, and gives the number of a refusal, 0 where there is none.
+#[no_mangle]
+pub extern "C" fn bench_write(
+    width: u32,
+    height: u32,
+    count: usize,
+    planes: &[u8],
+    stride: usize,
+    inverted: bool,
+    out: &mut [u8],
+) -> u8
+    ensures { λ r. ⌜ Made (planesFile inverted width height count stride (now (planes .entry))) r (now (out .entry)) (now (out .exit)) ⌝ }
+{
+    let options = making(false);
+    let format = format_of(inverted);
+    let lengths = [0usize; 0];
+    number(encoder::encode_images_lengths(
+        width,
+        height,
+        count,
+        planes,
+        stride,
+        format,
+        options,
+        b"",
+        &lengths,
+        out,
+    ))
 }
