@@ -184,20 +184,37 @@ fn writes() -> Vec<Line> {
 
 const PIECES: [usize; 3] = [256, 4096, 65536];
 
-/// A session over so many bytes or samples, in pieces. In pieces of 4,096 or more it has to be as
-/// fast as the Rust's whole call, and in pieces of 4,096 to take at most so much of our whole call's
-/// time.
+const NONE: Goal = Goal {
+    least: None,
+    most: None,
+};
+
+/// A goal beside our whole call, which reads by the same code.
+fn at_most(part: f64) -> Goal {
+    Goal {
+        most: Some(part),
+        ..NONE
+    }
+}
+
+/// A goal beside the Rust's whole call: ours writes planes at once, a session by the engine.
+fn at_least(ratio: f64) -> Goal {
+    Goal {
+        least: Some(ratio),
+        ..NONE
+    }
+}
+
+/// A session over so many bytes or samples, in pieces; those of 4,096 or more have a goal. The Rust
+/// has no sessions: its whole call stands beside them.
 fn pieces<T: Fn(usize) -> Times + 'static>(
     (call, card, len): (&'static str, Card, usize),
     pieces: &[usize],
-    most: f64,
+    goal: Goal,
     time: impl Fn(usize) -> T,
 ) -> Vec<Line> {
     let lines = pieces.iter().map(|&piece| {
-        let goal = Goal {
-            least: (piece >= 4096).then_some(1.0),
-            most: (piece == 4096).then_some(most),
-        };
+        let goal = if piece < 4096 { NONE } else { goal };
         let beside = Beside::Whole(len.div_ceil(piece));
         let line = Line::new(call, card, &format!("by {piece}"), 1.0, time(piece));
         Line {
@@ -216,7 +233,7 @@ fn read_sessions() -> Vec<Line> {
     for (card, sizes) in [(LONG[0], &PIECES[..]), (LONG[1], &PIECES), small] {
         for (call, format) in [("session native", 0), ("session inverted", 1)] {
             let len = card.header().len() + card.plane();
-            lines.extend(pieces((call, card, len), sizes, 1.1, |piece| {
+            lines.extend(pieces((call, card, len), sizes, at_most(1.1), |piece| {
                 move |rounds| sessions::read(&card.file(Picture::Gradient), format, piece, rounds)
             }));
         }
@@ -232,7 +249,7 @@ fn field_sessions() -> Vec<Line> {
     ];
     let lines = files.into_iter().flat_map(|(call, file)| {
         let subject = (call, Card::new(8, 1), file.len());
-        pieces(subject, &PIECES, 3.0, |piece| {
+        pieces(subject, &PIECES, at_most(3.0), |piece| {
             let file = file.clone();
             move |rounds| sessions::read(&file, 0, piece, rounds)
         })
@@ -243,12 +260,19 @@ fn field_sessions() -> Vec<Line> {
 fn make_sessions() -> Vec<Line> {
     let mut lines = Vec::new();
     for card in LONG {
-        for (call, dithered) in [("session threshold", false), ("session dithered", true)] {
+        let rules = [
+            ("session threshold", false, threshold_goal(card)),
+            ("session dithered", true, 2.0),
+        ];
+        for (call, dithered, ratio) in rules {
             let samples = (card.width * card.height) as usize;
             let making = Making { card, dithered };
-            lines.extend(pieces((call, card, samples), &PIECES, 1.1, |piece| {
-                move |rounds| sessions::make(making, piece, rounds)
-            }));
+            lines.extend(pieces(
+                (call, card, samples),
+                &PIECES,
+                at_least(ratio),
+                |piece| move |rounds| sessions::make(making, piece, rounds),
+            ));
         }
     }
     lines
