@@ -22,3 +22,5 @@ pub mod RuleAsked
 pub mod UptoOverlaid
 pub mod PlaneBytes
 pub mod PlaneWritten
+pub mod WordPlain
+pub mod PlainRowWritten

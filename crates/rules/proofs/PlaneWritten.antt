@@ -43,7 +43,7 @@ module _ (t : ℕ) (gray : List ℕ) where
 
   -- ---- rows of one sample and of two, i of them
 
-  pub ones-byte : (i r : ℕ) → r ≡ dots i → r * 128 ≡ byteAt 1 dots i
+  pub ones-byte : (i r : ℕ) → r ≡ dots i * 128 → r ≡ byteAt 1 dots i
   unfolding appended
   ones-byte i r e =
       let a : i * 1 + 0 ≡ i = omega arith in
@@ -52,7 +52,7 @@ module _ (t : ℕ) (gray : List ℕ) where
       let q : byteAt 1 dots i ≡ (0 + dots i) * 128 = rw (a, b) at p in
       omega arith
 
-  pub pairs-byte : (i r s : ℕ) → r ≡ dots (2 * i) → s ≡ dots (2 * i + 1) → r * 128 + s * 64 ≡ byteAt 2 dots i
+  pub pairs-byte : (i r s : ℕ) → r ≡ dots (2 * i) * 128 → s ≡ dots (2 * i + 1) * 64 → r + s ≡ byteAt 2 dots i
   unfolding appended
   pairs-byte i r s e f =
       let a : i * 1 + 0 ≡ i = omega arith in

@@ -3,7 +3,7 @@ use Prim.Native.Nat.{ℕ, _+_, _-_, _*_, _%_, _/_, _^_, _≤_}
 use mathlib.Core.Path.{_≡_}
 use mathlib.Core.Bool.{Bool, true, _&&_}
 use mathlib.Core.List.{List, _++_}
-use lib.Dec.{leb}
+use lib.Dec.{leb, ltb}
 use lib.ListN.{length, getD, drop}
 use Rattle.error.specs.Choice.{if}
 use Rattle.image.specs.Geometry.{rowBytes}
@@ -42,9 +42,14 @@ scanOf w gray x y = getD gray (y * w + x) 0
 abbrev pub ditherBit : ℕ → List ℕ → ℕ → ℕ
 ditherBit w gray n = bit (white (valueAt rightwards w (scanOf w gray) (n % w) (n / w)))
 
--- r says that the first w samples are black and white alone: then their row is written, white where a sample is white
+-- sample c of a row of w, and 0 behind its last
+abbrev pub rowSample : ℕ → List ℕ → ℕ → ℕ
+rowSample w gray c = if (ltb c w) (getD gray c 0) 0
+
+-- r says whether there are w samples, with room for their row, and they are black and white alone: then the row is written, white where a sample is white
 pub record PlainRow (w : ℕ) (gray out : List ℕ) (r : Bool) (out′ : List ℕ) : Type 0 where
   pub beyond : drop (rowBytes w) out′ ≡ drop (rowBytes w) out
   pub there : r ≡ true → (w ≤ length gray) × (rowBytes w ≤ length out)
   pub plain : r ≡ true → Plain gray 0 w
+  pub all : w ≤ length gray → rowBytes w ≤ length out → Plain gray 0 w → r ≡ true
   pub written : r ≡ true → out′ ≡ plane w 1 (thresholdBit 128 gray) ++ drop (rowBytes w) out

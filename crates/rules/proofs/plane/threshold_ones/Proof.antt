@@ -12,9 +12,6 @@ use Rattle.rules.proofs.UptoOverlaid.{overlaid, overlaid-none, overlaid
 use Rattle.rules.proofs.PlaneWritten.{ones-byte}
 use Rattle.rules.proofs.plane.threshold_ones.Statement.{statement}
 use Rattle.rules.proofs.plane.threshold_ones.Tie as tie
-use Rattle.rules.proofs.plane.threshold_ones.Reads as reads
-use Rattle.rules.proofs.plane.threshold_ones.Lts as lts
-use Rattle.rules.proofs.threshold.dot.Reads as dot-reads
 
 abbrev Inv-loop : tie.InvT-loop
 Inv-loop bound height gray out₀ i₀ out i = (i ≤ height) × (out ≡ overlaid i (byteAt 1 (thresholdBit bound gray)) out₀)
@@ -34,14 +31,8 @@ long l =
 loop-holds : tie.Need-loop-holds Inv-loop μ-loop
 loop-holds c = let a = c .before .before .args in (omega arith, overlaid-none (byteAt 1 (thresholdBit (a .bound) (now (a .gray)))) (now (a .out)))
 
-dot-requires : tie.Need-dot-requires Inv-loop μ-loop
-dot-requires c κs = omega arith
-
-mul-out : tie.Need-mul-out Inv-loop μ-loop
-mul-out c = omega (arith, c .dot .ensures .1)
-
-cast-out : tie.Need-cast-out Inv-loop μ-loop
-cast-out c = omega (arith, c .dot .ensures .1)
+dot-bit-requires : tie.Need-dot-bit-requires Inv-loop μ-loop
+dot-bit-requires c κs = omega arith
 
 slice-write-out : tie.Need-slice-write-out Inv-loop μ-loop
 slice-write-out c = let l = c .before .before in omega (arith, long l, l .before .before .before .pre .1)
@@ -58,8 +49,9 @@ loop-again c =
     let s = l .before .before .before in
     let i = l .loop .i in (
       omega arith,
-      ap (λ (o : List ℕ). set o i (c .dot .result * 128)) (l .loop .inv .1)
-          ∙ overlaid-next (bytes l) (now (s .args .out)) i (c .dot .result * 128) (omega (arith, s .pre .1)) (ones-byte (s .args .bound) (now (s .args .gray)) i (c .dot .result) (c .dot .ensures .0)),
+      ap (λ (o : List ℕ). set o i (c .dot-bit .result)) (l .loop .inv .1)
+          ∙ overlaid-next (bytes l) (now (s .args .out)) i (c .dot-bit .result) (omega (arith, s .pre .1))
+          (ones-byte (s .args .bound) (now (s .args .gray)) i (c .dot-bit .result) (c .dot-bit .ensures)),
     )
 
 same-length : tie.Need-same-length Inv-loop μ-loop
@@ -79,9 +71,7 @@ threshold-ones-spec =
     Inv-loop
     μ-loop
     loop-holds
-    dot-requires
-    mul-out
-    cast-out
+    dot-bit-requires
     slice-write-out
     add-i
     loop-less

@@ -5,16 +5,15 @@ use mathlib.Core.Path.{_≡_, ap, _∙_}
 use mathlib.Core.List.{List}
 use native.Mathlib.Omega.{arith}
 use denote.Ref.{now}
-use lib.ListN.{length, set}
+use lib.Dec.{leb}
+use lib.ListN.{length, getD, set}
 use Rattle.rules.specs.Packed.{byteAt}
 use Rattle.rules.specs.Internal.Kernels.{thresholdBit}
+use Rattle.rules.proofs.DigitsAppended.{bit-le}
 use Rattle.rules.proofs.UptoOverlaid.{overlaid, overlaid-none, overlaid-length, overlaid-next}
 use Rattle.rules.proofs.PlaneWritten.{pairs-byte}
 use Rattle.rules.proofs.plane.threshold_pairs.Statement.{statement}
 use Rattle.rules.proofs.plane.threshold_pairs.Tie as tie
-use Rattle.rules.proofs.plane.threshold_pairs.Reads as reads
-use Rattle.rules.proofs.plane.threshold_pairs.Lts as lts
-use Rattle.rules.proofs.threshold.dot.Reads as dot-reads
 
 abbrev Inv-loop : tie.InvT-loop
 Inv-loop bound height gray out₀ i₀ out i = (i ≤ height) × (out ≡ overlaid i (byteAt 2 (thresholdBit bound gray)) out₀)
@@ -34,32 +33,26 @@ long l =
 loop-holds : tie.Need-loop-holds Inv-loop μ-loop
 loop-holds c = let a = c .before .before .args in (omega arith, overlaid-none (byteAt 2 (thresholdBit (a .bound) (now (a .gray)))) (now (a .out)))
 
-mul-dot : tie.Need-mul-dot Inv-loop μ-loop
-mul-dot c = omega arith
+mul-dot-bit : tie.Need-mul-dot-bit Inv-loop μ-loop
+mul-dot-bit c = omega arith
 
-dot-requires : tie.Need-dot-requires Inv-loop μ-loop
-dot-requires c κs = omega arith
+dot-bit-requires : tie.Need-dot-bit-requires Inv-loop μ-loop
+dot-bit-requires c κs = omega arith
 
-mul-first : tie.Need-mul-first Inv-loop μ-loop
-mul-first c = omega (arith, c .dot .ensures .1)
+mul-dot-bit-2 : tie.Need-mul-dot-bit-2 Inv-loop μ-loop
+mul-dot-bit-2 c = omega arith
 
-mul-dot-2 : tie.Need-mul-dot-2 Inv-loop μ-loop
-mul-dot-2 c = omega arith
+add-dot-bit : tie.Need-add-dot-bit Inv-loop μ-loop
+add-dot-bit c = omega arith
 
-add-dot : tie.Need-add-dot Inv-loop μ-loop
-add-dot c = omega arith
-
-dot-requires-2 : tie.Need-dot-requires-2 Inv-loop μ-loop
-dot-requires-2 c κs = omega arith
-
-mul-second : tie.Need-mul-second Inv-loop μ-loop
-mul-second c = omega (arith, c .dot2 .ensures .1)
+dot-bit-requires-2 : tie.Need-dot-bit-requires-2 Inv-loop μ-loop
+dot-bit-requires-2 c κs = omega arith
 
 add-out : tie.Need-add-out Inv-loop μ-loop
-add-out c = omega (arith, c .before .dot .ensures .1, c .dot2 .ensures .1)
-
-cast-out : tie.Need-cast-out Inv-loop μ-loop
-cast-out c = omega (arith, c .before .dot .ensures .1, c .dot2 .ensures .1)
+add-out c =
+    let a = c .before .before .before .before .before .before .args in
+    let i = c .before .before .before .loop .i in
+    omega (arith, c .before .dot-bit .ensures, c .dot-bit2 .ensures, bit-le (leb (a .bound) (getD (now (a .gray)) (2 * i) 0)), bit-le (leb (a .bound) (getD (now (a .gray)) (2 * i + 1) 0)))
 
 slice-write-out : tie.Need-slice-write-out Inv-loop μ-loop
 slice-write-out c = let l = c .before .before .before in omega (arith, long l, l .before .before .before .pre .1)
@@ -75,11 +68,11 @@ loop-again c =
     let l = c .before .before .before in
     let s = l .before .before .before in
     let i = l .loop .i in
-    let v = c .before .dot .result * 128 + c .dot2 .result * 64 in (
+    let v = c .before .dot-bit .result + c .dot-bit2 .result in (
       omega arith,
       ap (λ (o : List ℕ). set o i v) (l .loop .inv .1)
           ∙ overlaid-next (bytes l) (now (s .args .out)) i v (omega (arith, s .pre .1))
-          (pairs-byte (s .args .bound) (now (s .args .gray)) i (c .before .dot .result) (c .dot2 .result) (c .before .dot .ensures .0) (c .dot2 .ensures .0)),
+          (pairs-byte (s .args .bound) (now (s .args .gray)) i (c .before .dot-bit .result) (c .dot-bit2 .result) (c .before .dot-bit .ensures) (c .dot-bit2 .ensures)),
     )
 
 same-length : tie.Need-same-length Inv-loop μ-loop
@@ -99,15 +92,12 @@ threshold-pairs-spec =
     Inv-loop
     μ-loop
     loop-holds
-    mul-dot
-    dot-requires
-    mul-first
-    mul-dot-2
-    add-dot
-    dot-requires-2
-    mul-second
+    mul-dot-bit
+    dot-bit-requires
+    mul-dot-bit-2
+    add-dot-bit
+    dot-bit-requires-2
     add-out
-    cast-out
     slice-write-out
     add-i
     loop-less

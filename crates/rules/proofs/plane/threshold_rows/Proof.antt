@@ -1,7 +1,7 @@
 -- `rules::plane::threshold_rows` meets its contract: a row more with each turn of both loops.
 -- Assumes nothing.
 use Prim.Native.Nat.{ℕ, _+_, _-_, _*_, _/_, _%_, _≤_, _<_}
-use mathlib.Core.Path.{_≡_, ap, _∙_}
+use mathlib.Core.Path.{_≡_, refl}
 use mathlib.Core.List.{List}
 use native.Mathlib.Omega.{arith}
 use borrow.Author.Needs.{needs}
@@ -12,11 +12,6 @@ use Rattle.rules.specs.Internal.Planes.{PlaneFits}
 use Rattle.rules.proofs.PlaneWritten.{RowsTo, rows-none, masked-ending, rows-length, rows-ended, row-there, row-room, word-there, row-more}
 use Rattle.rules.proofs.plane.threshold_rows.Statement.{statement}
 use Rattle.rules.proofs.plane.threshold_rows.Tie as tie
-use Rattle.rules.proofs.plane.threshold_rows.Reads as reads
-use Rattle.rules.proofs.plane.threshold_rows.Lts as lts
-use Rattle.rules.proofs.plane.ending_byte.Reads as ending-byte-reads
-use Rattle.rules.proofs.plane.threshold_row.Reads as threshold-row-reads
-use Rattle.rules.proofs.threshold.byte.Reads as byte-reads
 
 abbrev Inv-loop : tie.InvT-loop
 Inv-loop bound width height mask gray out₀ count at₀ to₀ y₀ out at to y = RowsTo bound width height gray out₀ out at to y
@@ -124,26 +119,17 @@ loop-again c =
 loop2-holds : tie.Need-loop2-holds Inv-loop μ-loop Inv-loop2 μ-loop2
 loop2-holds c before f r = r
 
-mul-ending-byte : tie.Need-mul-ending-byte Inv-loop μ-loop Inv-loop2 μ-loop2
-mul-ending-byte c = omega arith
-
-add-ending-byte : tie.Need-add-ending-byte Inv-loop μ-loop Inv-loop2 μ-loop2
-add-ending-byte c = omega (arith, there2 c)
-
-ending-byte-requires : tie.Need-ending-byte-requires Inv-loop μ-loop Inv-loop2 μ-loop2
-ending-byte-requires c κs = (omega (arith, there2 c), omega arith)
-
-threshold-row-requires-2 : tie.Need-threshold-row-requires-2 Inv-loop μ-loop Inv-loop2 μ-loop2
-threshold-row-requires-2 c κs = let i = c .before .before in (omega (arith, there2 i), omega (arith, room2 i, odd2 (i .before)))
+last-row-requires : tie.Need-last-row-requires Inv-loop μ-loop Inv-loop2 μ-loop2
+last-row-requires c κs = let i = c .before in (there2 i, omega (arith, room2 i, odd2 (i .before)))
 
 add-at-2 : tie.Need-add-at-2 Inv-loop μ-loop Inv-loop2 μ-loop2
-add-at-2 c = let i = c .before .before .before .before .before in omega (arith, there2 i)
+add-at-2 c = let i = c .before .before .before .before in omega (arith, there2 i)
 
 add-to-3 : tie.Need-add-to-3 Inv-loop μ-loop Inv-loop2 μ-loop2
 add-to-3 c = omega arith
 
 add-to-4 : tie.Need-add-to-4 Inv-loop μ-loop Inv-loop2 μ-loop2
-add-to-4 c = let i = c .before .before .before .before .before in omega (arith, room2 i, odd2 (i .before), same2 (i .before), start2 (i .before) .good)
+add-to-4 c = let i = c .before .before .before .before in omega (arith, room2 i, odd2 (i .before), same2 (i .before), start2 (i .before) .good)
 
 add-y-2 : tie.Need-add-y-2 Inv-loop μ-loop Inv-loop2 μ-loop2
 add-y-2 c = omega arith
@@ -154,11 +140,10 @@ loop2-less c = omega arith
 loop2-again : tie.Need-loop2-again Inv-loop μ-loop Inv-loop2 μ-loop2
 loop2-again c before f r₀ =
     let r = c .before .before in
-    let b = r .before .before in
-    let l = b .before .before in
-    let s = start (l .before .before) in
+    let l = r .before .before .before in
+    let s = start2 l in
     row-more (s .args .bound) (s .args .width) (s .args .height) (now (s .args .gray)) before f (l .loop2 .inv before f r₀) _ _ (odd2 l) (omega arith)
-    (b .ending-byte .ensures) (r .threshold-row2 .ensures)
+    refl (r .last-row .ensures)
 
 same-length : tie.Need-same-length Inv-loop μ-loop Inv-loop2 μ-loop2
 same-length c = same2 (c .before)
@@ -187,10 +172,7 @@ threshold-rows-spec =
     loop-less
     loop-again
     loop2-holds
-    mul-ending-byte
-    add-ending-byte
-    ending-byte-requires
-    threshold-row-requires-2
+    last-row-requires
     add-at-2
     add-to-3
     add-to-4
