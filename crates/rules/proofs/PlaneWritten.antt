@@ -16,7 +16,7 @@ use Rattle.image.specs.Geometry.{rowBytes, planeBytes, paddingMask}
 use Rattle.rules.specs.Bits.{digits, appended}
 use Rattle.rules.specs.Packed.{byteAt}
 use Rattle.rules.specs.Internal.Kernels.{thresholdBit, thresholdFrom, stored}
-use Rattle.rules.specs.Internal.Planes.{PlaneFits, planeAt, planeIn, endingByte}
+use Rattle.rules.specs.Internal.Planes.{PlaneFits, planeAt, planeIn, endingByte, endedRow, maskedRow}
 use Rattle.rules.proofs.DigitsAppended.{bit-le, appended-lt, shifted-lt}
 use Rattle.rules.proofs.ListPiece.{piece}
 use Rattle.rules.proofs.PlaneBytes.{byte-whole, byte-ending, masked}
@@ -122,9 +122,12 @@ module _ (t w h : ℕ) (gray out₀ : List ℕ) where
       record { within = omega arith; atIs = omega arith; toIs = e; outIs = overlaid-none f out₀ ∙ ap (λ (n : ℕ). overlaid n f out₀) e }
 
   -- eight dots cut by the row's mask
-  pub masked-ending : (at byte mask : ℕ) → 0 < w % 8 → byte ≡ digits (thresholdFrom t gray at) 8 → mask ≡ paddingMask w → bitAnd byte mask ≡ endingByte t gray at (w % 8)
-  masked-ending at byte mask odd e m =
-      ap₂ bitAnd e m ∙ masked w (thresholdFrom t gray at) (λ i. bit-le (leb t (getD gray (at + i) 0))) odd
+  pub masked-row : (at : ℕ) (out : List ℕ) (to mask : ℕ) → 0 < w % 8 → mask ≡ paddingMask w
+      → maskedRow t gray at out to (w / 8) mask ≡ endedRow t gray at out to (w / 8) (w % 8)
+  masked-row at out to mask odd e =
+      let p = at + 8 * (w / 8) in
+      ap (λ (v : ℕ). set (stored t gray at out to (w / 8)) (to + w / 8) v)
+      (ap (bitAnd (digits (thresholdFrom t gray p) 8)) e ∙ masked w (thresholdFrom t gray p) (λ i. bit-le (leb t (getD gray (p + i) 0))) odd)
 
   module _ (fits : PlaneFits w h (length gray) (length out₀)) {out : List ℕ} {at to y : ℕ} (r : RowsTo t w h gray out₀ out at to y) where
     pub rows-length : length out ≡ length out₀
@@ -151,9 +154,9 @@ module _ (t w h : ℕ) (gray out₀ : List ℕ) where
         let e = add-mul y 2 w in
         omega (arith, mul-comm w h, fits .0, r .atIs)
 
-    pub row-more : (last : ℕ) (out′ : List ℕ) → 0 < w % 8 → y < h → last ≡ endingByte t gray (at + 8 * (w / 8)) (w % 8)
-        → out′ ≡ set (stored t gray at out to (w / 8)) (to + w / 8) last → RowsTo t w h gray out₀ out′ (at + w) (to + (w / 8 + 1)) (y + 1)
-    row-more last out′ odd l e s =
+    pub row-more : (out′ : List ℕ) → 0 < w % 8 → y < h → out′ ≡ endedRow t gray at out to (w / 8) (w % 8)
+        → RowsTo t w h gray out₀ out′ (at + w) (to + (w / 8 + 1)) (y + 1)
+    row-more out′ odd l s =
         let f : ℕ → ℕ = byteAt w (thresholdBit t gray) in
         let a = r .atIs in
         let b = r .toIs in
@@ -161,13 +164,16 @@ module _ (t w h : ℕ) (gray out₀ : List ℕ) where
         let u = up-to (rowBytes w) y h l in
         let k : y * rowBytes w + w / 8 < length out₀ = omega (arith, fits .1) in
         let n : y * rowBytes w + w / 8 + 1 ≡ (y + 1) * rowBytes w = omega (arith, add-mul y 1 (rowBytes w)) in
+        let bytes = overlaid-stored f out₀ t gray (y * w) (y * rowBytes w) (w / 8) (omega arith)
+        (λ j m. sym (byte-whole w (thresholdBit t gray) y j (omega arith))) in
         record {
           within = omega arith;
           atIs = omega (arith, add-mul y 1 w);
           toIs = omega arith;
           outIs =
               s
-              ∙ rw (o, a, b, overlaid-stored f out₀ t gray (y * w) (y * rowBytes w) (w / 8) (omega arith) (λ j m. sym (byte-whole w (thresholdBit t gray) y j (omega arith))))
-              (overlaid-next f out₀ (y * rowBytes w + w / 8) last k (e ∙ ap (λ (p : ℕ). endingByte t gray (p + 8 * (w / 8)) (w % 8)) a ∙ sym (byte-ending w (thresholdBit t gray) y odd))
+              ∙ rw (o, a, b, bytes)
+              (overlaid-next f out₀ (y * rowBytes w + w / 8) (endingByte t gray (y * w + 8 * (w / 8)) (w % 8)) k
+              (sym (byte-ending w (thresholdBit t gray) y odd))
               ∙ ap (λ (m : ℕ). overlaid m f out₀) n);
         }

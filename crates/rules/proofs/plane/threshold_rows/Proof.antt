@@ -1,7 +1,7 @@
 -- `rules::plane::threshold_rows` meets its contract: a row more with each turn of both loops.
 -- Assumes nothing.
 use Prim.Native.Nat.{ℕ, _+_, _-_, _*_, _/_, _%_, _≤_, _<_}
-use mathlib.Core.Path.{_≡_, refl}
+use mathlib.Core.Path.{_≡_, _∙_}
 use mathlib.Core.List.{List}
 use native.Mathlib.Omega.{arith}
 use borrow.Author.Needs.{needs}
@@ -9,7 +9,7 @@ use denote.Ref.{now}
 use lib.ListN.{length}
 use Rattle.image.specs.Geometry.{rowBytes}
 use Rattle.rules.specs.Internal.Planes.{PlaneFits}
-use Rattle.rules.proofs.PlaneWritten.{RowsTo, rows-none, masked-ending, rows-length, rows-ended, row-there, row-room, word-there, row-more}
+use Rattle.rules.proofs.PlaneWritten.{RowsTo, rows-none, masked-row, rows-length, rows-ended, row-there, row-room, word-there, row-more}
 use Rattle.rules.proofs.plane.threshold_rows.Statement.{statement}
 use Rattle.rules.proofs.plane.threshold_rows.Tie as tie
 
@@ -79,26 +79,17 @@ loop-holds c = let a = c .before .before .args in rows-none (a .bound) (a .width
 sub-loop : tie.Need-sub-loop Inv-loop μ-loop Inv-loop2 μ-loop2
 sub-loop c = omega (arith, c .loop .inv .within)
 
-mul-byte : tie.Need-mul-byte Inv-loop μ-loop Inv-loop2 μ-loop2
-mul-byte c = omega arith
-
-add-byte : tie.Need-add-byte Inv-loop μ-loop Inv-loop2 μ-loop2
-add-byte c = omega (arith, word c)
-
-byte-requires : tie.Need-byte-requires Inv-loop μ-loop Inv-loop2 μ-loop2
-byte-requires c κs = word c
-
 threshold-row-requires : tie.Need-threshold-row-requires Inv-loop μ-loop Inv-loop2 μ-loop2
-threshold-row-requires c κs = let i = c .before .before in (omega (arith, word i), omega (arith, room i, odd (i .before)))
+threshold-row-requires c κs = let i = c .before in (word i, omega (arith, room i, odd (i .before)))
 
 add-at : tie.Need-add-at Inv-loop μ-loop Inv-loop2 μ-loop2
-add-at c = let i = c .before .before .before .before .before in omega (arith, there i)
+add-at c = let i = c .before .before .before .before in omega (arith, there i)
 
 add-to : tie.Need-add-to Inv-loop μ-loop Inv-loop2 μ-loop2
 add-to c = omega arith
 
 add-to-2 : tie.Need-add-to-2 Inv-loop μ-loop Inv-loop2 μ-loop2
-add-to-2 c = let i = c .before .before .before .before .before in omega (arith, room i, odd (i .before), same (i .before), start (i .before) .good)
+add-to-2 c = let i = c .before .before .before .before in omega (arith, room i, odd (i .before), same (i .before), start (i .before) .good)
 
 add-y : tie.Need-add-y Inv-loop μ-loop Inv-loop2 μ-loop2
 add-y c = omega arith
@@ -109,12 +100,12 @@ loop-less c = omega arith
 loop-again : tie.Need-loop-again Inv-loop μ-loop Inv-loop2 μ-loop2
 loop-again c =
     let r = c .before .before in
-    let b = r .before .before in
-    let l = b .before .before in
+    let l = r .before .before .before in
     let s = start l in
-    row-more (s .args .bound) (s .args .width) (s .args .height) (now (s .args .gray)) (now (s .args .out)) (s .pre .0) (l .loop .inv) _ _ (odd l) (omega arith)
-    (masked-ending (s .args .bound) (s .args .width) (s .args .height) (now (s .args .gray)) (now (s .args .out)) (l .loop .at + 8 * (s .args .width / 8)) (b .byte .result) (s .args .mask) (odd l) (b .byte .ensures) (s .pre .1 .2))
-    (r .threshold-row .ensures)
+    let a = s .args in
+    row-more (a .bound) (a .width) (a .height) (now (a .gray)) (now (a .out)) (s .pre .0) (l .loop .inv) _ (odd l) (omega arith)
+    (r .threshold-row .ensures
+    ∙ masked-row (a .bound) (a .width) (a .height) (now (a .gray)) (now (a .out)) (l .loop .at) (l .loop .out) (l .loop .to) (a .mask) (odd l) (s .pre .1 .2))
 
 loop2-holds : tie.Need-loop2-holds Inv-loop μ-loop Inv-loop2 μ-loop2
 loop2-holds c before f r = r
@@ -141,9 +132,8 @@ loop2-again : tie.Need-loop2-again Inv-loop μ-loop Inv-loop2 μ-loop2
 loop2-again c before f r₀ =
     let r = c .before .before in
     let l = r .before .before .before in
-    let s = start2 l in
-    row-more (s .args .bound) (s .args .width) (s .args .height) (now (s .args .gray)) before f (l .loop2 .inv before f r₀) _ _ (odd2 l) (omega arith)
-    refl (r .last-row .ensures)
+    let a = start2 l .args in
+    row-more (a .bound) (a .width) (a .height) (now (a .gray)) before f (l .loop2 .inv before f r₀) _ (odd2 l) (omega arith) (r .last-row .ensures)
 
 same-length : tie.Need-same-length Inv-loop μ-loop Inv-loop2 μ-loop2
 same-length c = same2 (c .before)
@@ -161,9 +151,6 @@ threshold-rows-spec =
     μ-loop2
     loop-holds
     sub-loop
-    mul-byte
-    add-byte
-    byte-requires
     threshold-row-requires
     add-at
     add-to
