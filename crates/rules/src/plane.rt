@@ -52,7 +52,7 @@ fn ending_byte(bound: u8, gray: &[u8], at: usize, tail: usize) -> u8
     (dots << (8 - tail as u32)) as u8
 }
 
-// A row: so many bytes of the samples from index `at` on, and its last byte cut from a byte by the mask, into the output from index `to` on.
+// A row: so many bytes of the samples from index `at` on, and its last byte, cut from one by the mask, into the output from index `to` on.
 // It has a loop of its own, so that no row costs a call.
 fn threshold_row(
     bound: u8,

@@ -41,7 +41,8 @@ endedRow t gray at out to count m = set (stored t gray at out to count) (to + co
 
 -- the same, its last byte cut from eight dots by a mask
 abbrev pub maskedRow : ℕ → List ℕ → ℕ → List ℕ → ℕ → ℕ → ℕ → List ℕ
-maskedRow t gray at out to count mask = set (stored t gray at out to count) (to + count) (bitAnd (digits (thresholdFrom t gray (at + 8 * count)) 8) mask)
+maskedRow t gray at out to count mask =
+    set (stored t gray at out to count) (to + count) (bitAnd (digits (thresholdFrom t gray (at + 8 * count)) 8) mask)
 
 -- the scan whose samples stand row by row in a list
 abbrev pub scanOf : ℕ → List ℕ → Scan
@@ -55,7 +56,8 @@ ditherBit w gray n = bit (white (valueAt rightwards w (scanOf w gray) (n % w) (n
 abbrev pub rowSample : ℕ → List ℕ → ℕ → ℕ
 rowSample w gray c = if (ltb c w) (getD gray c 0) 0
 
--- r says whether there are w samples, with room for their row, and they are black and white alone: then the row is written, white where a sample is white
+-- r says whether there are w samples, with room for their row, and they are black and white alone: then the row is written, white where a
+-- sample is white
 pub record PlainRow (w : ℕ) (gray out : List ℕ) (r : Bool) (out′ : List ℕ) : Type 0 where
   pub beyond : drop (rowBytes w) out′ ≡ drop (rowBytes w) out
   pub there : r ≡ true → (w ≤ length gray) × (rowBytes w ≤ length out)
