@@ -1,10 +1,3 @@
-pub mod Zones
-pub mod FieldsBytewise
-pub mod FieldsGrown
-pub mod Places
-pub mod FieldsStored
-pub mod HeaderLoop
-pub mod RunStored
 pub mod BodyBytes
 pub mod MostTaken
 pub mod Headers

@@ -15,7 +15,7 @@ use Rattle.decoder.specs.Body.{planeOf}
 use Rattle.decoder.specs.Image.{imageSettings}
 use Rattle.decode_session.specs.Sequence.{bodyFrom}
 use Rattle.decode_session.specs.Internal.Body.{Advanced, Bodies}
-use Rattle.decode_session.specs.Extension.{fieldBytes}
+use Rattle.header_pieces.specs.Extension.{fieldBytes}
 use Rattle.decode_session.specs.Model.{Model, nothing, grown, written, stored, fedBy}
 use Rattle.decode_session.specs.Session.{InBody, Settled}
 use Rattle.decode_session.specs.Internal.Stages.{takenIn, Agrees, having, Enters, Planes}

@@ -20,11 +20,10 @@ mod body;
 mod closing;
 mod convert;
 mod feeding;
-mod head;
 mod queries;
 
 // The least length of an extension buffer: no fields are longer.
-pub const EXTENSION_BYTES: usize = 4118;
+pub const EXTENSION_BYTES: usize = header_pieces::EXTENSION_BYTES;
 
 // Where a reading stands; named in public so that structs of other crates can hold a session.
 pub enum Stage {

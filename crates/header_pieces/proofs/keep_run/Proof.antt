@@ -1,9 +1,9 @@
 use Prim.Native.Nat.{_-_}
 use mathlib.Core.Path.{refl}
 use native.Mathlib.Omega.{arith}
-use Rattle.decode_session.proofs.RunStored.{KeptSo, kept-first, kept-next, kept-last}
-use Rattle.decode_session.proofs.head.keep_run.Statement.{statement}
-use Rattle.decode_session.proofs.head.keep_run.Tie as tie
+use Rattle.header_pieces.proofs.RunStored.{KeptSo, kept-first, kept-next, kept-last}
+use Rattle.header_pieces.proofs.keep_run.Statement.{statement}
+use Rattle.header_pieces.proofs.keep_run.Tie as tie
 
 abbrev Inv-loop : tie.InvT-loop
 Inv-loop ext₀ kept run n i₀ ext i = KeptSo ext₀ run kept n ext i

@@ -1,4 +1,4 @@
-// The header's part of a piece: its bytes go to the header's reader, one by one or in runs, and those of extension fields to the lent
+// Headers read from pieces of a file: the bytes go to the header's reader, one by one or in runs, and those of extension fields to a lent
 // buffer too.
 use error::WbmpError;
 use header::ParsedHeader;
@@ -7,8 +7,11 @@ use header_reader::HeaderStep;
 ghost use Prim.Native.Nat.{_+_, _≤_};
 ghost use mathlib.Core.Path.{_≡_};
 ghost use lib.ListN.{length};
-ghost use Rattle.decode_session.specs.Internal.Head.{isKept, Keeps, Heads};
-ghost use Rattle.decode_session.specs.Internal.HeadRun.{KeepsRun, RunsOn};
+ghost use Rattle.header_pieces.specs.Internal.Head.{isKept, Keeps, Heads};
+ghost use Rattle.header_pieces.specs.Internal.HeadRun.{KeepsRun, RunsOn};
+
+// The least length of an extension buffer: no fields are longer.
+pub const EXTENSION_BYTES: usize = 4118;
 
 // How the header's part of a piece ends: the header goes on, it ended, or it is refused.
 pub enum HeadEnd {
@@ -103,17 +106,24 @@ fn run_on(reader: HeaderReader, kept: usize, from: usize, piece: &[u8], ext: &mu
 }
 
 // Feeds a piece to the header's reader, up to the header's last byte or a refusal. `at` bytes came before the piece, and `kept` extension
-// bytes among them.
-pub(crate) fn feed_header(
+// bytes among them. Over a shorter extension buffer none is taken.
+pub fn feed_header(
     reader: HeaderReader,
     at: usize,
     kept: usize,
     piece: &[u8],
     ext: &mut [u8],
 ) -> HeadFed
-    requires { ⌜ 4118 ≤ length (now ext) ⌝ }
     ensures { λ r. ⌜ Heads reader at kept (now (piece .entry)) (now (ext .entry)) r (now (ext .exit)) ⌝ }
 {
+    if ext.len() < EXTENSION_BYTES {
+        let end = HeadEnd::More(reader);
+        return HeadFed {
+            taken: 0,
+            kept,
+            end,
+        };
+    }
     let mut reader = reader;
     let mut kept = kept;
     let mut taken = 0;

@@ -13,9 +13,9 @@ use Rattle.header_reader.specs.Internal.Machine.{State, start, more, steps}
 use Rattle.header_reader.specs.Internal.Represents.{Represents}
 use Rattle.header_reader.specs.declared.reader.HeaderReader.{HeaderReader}
 use Rattle.header_reader.specs.declared.reader.HeaderStep.{HeaderStep}
-use Rattle.decode_session.specs.Extension.{fieldBytes}
-use Rattle.decode_session.specs.declared.head.HeadFed.{HeadFed}
-use Rattle.decode_session.specs.declared.head.HeadEnd.{HeadEnd}
+use Rattle.header_pieces.specs.Extension.{fieldBytes}
+use Rattle.header_pieces.specs.declared.HeadFed.{HeadFed}
+use Rattle.header_pieces.specs.declared.HeadEnd.{HeadEnd}
 
 -- a reader that has taken these bytes, `at` in all and `kept` extension bytes among them
 pub record Reached (o : Settings) (bytes : List ℕ) (r : HeaderReader) (at kept : ℕ) : Type 0 where
@@ -33,11 +33,13 @@ Ends o bytes piece at r (HeadEnd.Done h) =
 Ends o bytes piece at r (HeadEnd.Refused e) =
     (map outline (readHeader o (bytes ++ piece)) ≡ refuses (e .code) (e .offset)) × (isEnd (e .code) ≡ false)
 
--- for whatever bytes the reader has taken; the extension bytes of the piece are stored behind those kept
+-- for whatever bytes the reader has taken; the extension bytes of the piece are stored behind those kept, and over a buffer that is short of
+-- them nothing is done
 pub record Heads (r₀ : HeaderReader) (at kept : ℕ) (piece ext : List ℕ) (r : HeadFed) (ext′ : List ℕ) : Type 0 where
   pub within : r .taken ≤ length piece
-  pub does : (o : Settings) (bytes : List ℕ) → Reached o bytes r₀ at kept → Ends o bytes piece at r (r .end)
-  pub stores : (o : Settings) (bytes : List ℕ) → Reached o bytes r₀ at kept
+  pub short : length ext < 4118 → (r ≡ record { taken = 0; kept = kept; end = HeadEnd.More r₀ }) × (ext′ ≡ ext)
+  pub does : 4118 ≤ length ext → (o : Settings) (bytes : List ℕ) → Reached o bytes r₀ at kept → Ends o bytes piece at r (r .end)
+  pub stores : 4118 ≤ length ext → (o : Settings) (bytes : List ℕ) → Reached o bytes r₀ at kept
       → ext′ ≡ sets ext kept (drop kept (fieldBytes o (bytes ++ piece)))
 
 -- whether a byte at an offset is stored: one of the fields, and before the place of its refusal

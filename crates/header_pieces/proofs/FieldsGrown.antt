@@ -21,11 +21,11 @@ use Rattle.header_reader.specs.Internal.Pieces.{onward}
 use Rattle.header_reader.proofs.Machine.{steps-cons}
 use Rattle.header_reader.proofs.StepSound.{SoundStep, sound-step, sound-steps, sound-start}
 use Rattle.header_reader.proofs.BytesTaken.{taken, Moves, moves-step, taken-steps}
-use Rattle.decode_session.specs.Extension.{fieldBytes}
-use Rattle.decode_session.proofs.Zones.{Zone, before, inside, behind, zone, isInside, inside-is, Next, early, enters, skips, runs}
-use Rattle.decode_session.proofs.Zones.{leaves, late, Stops, Moved, zone-step}
-use Rattle.decode_session.proofs.FieldsBytewise.{spanned, rest, rest-start, rest-steps, rest-step, rest-end, stopped, after}
-use Rattle.decode_session.proofs.FieldsBytewise.{zoneBytes}
+use Rattle.header_pieces.specs.Extension.{fieldBytes}
+use Rattle.header_pieces.proofs.Zones.{Zone, before, inside, behind, zone, isInside, inside-is, Next, early, enters, skips, runs}
+use Rattle.header_pieces.proofs.Zones.{leaves, late, Stops, Moved, zone-step}
+use Rattle.header_pieces.proofs.FieldsBytewise.{spanned, rest, rest-start, rest-steps, rest-step, rest-end, stopped, after}
+use Rattle.header_pieces.proofs.FieldsBytewise.{zoneBytes}
 
 -- a zone whose fields start, and end where they have, in the bytes taken
 abbrev pub Fits : ℕ → Zone → Type 0

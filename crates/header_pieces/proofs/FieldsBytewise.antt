@@ -25,8 +25,8 @@ use Rattle.header_reader.specs.Internal.Represents.{Sound}
 use Rattle.header_reader.specs.Internal.Pieces.{onward}
 use Rattle.header_reader.proofs.Machine.{steps-cons}
 use Rattle.header_reader.proofs.StepSound.{SoundStep, sound-step, value-kept}
-use Rattle.decode_session.specs.Extension.{fieldsEnd, fieldBytesAt, afterType, fieldBytes}
-use Rattle.decode_session.proofs.Zones.{Zone, before, inside, behind, zone}
+use Rattle.header_pieces.specs.Extension.{fieldsEnd, fieldBytesAt, afterType, fieldBytes}
+use Rattle.header_pieces.proofs.Zones.{Zone, before, inside, behind, zone}
 
 -- a reading of the fields that stops at their end
 abbrev pub ended : ℕ → ℕ → List ℕ → Answer ℕ

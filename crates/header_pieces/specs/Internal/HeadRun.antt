@@ -9,7 +9,7 @@ use Rattle.header_reader.specs.Internal.Machine.{State}
 use Rattle.header_reader.specs.Internal.Represents.{Represents}
 use Rattle.header_reader.specs.Internal.Run.{RunReached}
 use Rattle.header_reader.specs.declared.reader.HeaderReader.{HeaderReader}
-use Rattle.decode_session.specs.declared.head.HeadRun.{HeadRun}
+use Rattle.header_pieces.specs.declared.HeadRun.{HeadRun}
 
 -- a run is stored behind the bytes kept, where it has room
 pub record KeepsRun (kept : ℕ) (run ext : List ℕ) (r : ℕ) (ext′ : List ℕ) : Type 0 where

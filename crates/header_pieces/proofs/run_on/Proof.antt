@@ -1,7 +1,7 @@
-use Rattle.decode_session.proofs.RunStored.{runs-on}
+use Rattle.header_pieces.proofs.RunStored.{runs-on}
 use borrow.Author.Needs.{needs}
-use Rattle.decode_session.proofs.head.run_on.Statement.{statement}
-use Rattle.decode_session.proofs.head.run_on.Tie as tie
+use Rattle.header_pieces.proofs.run_on.Statement.{statement}
+use Rattle.header_pieces.proofs.run_on.Tie as tie
 
 sub-run : tie.Need-sub-run
 sub-run c = search needs

@@ -20,15 +20,15 @@ use Rattle.header_reader.specs.declared.reader.HeaderReader.{HeaderReader}
 use Rattle.header_reader.specs.declared.reader.HeaderRun.{HeaderRun}
 use Rattle.header_reader.proofs.Machine.{steps-append}
 use Rattle.header_reader.proofs.BytesTaken.{taken}
-use Rattle.decode_session.specs.Extension.{fieldBytes}
-use Rattle.decode_session.specs.Internal.Head.{Reached}
-use Rattle.decode_session.specs.Internal.HeadRun.{KeepsRun, RunsOn}
-use Rattle.decode_session.specs.declared.head.HeadRun.{HeadRun}
-use Rattle.decode_session.proofs.Zones.{Zone, inside, zone}
-use Rattle.decode_session.proofs.FieldsBytewise.{zoneBytes}
-use Rattle.decode_session.proofs.FieldsGrown.{taken-so, bytes-so}
-use Rattle.decode_session.proofs.FieldsStored.{Stored}
-use Rattle.decode_session.proofs.HeaderLoop.{Going}
+use Rattle.header_pieces.specs.Extension.{fieldBytes}
+use Rattle.header_pieces.specs.Internal.Head.{Reached}
+use Rattle.header_pieces.specs.Internal.HeadRun.{KeepsRun, RunsOn}
+use Rattle.header_pieces.specs.declared.HeadRun.{HeadRun}
+use Rattle.header_pieces.proofs.Zones.{Zone, inside, zone}
+use Rattle.header_pieces.proofs.FieldsBytewise.{zoneBytes}
+use Rattle.header_pieces.proofs.FieldsGrown.{taken-so, bytes-so}
+use Rattle.header_pieces.proofs.FieldsStored.{Stored}
+use Rattle.header_pieces.proofs.HeaderLoop.{Going}
 
 -- the first i bytes of a run are stored behind those kept
 pub record KeptSo (ext₀ run : List ℕ) (kept n : ℕ) (ext : List ℕ) (i : ℕ) : Type 0 where

@@ -1,7 +1,7 @@
-use Rattle.decode_session.proofs.Places.{place-after, place-before}
+use Rattle.header_pieces.proofs.Places.{place-after, place-before}
 use borrow.Author.Needs.{needs}
-use Rattle.decode_session.proofs.head.is_kept.Statement.{statement}
-use Rattle.decode_session.proofs.head.is_kept.Tie as tie
+use Rattle.header_pieces.proofs.is_kept.Statement.{statement}
+use Rattle.header_pieces.proofs.is_kept.Tie as tie
 
 enum-told : tie.Need-enum-told
 enum-told c = search needs

@@ -1,6 +1,6 @@
 use borrow.Author.Needs.{needs}
-use Rattle.decode_session.proofs.head.keep.Statement.{statement}
-use Rattle.decode_session.proofs.head.keep.Tie as tie
+use Rattle.header_pieces.proofs.keep.Statement.{statement}
+use Rattle.header_pieces.proofs.keep.Tie as tie
 use Rattle.laws.proofs.Tests.{zero-one}
 use mathlib.Core.Path.{refl}
 use native.Mathlib.Omega.{arith}

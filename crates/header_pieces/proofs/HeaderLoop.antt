@@ -22,12 +22,12 @@ use Rattle.header_reader.proofs.Machine.{one-step, steps-cons, steps-law, steps
 use Rattle.header_reader.proofs.Direct.{direct}
 use Rattle.header_reader.proofs.StepSound.{SoundStep, sound-step}
 use Rattle.header_reader.proofs.BytesTaken.{Moves, taken, moves-step}
-use Rattle.decode_session.specs.Extension.{fieldBytes}
-use Rattle.decode_session.specs.Internal.Head.{Reached, Ends, Heads, isKept, Keeps}
-use Rattle.decode_session.specs.declared.head.HeadFed.{HeadFed}
-use Rattle.decode_session.specs.declared.head.HeadEnd.{HeadEnd}
-use Rattle.decode_session.proofs.FieldsGrown.{stores, Follow, grown, taken-so}
-use Rattle.decode_session.proofs.FieldsStored.{Stored, stored-more}
+use Rattle.header_pieces.specs.Extension.{fieldBytes}
+use Rattle.header_pieces.specs.Internal.Head.{Reached, Ends, Heads, isKept, Keeps}
+use Rattle.header_pieces.specs.declared.HeadFed.{HeadFed}
+use Rattle.header_pieces.specs.declared.HeadEnd.{HeadEnd}
+use Rattle.header_pieces.proofs.FieldsGrown.{stores, Follow, grown, taken-so}
+use Rattle.header_pieces.proofs.FieldsStored.{Stored, stored-more}
 
 -- before byte i of a piece
 pub record Going (o : Settings) (bytes piece ext₀ : List ℕ) (at kept i : ℕ) (r : HeaderReader) (count : ℕ) (ext : List ℕ) : Type 0 where
@@ -186,6 +186,14 @@ going-last o bytes piece ext₀ at kept i r count ext g h l =
 
 -- for every reading
 pub ends : {r₀ : HeaderReader} {at kept : ℕ} {piece ext : List ℕ} {r : HeadFed} {ext′ : List ℕ}
-    → r .taken ≤ length piece → ((o : Settings) (bytes : List ℕ) → Reached o bytes r₀ at kept → Headed o bytes piece ext at kept r ext′)
+    → 4118 ≤ length ext → r .taken ≤ length piece
+    → ((o : Settings) (bytes : List ℕ) → Reached o bytes r₀ at kept → Headed o bytes piece ext at kept r ext′)
     → Heads r₀ at kept piece ext r ext′
-ends n h = record { within = n; does = λ o bytes p. h o bytes p .0; stores = λ o bytes p. h o bytes p .1 }
+ends big n h =
+    record { within = n; short = λ l. absurd (omega arith); does = λ b o bytes p. h o bytes p .0; stores = λ b o bytes p. h o bytes p .1 }
+
+-- over a short buffer
+pub untaken : (r₀ : HeaderReader) (at kept : ℕ) (piece ext : List ℕ) → length ext < 4118
+    → Heads r₀ at kept piece ext (record { taken = 0; kept = kept; end = HeadEnd.More r₀ }) ext
+untaken r₀ at kept piece ext l =
+    record { within = omega arith; short = λ h. (refl, refl); does = λ b. absurd (omega arith); stores = λ b. absurd (omega arith) }

@@ -7,8 +7,8 @@ use native.Mathlib.Omega.{arith}
 use lib.ListN.{length, drop, length-append, length-drop}
 use lib.Seq.{sets, drop-append-le}
 use Rattle.laws.proofs.Runs.{sets-append}
-use Rattle.decode_session.specs.Internal.Head.{Keeps}
-use Rattle.decode_session.proofs.FieldsGrown.{added}
+use Rattle.header_pieces.specs.Internal.Head.{Keeps}
+use Rattle.header_pieces.proofs.FieldsGrown.{added}
 
 -- ext₀ with the extension bytes of a file stored in it behind the first `kept` of them; `count` are kept by now
 pub record Stored (ext₀ : List ℕ) (kept : ℕ) (bytes : List ℕ) (count : ℕ) (ext : List ℕ) : Type 0 where
