@@ -1,11 +1,7 @@
-pub mod BodyBytes
 pub mod MostTaken
 pub mod Headers
 pub mod FieldBytes
 pub mod BodyShown
-pub mod BodyCounts
-pub mod RowEndsCleared
-pub mod Formats
 pub mod StageFacts
 pub mod PieceTaken
 pub mod RefusalsMet

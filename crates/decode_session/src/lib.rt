@@ -16,9 +16,7 @@ ghost use Rattle.options.specs.Limits.{decoding};
 ghost use Rattle.decode_session.specs.Model.{opened, opening};
 ghost use Rattle.decode_session.specs.Session.{Opens, Feeds, Closes, Sees};
 
-mod body;
 mod closing;
-mod convert;
 mod feeding;
 mod queries;
 

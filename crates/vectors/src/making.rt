@@ -289,14 +289,7 @@ fn run(
     let start = least(progress.from, out.len());
     let size = least(out_at(input, progress.at), out.len() - start);
     let end = start + size;
-    replay_encode(
-        session,
-        calls,
-        samples,
-        work,
-        &mut out[start..end],
-        answers,
-    )
+    replay_encode(session, calls, samples, work, &mut out[start..end], answers)
 }
 
 // Whether the answers are as the block has them, each byte of the stage's output unless its letter

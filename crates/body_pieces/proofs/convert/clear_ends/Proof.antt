@@ -5,9 +5,9 @@ use native.Mathlib.Omega.{arith}
 use borrow.Author.Needs.{needs}
 use lib.ListN.{length}
 use Rattle.image.specs.declared.PlaneLayout.{PlaneLayout}
-use Rattle.decode_session.proofs.RowEndsCleared.{Clearing, cleared-none, begins, goes-on, ends}
-use Rattle.decode_session.proofs.convert.clear_ends.Statement.{statement}
-use Rattle.decode_session.proofs.convert.clear_ends.Tie as tie
+use Rattle.body_pieces.proofs.RowEndsCleared.{Clearing, cleared-none, begins, goes-on, ends}
+use Rattle.body_pieces.proofs.convert.clear_ends.Statement.{statement}
+use Rattle.body_pieces.proofs.convert.clear_ends.Tie as tie
 
 abbrev Inv-loop : tie.InvT-loop
 Inv-loop bytes₀ width at row mask last₀ bytes last = Clearing width at row mask bytes₀ bytes last

@@ -1,11 +1,13 @@
-// The body's part of a piece: plane after plane, up to a ceiling.
+// Bodies read from pieces of a file: plane after plane, in the asked format, up to a ceiling.
 use crate::convert::convert;
 use image::PixelFormat;
 use image::PlaneLayout;
 ghost use mathlib.Core.Path.{_≡_};
 ghost use mathlib.Core.Logic.{_⊎_};
 ghost use Prim.Native.Nat.{_≤_};
-ghost use Rattle.decode_session.specs.Internal.Body.{Advances, Bodies};
+ghost use Rattle.body_pieces.specs.Internal.Body.{Advances, Bodies};
+
+mod convert;
 
 // How many bytes of the piece are taken and written, and the whole planes and the bytes of the begun one after them.
 pub struct BodyFed {
@@ -26,7 +28,7 @@ fn fed(taken: usize, written: usize, whole: usize, begun: usize) -> BodyFed
     }
 }
 
-pub(crate) fn least(a: usize, b: usize) -> usize
+pub fn least(a: usize, b: usize) -> usize
     ensures { λ r. ⌜ (r ≤ a) × ((r ≤ b) × ((r ≡ a) ⊎ (r ≡ b))) ⌝ }
 {
     if a < b { a } else { b }
@@ -64,15 +66,15 @@ fn advance(
 }
 
 // Where a body of this size goes on: behind so many whole planes and bytes of the begun one.
-pub(crate) struct BodyPlace {
-    pub(crate) width: u32,
-    pub(crate) height: u32,
-    pub(crate) whole: usize,
-    pub(crate) begun: usize,
+pub struct BodyPlace {
+    pub width: u32,
+    pub height: u32,
+    pub whole: usize,
+    pub begun: usize,
 }
 
 // The body from a place on, up to a ceiling of planes.
-pub(crate) fn feed_body(
+pub fn feed_body(
     format: PixelFormat,
     ceiling: usize,
     place: BodyPlace,

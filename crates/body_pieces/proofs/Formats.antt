@@ -14,9 +14,9 @@ use Rattle.image.specs.Geometry.{rowBytes}
 use Rattle.image.specs.Rows.{invert, convertFormat}
 use Rattle.image.specs.declared.PixelFormat.the-variants.{MonoBlack, MonoWhite}
 use Rattle.image.proofs.InvertedBytes.{invert-length, invert-at}
-use Rattle.decode_session.specs.Sequence.{padded, bodyFrom}
-use Rattle.decode_session.specs.Internal.Body.{Cleared}
-use Rattle.decode_session.proofs.BodyBytes.{body-length, body-at, body-black}
+use Rattle.body_pieces.specs.InFormat.{padded, bodyFrom}
+use Rattle.body_pieces.specs.Internal.Body.{Cleared}
+use Rattle.body_pieces.proofs.BodyBytes.{body-length, body-at, body-black}
 
 -- bytes that fill their output
 filled : (bytes old new : List ℕ) (r : Answer ℕ) → length bytes ≡ length old → Emits (gives bytes) r old new → new ≡ bytes

@@ -4,8 +4,8 @@ use mathlib.Core.Path.{_≡_, refl, sym, ap, subst, _∙_}
 use mathlib.Core.Logic.{_⊎_, ⊎-elim, inl, inr}
 use native.Mathlib.Nat.{le-div-iff-mul-le, div-add-mod', mod-lt}
 use native.Mathlib.Omega.{arith}
-use Rattle.decode_session.specs.Internal.Body.{Advances}
-use Rattle.decode_session.specs.declared.body.BodyFed.{BodyFed}
+use Rattle.body_pieces.specs.Internal.Body.{Advances}
+use Rattle.body_pieces.specs.declared.BodyFed.{BodyFed}
 
 module _ (ceiling plane whole begun given room : ℕ) where
   abbrev Ends : ℕ → ℕ → ℕ → ℕ → Type 0

@@ -1,9 +1,9 @@
 use Prim.Native.Nat.{_+_, _-_, _*_, _≤_}
 use native.Mathlib.Omega.{arith}
 use borrow.Author.Needs.{needs}
-use Rattle.decode_session.proofs.BodyCounts.{stuck, full, inside, all-there, reaches, goes-on, built}
-use Rattle.decode_session.proofs.body.advance.Statement.{statement}
-use Rattle.decode_session.proofs.body.advance.Tie as tie
+use Rattle.body_pieces.proofs.BodyCounts.{stuck, full, inside, all-there, reaches, goes-on, built}
+use Rattle.body_pieces.proofs.advance.Statement.{statement}
+use Rattle.body_pieces.proofs.advance.Tie as tie
 
 fed-requires : tie.Need-fed-requires
 fed-requires c κs = search needs

@@ -6,8 +6,8 @@ use mathlib.Core.Logic.{_⊎_}
 use lib.ListN.{length, getD, take, drop}
 use Rattle.image.specs.Geometry.{planeBytes}
 use Rattle.image.specs.declared.PixelFormat.{PixelFormat}
-use Rattle.decode_session.specs.Sequence.{padded, bodyFrom}
-use Rattle.decode_session.specs.declared.body.BodyFed.{BodyFed}
+use Rattle.body_pieces.specs.InFormat.{padded, bodyFrom}
+use Rattle.body_pieces.specs.declared.BodyFed.{BodyFed}
 
 -- bytes of a body from byte `at` on, before and after their padding is cleared
 pub record Cleared (width at : ℕ) (old new : List ℕ) : Type 0 where

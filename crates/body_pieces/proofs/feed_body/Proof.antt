@@ -7,10 +7,10 @@ use lib.ListN.{length, drop}
 use lib.Seq.{length-take-le}
 use Rattle.image.specs.Geometry.{planeBytes}
 use Rattle.image.specs.declared.PlaneLayout.{PlaneLayout}
-use Rattle.decode_session.specs.Internal.Body.{Advances}
+use Rattle.body_pieces.specs.Internal.Body.{Advances}
 use borrow.Author.Needs.{needs}
-use Rattle.decode_session.proofs.body.feed_body.Statement.{statement}
-use Rattle.decode_session.proofs.body.feed_body.Tie as tie
+use Rattle.body_pieces.proofs.feed_body.Statement.{statement}
+use Rattle.body_pieces.proofs.feed_body.Tie as tie
 
 new-requires : tie.Need-new-requires
 new-requires c κs = search needs

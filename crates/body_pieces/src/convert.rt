@@ -3,8 +3,8 @@ use image::PixelFormat;
 use image::PlaneLayout;
 ghost use mathlib.Core.Path.{_≡_};
 ghost use lib.ListN.{length};
-ghost use Rattle.decode_session.specs.Sequence.{bodyFrom};
-ghost use Rattle.decode_session.specs.Internal.Body.{Cleared};
+ghost use Rattle.body_pieces.specs.InFormat.{bodyFrom};
+ghost use Rattle.body_pieces.specs.Internal.Body.{Cleared};
 
 // The padding of each row that ends among these bytes of a body, the first of which is byte `at`, is cleared.
 fn clear_ends(bytes: &mut [u8], width: u32, at: usize)

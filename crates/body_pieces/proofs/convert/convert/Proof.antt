@@ -1,11 +1,11 @@
 use mathlib.Core.Path.{sym, ap, _∙_}
 use denote.Ref.{now}
 use Rattle.image.specs.declared.PixelFormat.{PixelFormat}
-use Rattle.decode_session.specs.Sequence.{bodyFrom}
-use Rattle.decode_session.proofs.Formats.{white-is, black-is}
+use Rattle.body_pieces.specs.InFormat.{bodyFrom}
+use Rattle.body_pieces.proofs.Formats.{white-is, black-is}
 use borrow.Author.Needs.{needs}
-use Rattle.decode_session.proofs.convert.convert.Statement.{statement}
-use Rattle.decode_session.proofs.convert.convert.Tie as tie
+use Rattle.body_pieces.proofs.convert.convert.Statement.{statement}
+use Rattle.body_pieces.proofs.convert.convert.Tie as tie
 
 enum-told : tie.Need-enum-told
 enum-told c = search needs

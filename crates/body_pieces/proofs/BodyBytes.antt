@@ -11,7 +11,7 @@ use Rattle.image.specs.Geometry.{rowBytes, paddingBits}
 use Rattle.image.specs.Rows.{clearLow}
 use Rattle.image.specs.declared.PixelFormat.{PixelFormat}
 use Rattle.image.specs.declared.PixelFormat.the-variants.{MonoBlack, MonoWhite}
-use Rattle.decode_session.specs.Sequence.{padded, bodyByte, bodyFrom}
+use Rattle.body_pieces.specs.InFormat.{padded, bodyByte, bodyFrom}
 
 -- a byte depends on its place in its row only
 padded-mod : (w at at′ b : ℕ) → at % rowBytes w ≡ at′ % rowBytes w → padded w at b ≡ padded w at′ b
