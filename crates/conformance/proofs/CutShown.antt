@@ -28,7 +28,7 @@ use Rattle.decoder.specs.Image.{imageSettings, headerOf, readImage}
 use Rattle.decoder.specs.Frames.{shown}
 use Rattle.encoder.specs.Make.{scanBytes, fileOfScans}
 use Rattle.encode_session.specs.Model as Making
-use Rattle.decode_session.specs.Extension.{fieldBytes}
+use Rattle.header_pieces.specs.Extension.{fieldBytes}
 use Rattle.decode_session.specs.Model.{nothing, Call, Told, frames, Reply, opening, opened, replies, shut}
 use Rattle.decode_session.specs.Session.{Stands, Sees, seen, seenOf, seenMeaning}
 use Rattle.decode_session.specs.Trace.{Cut, joined}

@@ -19,7 +19,7 @@ use Rattle.ext.proofs.Bounds.{fields-bound}
 use Rattle.ext_write.proofs.ReadBack.{read-back}
 use Rattle.header.specs.Settings.{Settings}
 use Rattle.header.specs.Write.{fixByte}
-use Rattle.decode_session.specs.Extension.{fieldBytes}
+use Rattle.header_pieces.specs.Extension.{fieldBytes}
 use Rattle.decode_session.proofs.CutFields.{fieldsFile, Holds, holds-none, holds-more, holds-all}
 use Rattle.conformance.specs.Lists.{fieldsShown}
 

@@ -28,8 +28,9 @@ use Rattle.quantize.specs.Finished as Finished
 use Rattle.decoder.specs.Image.{testBody, readImage}
 use Rattle.encode_session.specs.Model as Making
 use Rattle.encode_session.specs.Trace as MakingTrace
-use Rattle.decode_session.specs.Extension.{fieldBytes}
-use Rattle.decode_session.specs.Sequence.{bodyFrom, sequence, most}
+use Rattle.header_pieces.specs.Extension.{fieldBytes}
+use Rattle.body_pieces.specs.InFormat.{bodyFrom}
+use Rattle.decode_session.specs.Sequence.{sequence, most}
 use Rattle.decode_session.specs.Model as Reading
 use Rattle.decode_session.specs.Trace as ReadingTrace
 use Rattle.conformance.specs.Lists.{samplesOf, wasClosed}

@@ -23,7 +23,7 @@ use Rattle.options.specs.Limits.{ceilingOf}
 use Rattle.decoder.specs.Body.{planeOf}
 use Rattle.decoder.specs.Image.{imageSettings}
 use Rattle.decoder.proofs.Headed.{image-by}
-use Rattle.decode_session.specs.Internal.Head.{Reached}
+use Rattle.header_pieces.specs.Internal.Head.{Reached}
 use Rattle.decode_session.specs.Model.{Model, frames, closing}
 use Rattle.decode_session.specs.Session.{wholeIn, framesDone, InBody, BeforeHeader, StageOf, Stands, TellsClosed, TellsFrames}
 use Rattle.decode_session.specs.Session.{SeesFields}

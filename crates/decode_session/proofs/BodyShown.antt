@@ -13,10 +13,11 @@ use Rattle.image.proofs.PlaneSizes.{plane-mod}
 use Rattle.options.specs.Limits.{ceilingOf}
 use Rattle.decoder.specs.Body.{planeOf}
 use Rattle.decoder.specs.Image.{imageSettings}
-use Rattle.decode_session.specs.Sequence.{bodyFrom, sequenceOf, sequence}
+use Rattle.body_pieces.specs.InFormat.{bodyFrom}
+use Rattle.decode_session.specs.Sequence.{sequenceOf, sequence}
 use Rattle.decode_session.specs.Model.{Model}
 use Rattle.decode_session.specs.Session.{InBody}
-use Rattle.decode_session.proofs.BodyBytes.{body-length, body-append, body-mod}
+use Rattle.body_pieces.proofs.BodyBytes.{body-length, body-append, body-mod}
 use Rattle.decode_session.proofs.Headers.{header-later}
 
 module _ {m : Model} {h : Outline} {whole begun : ℕ} (b : InBody m h whole begun) where

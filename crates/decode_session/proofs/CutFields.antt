@@ -21,7 +21,7 @@ use Rattle.ext.specs.Read.{readFields}
 use Rattle.ext.proofs.Prefix.{settled, fields-prefix}
 use Rattle.ext.proofs.Bounds.{fields-bound}
 use Rattle.header.specs.Settings.{Settings}
-use Rattle.decode_session.specs.Extension.{fieldsEnd, fieldBytes}
+use Rattle.header_pieces.specs.Extension.{fieldsEnd, fieldBytes}
 
 -- a buffer that starts with a, once the rest of b, which starts with a too, is stored behind it
 stored-behind : (a b buffer : List ℕ) → take (length a) b ≡ a → length b ≤ length buffer → take (length a) buffer ≡ a

@@ -13,7 +13,7 @@ use Rattle.options.specs.Limits.{Decoding, ceilingOf}
 use Rattle.decoder.specs.Image.{imageSettings, readImage}
 use Rattle.decoder.specs.Frames.{framesOf}
 use Rattle.decode_session.specs.Sequence.{sequence}
-use Rattle.decode_session.specs.Extension.{fieldBytes}
+use Rattle.header_pieces.specs.Extension.{fieldBytes}
 use Rattle.decode_session.specs.Model.{nothing, metAt, Model, Call, feed, close, Told, frames, Reply, takes, grown, written, stored}
 use Rattle.decode_session.specs.Model.{outcome, replies}
 use Rattle.decode_session.specs.Trace.{bytesOf, joined, tookOf, isMet, Cut, part, taken}

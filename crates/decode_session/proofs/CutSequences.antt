@@ -12,8 +12,9 @@ use Rattle.options.specs.Limits.{Decoding}
 use Rattle.decoder.specs.Body.{planeOf}
 use Rattle.decoder.specs.Image.{headerOf}
 use Rattle.decoder.proofs.After.{header-kept}
-use Rattle.decode_session.specs.Sequence.{bodyFrom, sequenceOf, sequence}
-use Rattle.decode_session.proofs.BodyBytes.{body-append}
+use Rattle.body_pieces.specs.InFormat.{bodyFrom}
+use Rattle.decode_session.specs.Sequence.{sequenceOf, sequence}
+use Rattle.body_pieces.proofs.BodyBytes.{body-append}
 use Rattle.decode_session.proofs.Extends.{Extends, drop-extends, take-extends}
 
 module _ (format : PixelFormat) (width : ℕ) where

@@ -20,7 +20,7 @@ use Rattle.ext.proofs.Prefix.{settled, fields-prefix}
 use Rattle.header.specs.Settings.{Settings}
 use Rattle.header.specs.Read.{Header, Outline, outline, readHeight, readSizes, readFix, readAfterFix, readHeader}
 use Rattle.header.proofs.Prefix.{integer-prefix}
-use Rattle.decode_session.specs.Extension.{fieldsEnd, fieldBytesAt, afterType, fieldBytes}
+use Rattle.header_pieces.specs.Extension.{fieldsEnd, fieldBytesAt, afterType, fieldBytes}
 
 module _ (o : Settings) (s ρ : List ℕ) where
   -- the fields, once the sizes behind them are read

@@ -20,16 +20,16 @@ use Rattle.options.specs.declared.DecodeOptions.{DecodeOptions}
 use Rattle.options.specs.Limits.{ceilingOf}
 use Rattle.decoder.specs.Image.{imageSettings, headerOf}
 use Rattle.decode_session.specs.Sequence.{sequenceOf, sequence}
-use Rattle.decode_session.specs.Extension.{fieldBytes}
+use Rattle.header_pieces.specs.Extension.{fieldBytes}
 use Rattle.decode_session.specs.Model.{Met, nothing, Model, meets, takes, grown, written, stored, fedBy}
-use Rattle.decode_session.specs.Internal.Head.{Reached, Ends, Heads}
+use Rattle.header_pieces.specs.Internal.Head.{Reached, Ends, Heads}
 use Rattle.decode_session.specs.Session.{Stands, Feeds}
 use Rattle.decode_session.specs.Internal.Stages.{takenIn, metIn, Agrees, Ended, Begins}
 use Rattle.decode_session.specs.declared.Stage.{Stage}
 use Rattle.decode_session.specs.declared.DecodeSession.{DecodeSession}
 use Rattle.decode_session.specs.declared.DecodeFed.{DecodeFed}
-use Rattle.decode_session.specs.declared.head.HeadFed.{HeadFed}
-use Rattle.decode_session.specs.declared.head.HeadEnd.{HeadEnd}
+use Rattle.header_pieces.specs.declared.HeadFed.{HeadFed}
+use Rattle.header_pieces.specs.declared.HeadEnd.{HeadEnd}
 use Rattle.decode_session.proofs.Headers.{header-cut, unread-end, reached-bound}
 use Rattle.decode_session.proofs.MostTaken.{most-is}
 use Rattle.decode_session.proofs.RefusalsMet.{header-refused, header-short}
@@ -61,12 +61,12 @@ module _ (o : DecodeOptions) (reader : HeaderReader) (at kept : ℕ) (piece out 
     reached = st .stage .1
 
     ends : (x : HeadEnd) → f .end ≡ x → Ends settings (m .bytes) piece at f x
-    ends x e = subst (Ends settings (m .bytes) piece at f) e (heads .does settings (m .bytes) reached)
+    ends x e = subst (Ends settings (m .bytes) piece at f) e (heads .does long settings (m .bytes) reached)
 
     stored-is : stored m file ext ≡ ext′
     stored-is =
         sym
-        (heads .stores settings (m .bytes) reached
+        (heads .stores long settings (m .bytes) reached
         ∙ ap (λ (k : ℕ). sets ext k (drop k (fieldBytes settings file))) (reached .keptIs))
 
     -- all of the piece is the header's

@@ -18,7 +18,7 @@ use Rattle.header_reader.proofs.Direct.{direct}
 use Rattle.header_reader.proofs.RefusalMet.{finds, found}
 use Rattle.header_reader.proofs.EndRefusal.{endCode, endOffset, end-is}
 use Rattle.header_reader.proofs.BytesTaken.{taken, Moves, moves-step, taken-steps}
-use Rattle.decode_session.specs.Internal.Head.{Reached}
+use Rattle.header_pieces.specs.Internal.Head.{Reached}
 
 module _ (o : Settings) where
   -- a header that is done has its body behind the bytes taken before

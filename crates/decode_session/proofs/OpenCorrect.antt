@@ -20,9 +20,9 @@ use Rattle.options.specs.Limits.{Decoding, modeOf, decoding}
 use Rattle.options.specs.declared.DecodeOptions.{DecodeOptions}
 use Rattle.options.proofs.Ceilings.{passes}
 use Rattle.decoder.specs.Image.{imageSettings}
-use Rattle.decode_session.specs.Extension.{fieldBytes}
+use Rattle.header_pieces.specs.Extension.{fieldBytes}
 use Rattle.decode_session.specs.Model.{opened, opening}
-use Rattle.decode_session.specs.Internal.Head.{Reached}
+use Rattle.header_pieces.specs.Internal.Head.{Reached}
 use Rattle.decode_session.specs.Session.{StageOf, Opens}
 use Rattle.decode_session.specs.declared.Stage.{Stage}
 

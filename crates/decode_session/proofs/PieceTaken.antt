@@ -10,12 +10,13 @@ use lib.Seq.{take-add, take-all, drop-at, length-take-le}
 use Rattle.header.specs.Read.{Outline}
 use Rattle.options.specs.Limits.{ceilingOf}
 use Rattle.decoder.specs.Body.{planeOf}
-use Rattle.decode_session.specs.Sequence.{bodyFrom, sequence}
-use Rattle.decode_session.specs.Internal.Body.{Advanced, Advances}
+use Rattle.body_pieces.specs.InFormat.{bodyFrom}
+use Rattle.decode_session.specs.Sequence.{sequence}
+use Rattle.body_pieces.specs.Internal.Body.{Advanced, Advances}
 use Rattle.decode_session.specs.Model.{Model, takes, grown, written}
 use Rattle.decode_session.specs.Internal.Stages.{Enters}
-use Rattle.decode_session.specs.declared.body.BodyFed.{BodyFed}
-use Rattle.decode_session.proofs.BodyBytes.{body-length}
+use Rattle.body_pieces.specs.declared.BodyFed.{BodyFed}
+use Rattle.body_pieces.proofs.BodyBytes.{body-length}
 use Rattle.decode_session.proofs.MostTaken.{shownWith, most-is}
 use Rattle.decode_session.proofs.BodyShown.{shownBytes, allBytes, shown-length, shown-grows}
 

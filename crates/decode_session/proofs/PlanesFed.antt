@@ -13,15 +13,15 @@ use Rattle.options.specs.Limits.{Decoding, ceilingOf, decoding}
 use Rattle.options.specs.declared.DecodeOptions.{DecodeOptions}
 use Rattle.decoder.specs.Body.{planeOf}
 use Rattle.decoder.specs.Image.{imageSettings}
-use Rattle.decode_session.specs.Sequence.{bodyFrom}
-use Rattle.decode_session.specs.Internal.Body.{Advanced, Bodies}
-use Rattle.decode_session.specs.Extension.{fieldBytes}
+use Rattle.body_pieces.specs.InFormat.{bodyFrom}
+use Rattle.body_pieces.specs.Internal.Body.{Advanced, Bodies}
+use Rattle.header_pieces.specs.Extension.{fieldBytes}
 use Rattle.decode_session.specs.Model.{Model, nothing, grown, written, stored, fedBy}
 use Rattle.decode_session.specs.Session.{InBody, Settled}
 use Rattle.decode_session.specs.Internal.Stages.{takenIn, Agrees, having, Enters, Planes}
 use Rattle.decode_session.specs.declared.Stage.{Stage}
 use Rattle.decode_session.specs.declared.DecodeFed.{DecodeFed}
-use Rattle.decode_session.specs.declared.body.BodyFed.{BodyFed}
+use Rattle.body_pieces.specs.declared.BodyFed.{BodyFed}
 use Rattle.decode_session.proofs.Headers.{header-later}
 use Rattle.decode_session.proofs.FieldBytes.{fields-kept}
 use Rattle.decode_session.proofs.Replies.{replied, stored-as}

@@ -10,7 +10,7 @@ use lib.Seq.{sets, drop-length}
 use Rattle.error.specs.Answer.{Answer}
 use Rattle.laws.proofs.Tests.{if-true, if-false}
 use Rattle.decoder.specs.Image.{imageSettings}
-use Rattle.decode_session.specs.Extension.{fieldBytes}
+use Rattle.header_pieces.specs.Extension.{fieldBytes}
 use Rattle.decode_session.specs.Model.{nothing, metAt, Model, feed, Told, Reply, Outcome, meets, stored, fedBy, unaltered, afterMet}
 use Rattle.decode_session.specs.Model.{outcome}
 use Rattle.decode_session.specs.Session.{fedMeaning, Stands}

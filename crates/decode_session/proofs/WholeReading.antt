@@ -26,8 +26,9 @@ use Rattle.options.specs.Limits.{Decoding}
 use Rattle.decoder.specs.Body.{planeOf, planeAt, planes}
 use Rattle.decoder.specs.Image.{headerOf}
 use Rattle.decoder.proofs.Planed.{one-less}
-use Rattle.decode_session.specs.Sequence.{padded, bodyFrom, sequenceOf, sequence}
-use Rattle.decode_session.proofs.BodyBytes.{body-length, body-append, body-at, body-mod, body-take, body-black}
+use Rattle.body_pieces.specs.InFormat.{padded, bodyFrom}
+use Rattle.decode_session.specs.Sequence.{sequenceOf, sequence}
+use Rattle.body_pieces.proofs.BodyBytes.{body-length, body-append, body-at, body-mod, body-take, body-black}
 
 -- byte j of row y
 row-padded : (w y j b : ℕ) → j < rowBytes w → padded w (y * rowBytes w + j) b ≡ clearLow (paddingAt w j) b

@@ -1,5 +1,4 @@
 pub mod Sequence
-pub mod Extension
 pub mod Model
 pub mod Session
 pub mod Trace

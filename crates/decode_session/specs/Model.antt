@@ -13,7 +13,7 @@ use Rattle.options.specs.Limits.{Decoding, settled, ceilingOf}
 use Rattle.decoder.specs.Image.{imageSettings, readImage}
 use Rattle.decoder.specs.Frames.{framesOf}
 use Rattle.decode_session.specs.Sequence.{sequence, most}
-use Rattle.decode_session.specs.Extension.{fieldBytes}
+use Rattle.header_pieces.specs.Extension.{fieldBytes}
 
 -- a refusal of the file that a call has met: code and offset
 pub data Met : Type 0 where

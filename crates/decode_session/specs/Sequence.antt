@@ -1,32 +1,16 @@
 -- What a reading puts out (document 01, "Reading session"): "Output in sequence is the body, in the asked format, up to 16 planes".
-use Prim.Native.Nat.{ℕ, zero, suc, _+_, _-_, _*_, _%_}
-use mathlib.Core.List.{List, [], _∷_, _++_}
-use lib.Dec.{leb, eqb}
+use Prim.Native.Nat.{ℕ, zero, suc, _+_, _*_}
+use mathlib.Core.List.{List, [], _++_}
+use lib.Dec.{leb}
 use lib.ListN.{length, take, drop}
 use Rattle.error.specs.Choice.{if}
 use Rattle.error.specs.Answer.{Answer, gives, refuses}
 use Rattle.header.specs.Read.{Outline}
-use Rattle.image.specs.Geometry.{rowBytes, paddingBits}
-use Rattle.image.specs.Rows.{clearLow}
 use Rattle.image.specs.declared.PixelFormat.{PixelFormat}
-use Rattle.image.specs.declared.PixelFormat.the-variants.{MonoBlack, MonoWhite}
 use Rattle.options.specs.Limits.{Decoding}
 use Rattle.decoder.specs.Body.{planeOf}
 use Rattle.decoder.specs.Image.{headerOf}
-
--- byte `at` of a body whose rows are `width` dots, with its padding cleared if it is the last of its row
-abbrev pub padded : ℕ → ℕ → ℕ → ℕ
-padded width at b = if (eqb (at % rowBytes width + 1) (rowBytes width)) (clearLow (paddingBits width) b) b
-
--- "Native reading copies padding verbatim; `convert_format` to MonoWhite inverts and clears it"
-abbrev pub bodyByte : PixelFormat → ℕ → ℕ → ℕ → ℕ
-bodyByte MonoBlack width at b = b
-bodyByte MonoWhite width at b = padded width at (255 - b)
-
--- the bytes of a body from byte `at` on
-unfoldable pub bodyFrom : PixelFormat → ℕ → ℕ → List ℕ → List ℕ
-bodyFrom format width at [] = []
-bodyFrom format width at (b ∷ bs) = bodyByte format width at b ∷ bodyFrom format width (at + 1) bs
+use Rattle.body_pieces.specs.InFormat.{bodyFrom}
 
 -- of a file so far in which no refusal is met, behind its header, up to a ceiling of planes
 abbrev pub sequenceOf : ℕ → PixelFormat → List ℕ → Answer Outline → List ℕ

@@ -15,7 +15,7 @@ use Rattle.header_reader.specs.declared.FieldsSeen.{FieldsSeen}
 use Rattle.options.specs.Limits.{Decoding, settled, ceilingOf, decoding, checkLimits}
 use Rattle.decoder.specs.Body.{planeOf}
 use Rattle.decoder.specs.Image.{imageSettings, headerOf}
-use Rattle.decode_session.specs.Internal.Head.{Reached}
+use Rattle.header_pieces.specs.Internal.Head.{Reached}
 use Rattle.decode_session.specs.Model.{Met, nothing, metAt, Model, feed, close, Told, took, frames, shut, outcome}
 use Rattle.decode_session.specs.declared.Stage.{Stage}
 use Rattle.decode_session.specs.declared.DecodeSession.{DecodeSession}

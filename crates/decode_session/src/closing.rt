@@ -1,7 +1,7 @@
 // Closing a session.
 use crate::DecodeClose;
 use crate::Stage;
-use crate::body::least;
+use body_pieces::least;
 use decoder::MAX_READ_FRAMES;
 use error::PLANE_TOO_SHORT;
 use error::WbmpError;

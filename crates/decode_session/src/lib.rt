@@ -16,15 +16,12 @@ ghost use Rattle.options.specs.Limits.{decoding};
 ghost use Rattle.decode_session.specs.Model.{opened, opening};
 ghost use Rattle.decode_session.specs.Session.{Opens, Feeds, Closes, Sees};
 
-mod body;
 mod closing;
-mod convert;
 mod feeding;
-mod head;
 mod queries;
 
 // The least length of an extension buffer: no fields are longer.
-pub const EXTENSION_BYTES: usize = 4118;
+pub const EXTENSION_BYTES: usize = header_pieces::EXTENSION_BYTES;
 
 // Where a reading stands; named in public so that structs of other crates can hold a session.
 pub enum Stage {

@@ -1,7 +1,7 @@
 // What a caller can ask of a session, open or closed.
 use crate::DecodeSession;
 use crate::Stage;
-use crate::body::least;
+use body_pieces::least;
 use decoder::MAX_READ_FRAMES;
 use header_reader::FieldsSeen;
 ghost use Rattle.decode_session.specs.Session.{TellsClosed, TellsFrames, SeesFields};

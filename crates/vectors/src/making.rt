@@ -287,17 +287,9 @@ fn run(
     let progress = before.progress;
     let samples = samples_of(input);
     let start = least(progress.from, out.len());
-    let rest = &mut out[start..];
-    let begin = 0;
-    let end = least(out_at(input, progress.at), rest.len());
-    replay_encode(
-        session,
-        calls,
-        samples,
-        work,
-        &mut rest[begin..end],
-        answers,
-    )
+    let size = least(out_at(input, progress.at), out.len() - start);
+    let end = start + size;
+    replay_encode(session, calls, samples, work, &mut out[start..end], answers)
 }
 
 // Whether the answers are as the block has them, each byte of the stage's output unless its letter

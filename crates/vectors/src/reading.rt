@@ -227,10 +227,9 @@ fn run(
     let session = before.session;
     let progress = before.progress;
     let start = least(progress.from, out.len());
-    let rest = &mut out[start..];
-    let begin = 0;
-    let end = least(out_at(input, progress.at), rest.len());
-    replay_decode(session, calls, file, &mut rest[begin..end], buffer, answers)
+    let size = least(out_at(input, progress.at), out.len() - start);
+    let end = start + size;
+    replay_decode(session, calls, file, &mut out[start..end], buffer, answers)
 }
 
 // Whether the answers, each byte of the stage's output and of the extension buffer and what can be

@@ -1,0 +1,4 @@
+pub mod BodyBytes
+pub mod BodyCounts
+pub mod RowEndsCleared
+pub mod Formats

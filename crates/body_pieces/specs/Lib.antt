@@ -1,0 +1,2 @@
+pub mod InFormat
+pub mod Internal

@@ -1,0 +1,3 @@
+-- What the functions of this crate promise each other and the crates above: checked, and no part of what the documents say.
+pub mod Head
+pub mod HeadRun
