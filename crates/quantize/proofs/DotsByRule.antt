@@ -11,7 +11,7 @@ use lib.ListN.{length, getD, take}
 use Rattle.error.specs.Choice.{if}
 use Rattle.options.specs.declared.Quantize.{Quantize}
 use Rattle.options.specs.declared.Quantize.the-variants.{Threshold, Dither, Ordered}
-use Rattle.rules.specs.declared.dither.Dithered.{Dithered}
+use Rattle.rules.specs.declared.dither.RowDots.{RowDots}
 use Rattle.rules.specs.Bits.{bit, appended}
 use Rattle.rules.specs.Ordered.{bound, knownSide}
 use Rattle.rules.specs.Rule.{threshold, ordered, meaning, knownRule, carries, roomy}
@@ -54,7 +54,7 @@ module _ (rule : Quantize) (table : List ℕ) (w y x : ℕ) (gray : List ℕ) (b
         small = h;
       })
 
-  pub dots-dither : (r : Dithered) (work′ : List ℤ) → rule ≡ Dither → Diffuses w y x gray begun corner work r work′ → Gives rule (r .digits) (r .corner) work′
+  pub dots-dither : (r : RowDots) (work′ : List ℤ) → rule ≡ Dither → Diffuses w y x gray begun corner work r work′ → Gives rule (r .digits) (r .corner) work′
   dots-dither r work′ e d =
       subst (λ (x : Quantize). Gives x (r .digits) (r .corner) work′) (sym e) (record { digits = d .digits; carry = d .carry; small = d .small })
 

@@ -19,7 +19,7 @@ use Rattle.rules.specs.Rule.{Rule, meaning, knownRule, roomy}
 use Rattle.quantize.specs.Finished.{Setting, Bytewise, count, finished, takes}
 use Rattle.quantize.specs.Internal.Machine.{State, carried, emitted}
 use Rattle.quantize.specs.Internal.Turn.{stateOf, ruleOf, Sound, Shares, Served}
-use Rattle.quantize.specs.Internal.Engine.{Stands, Keeps, Holds, Counts, Machines, Defined, Ready, Runs}
+use Rattle.quantize.specs.Internal.Engine.{Stands, Keeps, Holds, Counts, Machines, Defined, Ready, Runs, ranTo}
 use Rattle.rules.proofs.Differences.{lt-or-le}
 use Rattle.rules.proofs.HeldRange.{Held}
 use Rattle.quantize.proofs.DotsByRule.{roomy-same}
@@ -138,6 +138,11 @@ runs-none q samples out work octets h =
 abbrev pub Full : Quantizer → List ℕ → List ℕ → Place → ℕ → Type 0
 Full q samples out p taken = (s : Setting) (n : ℕ) → Stands q s n → (p .frames ≤ 0) ⊎ ((length samples ≤ taken) ⊎ (count s n + length out < count s (n + taken + 1)))
 
+-- as `ran` tells it
+pub none-told : (q : Quantizer) (samples out : List ℕ) (work : List ℤ) (r : Ran) → r ≡ ranTo q (q .place) 0 0 → ((i : ℕ) → getD samples i 0 < 256)
+    → (Sound (q .rule) (q .width) (q .height) (q .place .row) (q .place .column) (q .place .begun) (q .place .corner) (length work) → ⊥) → Runs q samples out work r out work
+none-told q samples out work r e octets h = subst (λ (r : Ran). Runs q samples out work r out work) (sym e) (runs-none q samples out work octets h)
+
 module _ (q : Quantizer) (samples out : List ℕ) (work : List ℤ) (out′ : List ℕ) (work′ : List ℤ) (p : Place) (taken written : ℕ)
     (L : Loop q samples out work out′ work′ p taken written) (octets : (i : ℕ) → getD samples i 0 < 256) where
   abbrev q′ : Quantizer
@@ -211,3 +216,7 @@ module _ (q : Quantizer) (samples out : List ℕ) (work : List ℤ) (out′ : Li
           machine = machine-are;
           defined = defined-is q samples out work ran out′ work′ (L .takenFits) octets counts-is machine-are (λ s n t l. served s n t);
         }
+
+    -- as `ran` tells it
+    pub end-told : (r : Ran) → r ≡ ranTo q p taken written → Runs q samples out work r out′ work′
+    end-told r e = subst (λ (r : Ran). Runs q samples out work r out′ work′) (sym e) runs-end

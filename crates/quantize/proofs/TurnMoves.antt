@@ -9,8 +9,7 @@ use native.Mathlib.Omega.{arith}
 use lib.IntN.{ℤ}
 use lib.ListN.{length, getD, drop}
 use Rattle.quantize.specs.declared.engine.Quantizer.{Quantizer}
-use Rattle.quantize.specs.declared.turn.Next.{Next}
-use Rattle.quantize.specs.declared.turn.Part.{Part}
+use Rattle.quantize.specs.declared.turn.Advanced.{Advanced}
 use Rattle.quantize.specs.declared.turn.Place.{Place}
 use Rattle.rules.specs.Bits.{appended}
 use Rattle.rules.specs.Rule.{Rule, meaning, carries}
@@ -73,13 +72,11 @@ turn-turn q p p′ p″ xs work work′ work″ m k bytes more T U =
 module _ (q : Quantizer) (p : Place) (xs gray : List ℕ) (work : List ℤ) (so : Sound (q .rule) (q .width) (q .height) (p .row) (p .column) (p .begun) (p .corner) (length work))
     (left : 0 < p .frames) (m : ℕ) (some : 0 < m) (inRow : p .column + m ≤ q .width) (inByte : p .column % 8 + m ≤ 8) (graylong : length gray ≡ m)
     (same : (i : ℕ) → i < m → getD xs i 0 ≡ getD gray i 0) (b : Bytewise (ruleOf (q .rule) (q .table)) (p .row))
-    (r : Part) (work′ : List ℤ) (dt : Dotted (q .rule) (q .table) (q .width) (p .row) (p .column) gray (p .begun) (p .corner) work r work′)
-    (nx : Next) (ad : Advances (q .width) (q .height) (p .frames) (p .row) (p .column) m (r .digits) nx) where
+    (digits : ℕ) (work′ : List ℤ) (nx : Advanced)
+    (dt : Dotted (q .rule) (q .table) (q .width) (p .row) (p .column) gray (p .begun) (p .corner) work (record { digits = digits; corner = nx .place .corner }) work′)
+    (ad : Advances (q .width) (q .height) (p .frames) (p .row) (p .column) m digits nx) where
   abbrev rule : Rule
   rule = ruleOf (q .rule) (q .table)
-
-  abbrev place : Place
-  place = record { frames = nx .frames; row = nx .row; column = nx .column; begun = nx .begun; corner = r .corner }
 
   kept-is : rowCarry rule (q .width) (p .row) (p .column) gray (carryOf (p .corner) work) (length gray) .kept ≡ work′
   kept-is = ap (λ (c : Carry). c .kept) (dt .carry)
@@ -87,7 +84,7 @@ module _ (q : Quantizer) (p : Place) (xs gray : List ℕ) (work : List ℤ) (so 
   long-is : length work′ ≡ length work
   long-is = sym (ap length kept-is) ∙ row-long rule (q .width) (p .row) (p .column) gray (carryOf (p .corner) work) (length gray)
 
-  turned : (bytes : List ℕ) → ((s : Setting) (n : ℕ) → Suits q s → At s n (p .frames) (p .row) (p .column) → Moved s n p xs work m bytes place work′) → Turn q p xs work m bytes place work′
+  turned : (bytes : List ℕ) → ((s : Setting) (n : ℕ) → Suits q s → At s n (p .frames) (p .row) (p .column) → Moved s n p xs work m bytes (nx .place) work′) → Turn q p xs work m bytes (nx .place) work′
   turned bytes moves =
       record {
         sound = record {
@@ -113,35 +110,35 @@ module _ (q : Quantizer) (p : Place) (xs gray : List ℕ) (work : List ℤ) (so 
     by : Bytewise (s .rule) (p .row)
     by = subst (λ (x : Rule). Bytewise x (p .row)) (sym (t .rule)) b
 
-    carry-is : rowCarry (s .rule) (s .width) (p .row) (p .column) gray (carryOf (p .corner) work) m ≡ carryOf (r .corner) work′
+    carry-is : rowCarry (s .rule) (s .width) (p .row) (p .column) gray (carryOf (p .corner) work) m ≡ carryOf (nx .place .corner) work′
     carry-is = rw (t .rule, t .width, ← graylong) (dt .carry)
 
-    digits-are : appended (p .begun) (rowBit (s .rule) (s .width) (p .row) (p .column) gray (carryOf (p .corner) work)) m ≡ r .digits
+    digits-are : appended (p .begun) (rowBit (s .rule) (s .width) (p .row) (p .column) gray (carryOf (p .corner) work)) m ≡ digits
     digits-are = sym (rw (t .rule, t .width, ← graylong) (dt .digits))
 
-    state-is : (x y : ℕ) → x ≡ y → _≡_ {A = State} (record { begun = x; carry = rowCarry (s .rule) (s .width) (p .row) (p .column) gray (carryOf (p .corner) work) m }) (record { begun = y; carry = carryOf (r .corner) work′ })
+    state-is : (x y : ℕ) → x ≡ y → _≡_ {A = State} (record { begun = x; carry = rowCarry (s .rule) (s .width) (p .row) (p .column) gray (carryOf (p .corner) work) m }) (record { begun = y; carry = carryOf (nx .place .corner) work′ })
     state-is x y e = let c = carry-is in cc
 
-    moved-on : nx .whole ≡ false → Moved s n p xs work m [] place work′
+    moved-on : nx .whole ≡ false → Moved s n p xs work m [] (nx .place) work′
     moved-on h =
         let g = ad .goes h in
         let P = part-on s n st xs gray (p .frames) (p .row) (p .column) a left m in-row inByte same by m (omega arith) (omega (arith, t .width, g .inRow)) (g .inByte) in
         record { at = ad .moves s n (t .width) (t .height) a; emits = P .emits; keeps = P .keeps ∙ state-is _ _ (digits-are ∙ sym (g .begunIs)) }
 
-    moved-byte : nx .whole ≡ true → Moved s n p xs work m (nx .byte ∷ []) place work′
+    moved-byte : nx .whole ≡ true → Moved s n p xs work m (nx .byte ∷ []) (nx .place) work′
     moved-byte h =
         let g = ad .ended h in
         let P = part-last s n st xs gray (p .frames) (p .row) (p .column) a left m in-row inByte same by some (rw (t .width) (g .ends)) in
         record {
           at = ad .moves s n (t .width) (t .height) a;
           emits = P .emits ∙ ap (λ (x : ℕ). x ∷ []) (rw digits-are (sym (g .byteIs)));
-          keeps = P .keeps ∙ state-is 0 (nx .begun) (sym (g .begunIs));
+          keeps = P .keeps ∙ state-is 0 (nx .place .begun) (sym (g .begunIs));
         }
 
   -- no byte is finished
-  pub turn-on : nx .whole ≡ false → Turn q p xs work m [] place work′
+  pub turn-on : nx .whole ≡ false → Turn q p xs work m [] (nx .place) work′
   turn-on h = turned [] (λ s n t a. moved-on s n t a h)
 
   -- a byte is finished
-  pub turn-byte : nx .whole ≡ true → Turn q p xs work m (nx .byte ∷ []) place work′
+  pub turn-byte : nx .whole ≡ true → Turn q p xs work m (nx .byte ∷ []) (nx .place) work′
   turn-byte h = turned (nx .byte ∷ []) (λ s n t a. moved-byte s n t a h)

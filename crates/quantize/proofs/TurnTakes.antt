@@ -10,10 +10,8 @@ use lib.IntN.{ℤ}
 use lib.ListN.{length, getD, drop, set}
 use lib.Seq.{getD-drop}
 use Rattle.quantize.specs.declared.engine.Quantizer.{Quantizer}
-use Rattle.quantize.specs.declared.turn.Next.{Next}
-use Rattle.quantize.specs.declared.turn.Part.{Part}
+use Rattle.quantize.specs.declared.turn.Advanced.{Advanced}
 use Rattle.quantize.specs.declared.turn.Place.{Place}
-use Rattle.quantize.specs.declared.turn.Taken.{Taken}
 use Rattle.quantize.specs.Finished.{Bytewise}
 use Rattle.quantize.specs.Internal.Turn.{ruleOf, Shares, Advances, Taking, Takes}
 use Rattle.rules.proofs.Differences.{lt-or-le}
@@ -56,15 +54,9 @@ module _ (q : Quantizer) (samples out₀ : List ℕ) (work₀ : List ℤ) (out :
         begunSmall = so .begunSmall;
       }
 
-  module _ (t : Taken) (work′ : List ℤ) (T : Takes (q .rule) (q .table) (q .width) (q .height) p share work t work′) where
-    abbrev part : Part
-    part = record { digits = T .digits; corner = t .place .corner }
-
-    abbrev next : Next
-    next = record { frames = t .place .frames; row = t .place .row; column = t .place .column; begun = t .place .begun; byte = t .byte; whole = t .whole }
-
-    advances : Advances (q .width) (q .height) (p .frames) (p .row) (p .column) m (T .digits) next
-    advances = subst (λ (n : ℕ). Advances (q .width) (q .height) (p .frames) (p .row) (p .column) n (T .digits) next) long (T .advances)
+  module _ (t : Advanced) (work′ : List ℤ) (T : Takes (q .rule) (q .table) (q .width) (q .height) p share work t work′) where
+    advances : Advances (q .width) (q .height) (p .frames) (p .row) (p .column) m (T .digits) t
+    advances = subst (λ (n : ℕ). Advances (q .width) (q .height) (p .frames) (p .row) (p .column) n (T .digits) t) long (T .advances)
 
     -- a byte is finished only where there is room for it
     pub took-room : t .whole ≡ true → written < length out
@@ -82,6 +74,6 @@ module _ (q : Quantizer) (samples out₀ : List ℕ) (work₀ : List ℤ) (out :
       loop-took out′ written′ =
           ⊎-elim
           (λ v. rw (v .1, v .2) (loop-byte q samples out₀ work₀ out work p taken written L m (t .byte) (t .place) work′
-          (turn-byte q p (drop taken samples) share work (L .turn .sound) left m (omega (arith, some)) (sh .inRow) (sh .inByte) long (piece-same samples taken m) b part work′ (T .dotted) next advances (v .0)) end-fits (took-room (v .0))))
+          (turn-byte q p (drop taken samples) share work (L .turn .sound) left m (omega (arith, some)) (sh .inRow) (sh .inByte) long (piece-same samples taken m) b (T .digits) work′ t (T .dotted) advances (v .0)) end-fits (took-room (v .0))))
           (λ v. rw (v .1, v .2) (loop-on q samples out₀ work₀ out work p taken written L m (t .place) work′
-          (turn-on q p (drop taken samples) share work (L .turn .sound) left m (omega (arith, some)) (sh .inRow) (sh .inByte) long (piece-same samples taken m) b part work′ (T .dotted) next advances (v .0)) end-fits))
+          (turn-on q p (drop taken samples) share work (L .turn .sound) left m (omega (arith, some)) (sh .inRow) (sh .inByte) long (piece-same samples taken m) b (T .digits) work′ t (T .dotted) advances (v .0)) end-fits))

@@ -1,21 +1,9 @@
 // What a setting asks for: a known side, and a work buffer where the rule keeps carries.
 use options::Quantize;
+use rules::known_side;
 ghost use mathlib.Core.Path.{_≡_};
 ghost use Rattle.rules.specs.Rule.{meaning, knownRule};
-ghost use Rattle.rules.specs.Ordered.{knownSide};
 ghost use Rattle.rules.specs.Rule;
-
-fn known(side: u8) -> bool
-    ensures { λ r. ⌜ r ≡ knownSide side ⌝ }
-{
-    if side == 2 {
-        return true;
-    }
-    if side == 4 {
-        return true;
-    }
-    side == 8
-}
 
 // Whether the rule's side is one of document 01's.
 pub fn known_rule(rule: Quantize) -> bool
@@ -24,7 +12,7 @@ pub fn known_rule(rule: Quantize) -> bool
     match rule {
         Quantize::Threshold(_) => true,
         Quantize::Dither => true,
-        Quantize::Ordered(side) => known(side),
+        Quantize::Ordered(side) => known_side(side),
     }
 }
 

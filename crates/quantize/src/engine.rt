@@ -8,7 +8,7 @@ use crate::turn::take;
 use options::Quantize;
 use rules::numbers;
 ghost use mathlib.Core.Path.{_≡_};
-ghost use Rattle.quantize.specs.Internal.Engine.{Opens, Runs, Tabled, spotOf, roomFor, behindFrames};
+ghost use Rattle.quantize.specs.Internal.Engine.{Opens, Runs, Tabled, ranTo, spotOf, roomFor, behindFrames};
 ghost use Rattle.quantize.specs.Internal.Turn.{Able};
 
 // Samples of at most so many frames on their way to bytes.
@@ -100,21 +100,17 @@ impl Quantizer {
         let mut taken: usize = 0;
         let mut written: usize = 0;
         if !able(rule, width, height, p, work.len()) {
-            return Ran {
-                quantizer: self,
-                taken: 0,
-                written: 0,
-            };
+            return self.ran(p, 0, 0);
         }
         while 0 < p.frames {
-            let f = fill_row(rule, width, p, samples, taken, out, written, work);
-            taken += 8 * f.bytes;
-            written += f.bytes;
-            p.column += 8 * f.bytes;
+            let f = fill_row(rule, width, p, &samples[taken..], &mut out[written..], work);
+            taken += 8 * f.count;
+            written += f.count;
+            p.column += 8 * f.count;
             p.corner = f.corner;
             let m = share(width, p.column, samples.len() - taken, out.len() - written);
             if m == 0 {
-                break;
+                return self.ran(p, taken, written);
             }
             let end = taken + m;
             let t = take(rule, &table, width, height, p, &samples[taken..end], work);
@@ -125,14 +121,16 @@ impl Quantizer {
             p = t.place;
             taken = end;
         }
+        self.ran(p, taken, written)
+    }
+
+    // This quantizer at another place, and what was taken and written on the way there.
+    fn ran(mut self, place: Place, taken: usize, written: usize) -> Ran
+        ensures { λ r. ⌜ r ≡ ranTo self place taken written ⌝ }
+    {
+        self.place = place;
         Ran {
-            quantizer: Quantizer {
-                rule: rule,
-                table: table,
-                width: width,
-                height: height,
-                place: p,
-            },
+            quantizer: self,
             taken: taken,
             written: written,
         }

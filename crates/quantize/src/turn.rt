@@ -1,15 +1,16 @@
 // A turn of the engine: whole bytes at once, then the samples of one byte.
 use options::Quantize;
-use rules::dither_bytes;
-use rules::dither_dots;
-use rules::ordered_dots;
-use rules::threshold_bytes;
-use rules::threshold_dots;
+use rules::RowDots;
+use rules::dither_row_bytes;
+use rules::dither_row_dots;
+use rules::ordered_row_dots;
+use rules::threshold_row_bytes;
+use rules::threshold_row_dots;
 ghost use mathlib.Core.Path.{_≡_};
+ghost use mathlib.Core.Bool.{true};
 ghost use Prim.Native.Nat.{_+_, _-_, _*_, _^_, _≤_, _<_};
 ghost use lib.ListN.{length};
-ghost use Rattle.quantize.specs.Internal.Turn.{Served, Wholes, AtOnce, Shares, Dotting, Dotted, Advancing, Advances, Taking, Takes, Fills, RowFilling, RowFilled};
-ghost use Rattle.rules.specs.Internal.Row.{Filling};
+ghost use Rattle.quantize.specs.Internal.Turn.{Wholes, AtOnce, BytesFilling, Shares, Dotting, Dotted, Advancing, Advances, Taking, Takes, Fills, RowFilling, RowFilled};
 
 // Where the next sample goes, and what is kept for it.
 pub struct Place {
@@ -24,30 +25,14 @@ pub struct Place {
 }
 
 // How many bytes were written at once, and the corner after them.
-pub struct Filled {
-    pub bytes: usize,
+pub struct BytesFilled {
+    pub count: usize,
     pub corner: u32,
 }
 
 // The place after some samples, the byte that they go into, and whether they finish it.
-pub struct Taken {
+pub struct Advanced {
     pub place: Place,
-    pub byte: u8,
-    pub whole: bool,
-}
-
-// The digits of the begun byte after some samples, and the corner.
-pub struct Part {
-    pub digits: u32,
-    pub corner: u32,
-}
-
-// The place after some samples, but for the corner, and the byte that they go into.
-pub struct Next {
-    pub frames: usize,
-    pub row: usize,
-    pub column: usize,
-    pub begun: u32,
     pub byte: u8,
     pub whole: bool,
 }
@@ -81,74 +66,46 @@ fn bytes_at_once(rule: Quantize, width: usize, column: usize, samples: usize, ro
     }
 }
 
-// So many whole bytes of a row, but not its last, of the samples from index `at` on, into the output from index `to` on. Answers the corner after them.
+// Whole bytes of a row, but not its last: as many as the output has. Answers the corner after them.
 fn fill(
     rule: Quantize,
     width: usize,
-    y: usize,
-    column: usize,
+    p: Place,
     samples: &[u8],
-    at: usize,
     out: &mut [u8],
-    to: usize,
-    count: usize,
-    corner: u32,
     work: &mut [i16],
 ) -> u32
-    requires { ⌜ Filling width column (length (now samples)) at (length (now out)) to count corner × (Served rule width (length (now work)) × (0 < count → AtOnce rule)) ⌝ }
-    ensures { λ r. ⌜ Fills rule width y column (now (samples .entry)) at (now (out .entry)) to corner (now (work .entry)) count (now (out .exit)) r (now (work .exit)) ⌝ }
+    requires { ⌜ BytesFilling rule width p (length (now samples)) (length (now out)) (length (now work)) ⌝ }
+    ensures { λ r. ⌜ Fills rule width (p .row) (p .column) (now (samples .entry)) (p .corner) (now (work .entry)) (length (now (out .entry))) (now (out .exit)) r (now (work .exit)) ⌝ }
 {
     match rule {
         Quantize::Threshold(bound) => {
-            threshold_bytes(bound, samples, at, out, to, count);
-            corner
+            threshold_row_bytes(bound, samples, out);
+            p.corner
         }
-        Quantize::Dither => dither_bytes(
-            width,
-            y,
-            column,
-            samples,
-            at,
-            out,
-            to,
-            count,
-            corner,
-            work,
-        ),
-        Quantize::Ordered(_) => corner,
+        Quantize::Dither => {
+            dither_row_bytes(width, p.row, p.column, samples, out, p.corner, work)
+        }
+        Quantize::Ordered(_) => p.corner,
     }
 }
 
-// As many whole bytes of the row as the samples from index `at` on give and the output from index `to` on takes.
+// As many whole bytes of the row as the samples give and the output takes.
 pub(crate) fn fill_row(
     rule: Quantize,
     width: usize,
     p: Place,
     samples: &[u8],
-    at: usize,
     out: &mut [u8],
-    to: usize,
     work: &mut [i16],
-) -> Filled
-    requires { ⌜ RowFilling rule width p (length (now samples)) at (length (now out)) to (length (now work)) ⌝ }
-    ensures { λ r. ⌜ RowFilled rule width p (now (samples .entry)) at (now (out .entry)) to (now (work .entry)) r (now (out .exit)) (now (work .exit)) ⌝ }
+) -> BytesFilled
+    requires { ⌜ RowFilling rule width p (length (now work)) ⌝ }
+    ensures { λ r. ⌜ RowFilled rule width p (now (samples .entry)) (now (out .entry)) (now (work .entry)) r (now (out .exit)) (now (work .exit)) ⌝ }
 {
-    let k = bytes_at_once(rule, width, p.column, samples.len() - at, out.len() - to);
-    let corner = fill(
-        rule,
-        width,
-        p.row,
-        p.column,
-        samples,
-        at,
-        out,
-        to,
-        k,
-        p.corner,
-        work,
-    );
-    Filled {
-        bytes: k,
+    let k = bytes_at_once(rule, width, p.column, samples.len(), out.len());
+    let corner = fill(rule, width, p, samples, &mut out[..k], work);
+    BytesFilled {
+        count: k,
         corner: corner,
     }
 }
@@ -168,36 +125,29 @@ pub(crate) fn share(width: usize, column: usize, samples: usize, room: usize) ->
     if samples < most { samples } else { most }
 }
 
-// The digits of `begun`, and then a dot for each sample, from a column of row y on.
+// The digits of the begun byte, and then a dot for each sample.
 fn dots(
     rule: Quantize,
     table: &[u8; 64],
     width: usize,
-    y: usize,
-    column: usize,
+    p: Place,
     gray: &[u8],
-    begun: u32,
-    corner: u32,
     work: &mut [i16],
-) -> Part
-    requires { ⌜ Dotting rule width column (length (now gray)) begun corner (length (now work)) ⌝ }
-    ensures { λ r. ⌜ Dotted rule (now (table .entry)) width y column (now (gray .entry)) begun corner (now (work .entry)) r (now (work .exit)) ⌝ }
+) -> RowDots
+    requires { ⌜ Dotting rule width (p .column) (length (now gray)) (p .begun) (p .corner) (length (now work)) ⌝ }
+    ensures { λ r. ⌜ Dotted rule (now (table .entry)) width (p .row) (p .column) (now (gray .entry)) (p .begun) (p .corner) (now (work .entry)) r (now (work .exit)) ⌝ }
 {
     match rule {
-        Quantize::Threshold(bound) => Part {
-            digits: threshold_dots(bound, gray, begun),
-            corner: corner,
+        Quantize::Threshold(bound) => RowDots {
+            digits: threshold_row_dots(bound, gray, p.begun),
+            corner: p.corner,
         },
         Quantize::Dither => {
-            let d = dither_dots(width, y, column, gray, begun, corner, work);
-            Part {
-                digits: d.digits,
-                corner: d.corner,
-            }
+            dither_row_dots(width, p.row, p.column, gray, p.begun, p.corner, work)
         }
-        Quantize::Ordered(side) => Part {
-            digits: ordered_dots(table, side, y, column, gray, begun),
-            corner: corner,
+        Quantize::Ordered(side) => RowDots {
+            digits: ordered_row_dots(table, side, p.row, p.column, gray, p.begun),
+            corner: p.corner,
         },
     }
 }
@@ -210,60 +160,46 @@ fn pad(digits: u32, m: u32) -> u8
     (digits << (8 - m)) as u8
 }
 
-// The place after m samples more, which end no later than the begun byte; the byte, and whether they finish it.
-fn advance(
-    width: usize,
-    height: usize,
-    frames: usize,
-    row: usize,
-    column: usize,
-    m: usize,
-    digits: u32,
-) -> Next
-    requires { ⌜ Advancing width height frames row column m digits ⌝ }
-    ensures { λ r. ⌜ Advances width height frames row column m digits r ⌝ }
+// A byte that is finished, and the place behind it.
+fn whole_byte(place: Place, byte: u8) -> Advanced
+    ensures { λ r. ⌜ r ≡ record { place = place; byte = byte; whole = true } ⌝ }
 {
-    let to = column + m;
-    let dots = column % 8 + m;
+    Advanced {
+        place: place,
+        byte: byte,
+        whole: true,
+    }
+}
+
+// The place after m samples more, which end no later than the begun byte; the byte, and whether they finish it.
+fn advance(width: usize, height: usize, p: Place, m: usize, digits: u32) -> Advanced
+    requires { ⌜ Advancing width height (p .frames) (p .row) (p .column) m digits ⌝ }
+    ensures { λ r. ⌜ Advances width height (p .frames) (p .row) (p .column) m digits r × (r .place .corner ≡ p .corner) ⌝ }
+{
+    let dots = p.column % 8 + m;
     let byte = pad(digits, dots as u32);
-    if to < width {
+    let mut place = p;
+    place.column = p.column + m;
+    place.begun = 0;
+    if place.column < width {
         if dots < 8 {
-            return Next {
-                frames: frames,
-                row: row,
-                column: to,
-                begun: digits,
+            place.begun = digits;
+            return Advanced {
+                place: place,
                 byte: byte,
                 whole: false,
             };
         }
-        return Next {
-            frames: frames,
-            row: row,
-            column: to,
-            begun: 0,
-            byte: byte,
-            whole: true,
-        };
+        return whole_byte(place, byte);
     }
-    if row + 1 < height {
-        return Next {
-            frames: frames,
-            row: row + 1,
-            column: 0,
-            begun: 0,
-            byte: byte,
-            whole: true,
-        };
+    place.column = 0;
+    place.row = p.row + 1;
+    if place.row < height {
+        return whole_byte(place, byte);
     }
-    Next {
-        frames: frames - 1,
-        row: 0,
-        column: 0,
-        begun: 0,
-        byte: byte,
-        whole: true,
-    }
+    place.row = 0;
+    place.frames = p.frames - 1;
+    whole_byte(place, byte)
 }
 
 // Takes samples that end no later than the begun byte.
@@ -275,39 +211,12 @@ pub(crate) fn take(
     p: Place,
     gray: &[u8],
     work: &mut [i16],
-) -> Taken
+) -> Advanced
     requires { ⌜ Taking rule width height p (length (now gray)) (length (now work)) ⌝ }
     ensures { λ r. ⌜ Takes rule (now (table .entry)) width height p (now (gray .entry)) (now (work .entry)) r (now (work .exit)) ⌝ }
 {
-    let d = dots(
-        rule,
-        table,
-        width,
-        p.row,
-        p.column,
-        gray,
-        p.begun,
-        p.corner,
-        work,
-    );
-    let n = advance(
-        width,
-        height,
-        p.frames,
-        p.row,
-        p.column,
-        gray.len(),
-        d.digits,
-    );
-    Taken {
-        place: Place {
-            frames: n.frames,
-            row: n.row,
-            column: n.column,
-            begun: n.begun,
-            corner: d.corner,
-        },
-        byte: n.byte,
-        whole: n.whole,
-    }
+    let d = dots(rule, table, width, p, gray, work);
+    let mut place = p;
+    place.corner = d.corner;
+    advance(width, height, place, gray.len(), d.digits)
 }

@@ -11,10 +11,11 @@ use borrow.Author.Tests.{le-leb, lt-leb}
 use lib.Dec.{leb}
 use lib.IntN.{ℤ, subℕ}
 use lib.ListN.{length, getD}
-use Rattle.rules.specs.Bits.{bit, digits, appended}
+use Rattle.rules.specs.declared.row.Neighbours.{Neighbours}
+use Rattle.rules.specs.Bits.{bit, digits, appended, upto}
 use Rattle.rules.specs.Rule.{dither}
 use Rattle.rules.specs.Internal.Carry.{leftOf, cornerOf, overOf}
-use Rattle.rules.specs.Internal.Kernels.{Biased, Dots, thresholdFrom, stored}
+use Rattle.rules.specs.Internal.Kernels.{Biased, Dots, thresholdFrom, thresholdBytes}
 use Rattle.rules.specs.Internal.Row.{Near, Calm, Bytes}
 use Rattle.rules.proofs.Differences.{lt-or-le}
 use Rattle.rules.proofs.ListPiece.{piece, piece-length, piece-at}
@@ -28,7 +29,7 @@ half g h = ⊎-elim (λ l. rw (lt-leb 128 g l) (omega arith)) (λ l. rw (le-leb 
 -- one byte
 module _ (w y x corner : ℕ) (samples : List ℕ) (from : ℕ) (work : List ℤ) (there : from + 8 ≤ length samples) (below : 0 < y) (inRow : x + 8 < w) (room : w ≤ length work)
     (octets : (i : ℕ) → getD samples i 0 < 256) (plain : (i : ℕ) → i < 8 → getD samples (from + i) 0 % 255 ≡ 0)
-    (near : Near w y x corner work 128 128 128) (over : (i : ℕ) → i ≤ 8 → Biased (overOf w y work (x + i)) 128) where
+    (near : Near w y x corner work (record { left = 128; corner = 128; above = 128 })) (over : (i : ℕ) → i ≤ 8 → Biased (overOf w y work (x + i)) 128) where
   abbrev eight : List ℕ
   eight = piece samples from 8
 
@@ -50,21 +51,24 @@ module _ (w y x corner : ℕ) (samples : List ℕ) (from : ℕ) (work : List ℤ
       inv-end w y x eight 0 corner work work 128 (appended 0 (thresholdFrom 128 samples from) 8) 128 128 8 (turns 8 (omega arith)) (omega arith) (omega arith)
 
 -- so many bytes
-module _ (w y x corner : ℕ) (samples out : List ℕ) (at to count : ℕ) (work : List ℤ) (left aboveLeft : ℕ) (there : at + 8 * count ≤ length samples) (inRow : x + 8 * count < w) (room : w ≤ length work)
-    (octets : (i : ℕ) → getD samples i 0 < 256) (leftIs : Biased (leftOf work x) left) (cornerIs : Biased (cornerOf (subℕ corner 128) x) aboveLeft) (calm : Calm y x samples at (8 * count) left aboveLeft work) where
+module _ (w y x corner : ℕ) (samples : List ℕ) (count : ℕ) (work : List ℤ) (n : Neighbours) (there : 8 * count ≤ length samples) (inRow : x + 8 * count < w) (room : w ≤ length work)
+    (octets : (i : ℕ) → getD samples i 0 < 256) (leftIs : Biased (leftOf work x) (n .left)) (cornerIs : Biased (cornerOf (subℕ corner 128) x) (n .corner)) (calm : Calm y x samples (8 * count) n work) where
   -- the corner after so many bytes
   abbrev after : ℕ → ℕ
   after zero = corner
   after (suc k) = 128
 
+  abbrev zeros : Neighbours
+  zeros = record { left = 128; corner = 128; above = 128 }
+
   over : (i : ℕ) → i ≤ 8 * count → Biased (overOf w y work (x + i)) 128
   over i h = rw (over-in w work y (x + i) (calm .below) (omega arith), calm .clear i (omega arith)) biased-zero
 
-  near : (k : ℕ) → k < count → Near w y (x + 8 * k) (after k) work 128 128 128
+  near : (k : ℕ) → k < count → Near w y (x + 8 * k) (after k) work zeros
   near zero h =
       record {
-        leftIs = rw add-zero (subst (λ (n : ℕ). Biased (leftOf work x) n) (calm .leftIs) leftIs);
-        cornerIs = rw add-zero (subst (λ (n : ℕ). Biased (cornerOf (subℕ corner 128) x) n) (calm .cornerIs) cornerIs);
+        leftIs = rw add-zero (subst (λ (i : ℕ). Biased (leftOf work x) i) (calm .leftIs) leftIs);
+        cornerIs = rw add-zero (subst (λ (i : ℕ). Biased (cornerOf (subℕ corner 128) x) i) (calm .cornerIs) cornerIs);
         aboveIs = over 0 (omega arith);
       }
   near (suc k) h =
@@ -76,25 +80,25 @@ module _ (w y x corner : ℕ) (samples out : List ℕ) (at to count : ℕ) (work
         aboveIs = over (8 * suc k) (omega arith);
       }
 
-  calm-bytes : (k : ℕ) → k ≤ count → Bytes dither w y x samples at out to corner work k (stored 128 samples at out to k) (after k) work
-  unfolding Bytes stored
+  calm-bytes : (k : ℕ) → k ≤ count → Bytes dither w y x samples corner work k (thresholdBytes 128 samples k) (after k) work
+  unfolding Bytes upto
   calm-bytes zero h = (refl, (refl, refl))
   calm-bytes (suc k) h =
       record {
-        out = stored 128 samples at out to k;
+        bytes = thresholdBytes 128 samples k;
         corner = after k;
         work = work;
-        byte = digits (thresholdFrom 128 samples (at + 8 * k)) 8;
+        byte = digits (thresholdFrom 128 samples (8 * k)) 8;
         before = calm-bytes k (omega arith);
-        dots = calm-byte w y (x + 8 * k) (after k) samples (at + 8 * k) work (omega arith) (calm .below) (omega arith) room octets
-            (λ i l. let e : at + 8 * k + i ≡ at + (8 * k + i) = omega arith in rw e (calm .plain (8 * k + i) (omega arith))) (near k (omega arith))
+        dots = calm-byte w y (x + 8 * k) (after k) samples (8 * k) work (omega arith) (calm .below) (omega arith) room octets
+            (λ i l. let e : 8 * k + i ≡ 0 + (8 * k + i) = omega arith in rw e (calm .plain (8 * k + i) (omega arith))) (near k (omega arith))
             (λ i l. let e : x + 8 * k + i ≡ x + (8 * k + i) = omega arith in rw e (over (8 * k + i) (omega arith)));
-        stored = refl;
+        more = refl;
       }
 
-  pub calm-all : 0 < count → Bytes dither w y x samples at out to corner work count (stored 128 samples at out to count) 128 work
+  pub calm-all : 0 < count → Bytes dither w y x samples corner work count (thresholdBytes 128 samples count) 128 work
   calm-all h = go count refl
     where
-      go : (k : ℕ) → k ≡ count → Bytes dither w y x samples at out to corner work count (stored 128 samples at out to count) 128 work
+      go : (k : ℕ) → k ≡ count → Bytes dither w y x samples corner work count (thresholdBytes 128 samples count) 128 work
       go zero e = let z : ⊥ = omega arith in absurd z
-      go (suc k) e = subst (λ (n : ℕ). Bytes dither w y x samples at out to corner work n (stored 128 samples at out to n) 128 work) e (calm-bytes (suc k) (omega arith))
+      go (suc k) e = subst (λ (i : ℕ). Bytes dither w y x samples corner work i (thresholdBytes 128 samples i) 128 work) e (calm-bytes (suc k) (omega arith))

@@ -2,13 +2,15 @@
 -- Assumes nothing.
 use Prim.Native.Nat.{ℕ, zero, suc, _+_, _*_, _≤_, _<_}
 use mathlib.Core.Path.{_≡_, refl, sym, ap, _∙_, subst}
-use mathlib.Core.List.{List}
+use mathlib.Core.List.{List, [], _∷_}
 use native.Mathlib.Nat.{add-zero}
 use native.Mathlib.Numerals.{add-one}
 use native.Mathlib.Omega.{arith}
 use lib.IntN.{ℤ, subℕ}
-use lib.ListN.{length, getD, set, length-set}
-use Rattle.rules.specs.declared.row.Eight.{Eight}
+use lib.ListN.{length, getD, take, set, length-set}
+use lib.Seq.{take-all, take-suc-set}
+use Rattle.rules.specs.declared.row.Neighbours.{Neighbours}
+use Rattle.rules.specs.declared.row.DitheredByte.{DitheredByte}
 use Rattle.rules.specs.Bits.{bit}
 use Rattle.rules.specs.Rule.{Rule, dither}
 use Rattle.rules.specs.Internal.Carry.{Carry, cornerOf, valueOf, diffused, machineDot, next}
@@ -19,10 +21,10 @@ use Rattle.rules.proofs.ListPiece.{piece, piece-length}
 use Rattle.rules.proofs.DitherDotsLoop.{dots-small}
 use Rattle.rules.proofs.RowKept.{row-long}
 
-pub bytes-none : (rule : Rule) (w y x : ℕ) (samples : List ℕ) (at : ℕ) (out : List ℕ) (to corner : ℕ) (work : List ℤ) (k : ℕ) → k ≡ 0 → Bytes rule w y x samples at out to corner work k out corner work
+pub bytes-none : (rule : Rule) (w y x : ℕ) (samples : List ℕ) (corner : ℕ) (work : List ℤ) (out : List ℕ) → length out ≡ 0 → Bytes rule w y x samples corner work (length out) out corner work
 unfolding Bytes
-bytes-none rule w y x samples at out to corner work k e =
-    subst (λ (n : ℕ). Bytes rule w y x samples at out to corner work n out corner work) (sym e) (refl, (refl, refl))
+bytes-none rule w y x samples corner work [] e = (refl, (refl, refl))
+bytes-none rule w y x samples corner work (b ∷ out) e = let z : ⊥ = omega arith in absurd z
 
 -- at a row's start any corner will do
 module _ (w y x : ℕ) (gray : List ℕ) (work : List ℤ) (a b : ℕ) (same : cornerOf (subℕ a 128) x ≡ cornerOf (subℕ b 128) x) where
@@ -52,70 +54,73 @@ module _ (w y x : ℕ) (gray : List ℕ) (work : List ℤ) (a b : ℕ) (same : c
       go (suc n) e l = rw (← e) (sym (carry-same n))
 
 -- the number at hand is itself a corner
-pub near-own : (w y x corner : ℕ) (work : List ℤ) (left aboveLeft above : ℕ) → Near w y x corner work left aboveLeft above → Near w y x aboveLeft work left aboveLeft above
-near-own w y zero corner work left aboveLeft above n = record { leftIs = n .leftIs; cornerIs = n .cornerIs; aboveIs = n .aboveIs }
-near-own w y (suc x) corner work left aboveLeft above n = record { leftIs = n .leftIs; cornerIs = record { is = refl; small = n .cornerIs .small }; aboveIs = n .aboveIs }
+pub near-own : (w y x corner : ℕ) (work : List ℤ) (n : Neighbours) → Near w y x corner work n → Near w y x (n .corner) work n
+near-own w y zero corner work n h = record { leftIs = h .leftIs; cornerIs = h .cornerIs; aboveIs = h .aboveIs }
+near-own w y (suc x) corner work n h = record { leftIs = h .leftIs; cornerIs = record { is = refl; small = h .cornerIs .small }; aboveIs = h .aboveIs }
 
-module _ (w y x : ℕ) (samples : List ℕ) (at : ℕ) (out₀ : List ℕ) (to corner : ℕ) (work₀ : List ℤ) (count : ℕ) where
+module _ (w y x : ℕ) (samples : List ℕ) (corner : ℕ) (work₀ : List ℤ) (count : ℕ) where
   -- after k bytes
-  pub record Chain (out : List ℕ) (work : List ℤ) (left aboveLeft above k : ℕ) : Type 0 where
+  pub record Chain (out : List ℕ) (work : List ℤ) (n : Neighbours) (k : ℕ) : Type 0 where
     pub bound : k ≤ count
-    pub outLong : length out ≡ length out₀
+    pub outLong : length out ≡ count
     pub workLong : length work ≡ length work₀
     pub last : ℕ
-    pub bytes : Bytes dither w y x samples at out₀ to corner work₀ k out last work
-    pub near : Near w y (x + 8 * k) last work left aboveLeft above
-    pub lastIs : 0 < k → last ≡ aboveLeft
+    pub bytes : Bytes dither w y x samples corner work₀ k (take k out) last work
+    pub near : Near w y (x + 8 * k) last work n
+    pub lastIs : 0 < k → last ≡ n .corner
 
-  pub chain-start : (left aboveLeft above : ℕ) → Near w y x corner work₀ left aboveLeft above → Chain out₀ work₀ left aboveLeft above 0
+  pub chain-start : (out : List ℕ) (n : Neighbours) → length out ≡ count → Near w y x corner work₀ n → Chain out work₀ n 0
   unfolding Bytes
-  chain-start left aboveLeft above n =
-      record { bound = omega arith; outLong = refl; workLong = refl; last = corner; bytes = (refl, (refl, refl)); near = rw add-zero n; lastIs = λ h. let z : ⊥ = omega arith in absurd z }
+  chain-start out n e h =
+      record { bound = omega arith; outLong = e; workLong = refl; last = corner; bytes = (refl, (refl, refl)); near = rw add-zero h; lastIs = λ h. let z : ⊥ = omega arith in absurd z }
 
-  module _ (out : List ℕ) (work : List ℤ) (left aboveLeft above k : ℕ) (C : Chain out work left aboveLeft above k) (more : k < count) (there : at + 8 * k + 8 ≤ length samples)
-      (r : Eight) (work′ : List ℤ) (d : Diffused w y (x + 8 * k) (piece samples (at + 8 * k) 8) aboveLeft work r work′) where
-    eight : length (piece samples (at + 8 * k) 8) ≡ 8
-    eight = piece-length samples (at + 8 * k) 8 there
+  module _ (out : List ℕ) (work : List ℤ) (n : Neighbours) (k : ℕ) (C : Chain out work n k) (more : k < count) (there : 8 * k + 8 ≤ length samples)
+      (r : DitheredByte) (work′ : List ℤ) (d : Diffused w y (x + 8 * k) (piece samples (8 * k) 8) (n .corner) work r work′) where
+    eight : length (piece samples (8 * k) 8) ≡ 8
+    eight = piece-length samples (8 * k) 8 there
 
     pub byte-small : r .digits < 256
     byte-small =
-        dots-small dither w y (x + 8 * k) (piece samples (at + 8 * k) 8) 0 aboveLeft work (r .digits) (r .corner) work′ 0 8 (d .dots) (omega arith) eight
+        dots-small dither w y (x + 8 * k) (piece samples (8 * k) 8) 0 (n .corner) work (r .digits) (r .next .corner) work′ 0 8 (d .dots) (omega arith) eight
 
-    same : cornerOf (subℕ aboveLeft 128) (x + 8 * k) ≡ cornerOf (subℕ (C .last) 128) (x + 8 * k)
-    same = near-own w y (x + 8 * k) (C .last) work left aboveLeft above (C .near) .cornerIs .is ∙ sym (C .near .cornerIs .is)
+    same : cornerOf (subℕ (n .corner) 128) (x + 8 * k) ≡ cornerOf (subℕ (C .last) 128) (x + 8 * k)
+    same = near-own w y (x + 8 * k) (C .last) work n (C .near) .cornerIs .is ∙ sym (C .near .cornerIs .is)
 
     work-long : length work′ ≡ length work
     work-long =
         sym (ap (λ (c : Carry). length (c .kept)) (d .dots .carry))
-        ∙ row-long dither w y (x + 8 * k) (piece samples (at + 8 * k) 8) (carryOf aboveLeft work) (length (piece samples (at + 8 * k) 8))
+        ∙ row-long dither w y (x + 8 * k) (piece samples (8 * k) 8) (carryOf (n .corner) work) (length (piece samples (8 * k) 8))
 
-    pub chain-more : Chain (set out (to + k) (r .digits)) work′ (r .left) (r .corner) (r .above) (k + 1)
+    pub chain-more : Chain (set out k (r .digits)) work′ (r .next) (k + 1)
     unfolding Bytes
     chain-more =
         let e : x + 8 * k + 8 ≡ x + 8 * (k + 1) = omega arith in
         record {
           bound = omega arith;
-          outLong = length-set out (to + k) (r .digits) ∙ C .outLong;
+          outLong = length-set out k (r .digits) ∙ C .outLong;
           workLong = work-long ∙ C .workLong;
-          last = r .corner;
+          last = r .next .corner;
           bytes = rw (add-one k)
               (record {
-                out = out;
+                bytes = take k out;
                 corner = C .last;
                 work = work;
                 byte = r .digits;
                 before = C .bytes;
-                dots = dots-corner w y (x + 8 * k) (piece samples (at + 8 * k) 8) work aboveLeft (C .last) same 0 (r .digits) (r .corner) work′ (omega (arith, eight)) (d .dots);
-                stored = refl;
+                dots = dots-corner w y (x + 8 * k) (piece samples (8 * k) 8) work (n .corner) (C .last) same 0 (r .digits) (r .next .corner) work′ (omega (arith, eight)) (d .dots);
+                more = take-suc-set out k (r .digits) (omega (arith, C .outLong));
               });
-          near = subst (λ (n : ℕ). Near w y n (r .corner) work′ (r .left) (r .corner) (r .above)) e (subst (λ (n : ℕ). Near w y (x + 8 * k + n) (r .corner) work′ (r .left) (r .corner) (r .above)) eight (d .near));
+          near = subst (λ (i : ℕ). Near w y i (r .next .corner) work′ (r .next)) e
+              (subst (λ (i : ℕ). Near w y (x + 8 * k + i) (r .next .corner) work′ (r .next)) eight (d .near));
           lastIs = λ _. refl;
         }
 
-  pub chain-end : (out : List ℕ) (work : List ℤ) (left aboveLeft above k : ℕ) → Chain out work left aboveLeft above k → count ≤ k → 0 < count
-      → Bytes dither w y x samples at out₀ to corner work₀ count out aboveLeft work
-  chain-end out work left aboveLeft above k C h s =
+  pub chain-end : (out : List ℕ) (work : List ℤ) (n : Neighbours) (k : ℕ) → Chain out work n k → count ≤ k → 0 < count
+      → Bytes dither w y x samples corner work₀ count out (n .corner) work
+  chain-end out work n k C h s =
       let b = C .bound in
       let e : k ≡ count = omega arith in
-      subst (λ (n : ℕ). Bytes dither w y x samples at out₀ to corner work₀ n out aboveLeft work) e
-      (subst (λ (n : ℕ). Bytes dither w y x samples at out₀ to corner work₀ k out n work) (C .lastIs (omega arith)) (C .bytes))
+      let all : take k out ≡ out = take-all k out (omega (arith, C .outLong)) in
+      subst (λ (i : ℕ). Bytes dither w y x samples corner work₀ i out (n .corner) work) e
+      (subst (λ (i : ℕ). Bytes dither w y x samples corner work₀ k out i work) (C .lastIs (omega arith))
+      (subst (λ (l : List ℕ). Bytes dither w y x samples corner work₀ k l (C .last) work) all (C .bytes)))

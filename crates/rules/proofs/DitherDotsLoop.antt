@@ -103,7 +103,7 @@ module _ (w y x : ℕ) (gray : List ℕ) (begun corner : ℕ) (work₀ : List �
 
   -- the residuals next to the dot after the last one
   pub inv-near : (work : List ℤ) (left digits aboveLeft above i : ℕ) → Inv work left digits aboveLeft above i → length gray ≤ i → 0 < length gray
-      → Near w y (x + length gray) aboveLeft work left aboveLeft above
+      → Near w y (x + length gray) aboveLeft work (record { left = left; corner = aboveLeft; above = above })
   inv-near work left digits aboveLeft above i I h k =
       let b = I .bound in
       let e : i ≡ length gray = omega arith in

@@ -12,6 +12,7 @@ pub mod OrderedNumbers
 pub mod UptoList
 pub mod RowKept
 pub mod DitherBytesLoop
+pub mod EntryTold
 pub mod DotCauses
 pub mod StoredBytes
 pub mod ResidualRange

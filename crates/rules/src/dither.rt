@@ -92,14 +92,14 @@ pub(crate) fn over(work: &[i16], reach: usize, x: usize) -> u32
     if x < reach { lift(work[x]) } else { 128 }
 }
 
-// The digits of the begun byte, and the residual above the last dot, plus 128.
-pub struct Dithered {
+// The digits of the begun byte after a part of a row, and the residual above its last dot, plus 128.
+pub struct RowDots {
     pub digits: u32,
     pub corner: u32,
 }
 
 // The digits of `begun`, and then a dot for each sample, from a column of a row on. `work` keeps a residual for each column.
-pub fn dither_dots(
+pub(crate) fn dither_dots(
     width: usize,
     y: usize,
     column: usize,
@@ -107,7 +107,7 @@ pub fn dither_dots(
     begun: u32,
     corner: u32,
     work: &mut [i16],
-) -> Dithered
+) -> RowDots
     requires { ⌜ Diffusing width column (length (now gray)) begun corner (length (now work)) ⌝ }
     ensures { λ r. ⌜ Diffuses width y column (now (gray .entry)) begun corner (now (work .entry)) r (now (work .exit)) ⌝ }
 {
@@ -128,7 +128,7 @@ pub fn dither_dots(
         digits = digits * 2 + d.bit;
         i += 1;
     }
-    Dithered {
+    RowDots {
         digits: digits,
         corner: above_left,
     }

@@ -7,7 +7,7 @@ ghost use Rattle.rules.specs.Bits.{bit, appended};
 ghost use Rattle.rules.specs.Ordered.{bound, knownSide};
 ghost use Rattle.rules.specs.Ordered;
 ghost use mathlib.Core.Bool.{true};
-ghost use Rattle.rules.specs.Internal.Kernels.{Packs, Cell, Filled, Table, orderedBit};
+ghost use Rattle.rules.specs.Internal.Kernels.{Matching, Cell, Filled, Table, orderedBit};
 
 // The numbers for side 8, row by row.
 const TABLE: [u8; 64] = [
@@ -109,6 +109,19 @@ fn filled(side: usize) -> [u8; 64]
     table
 }
 
+// Whether the side is one of document 01's.
+pub fn known_side(side: u8) -> bool
+    ensures { λ r. ⌜ r ≡ knownSide side ⌝ }
+{
+    if side == 2 {
+        return true;
+    }
+    if side == 4 {
+        return true;
+    }
+    side == 8
+}
+
 // The numbers for the side 2, 4 or 8.
 pub fn numbers(side: u8) -> [u8; 64]
     ensures { λ r. ⌜ Table side r ⌝ }
@@ -143,7 +156,7 @@ fn ordered_dot(side: u8, n: u8, gray: u8) -> u32
 }
 
 // The digits of `begun`, and then a dot for each sample, from a column of row y on.
-pub fn ordered_dots(
+pub(crate) fn ordered_dots(
     table: &[u8; 64],
     side: u8,
     y: usize,
@@ -151,9 +164,7 @@ pub fn ordered_dots(
     gray: &[u8],
     begun: u32,
 ) -> u32
-    requires { ⌜ Packs begun (length (now gray)) ⌝ }
-    requires { ⌜ knownSide side ≡ true ⌝ }
-    requires { ⌜ column + length (now gray) < 2 ^ 64 ⌝ }
+    requires { ⌜ Matching side column (length (now gray)) begun ⌝ }
     ensures { λ r. ⌜ r ≡ appended begun (orderedBit side (now (table .entry)) y column (now (gray .entry))) (length (now (gray .entry))) ⌝ }
 {
     let mut digits = begun;

@@ -16,12 +16,17 @@ ghost use Rattle.rules.specs.Rule.{dither};
 ghost use Rattle.rules.specs.Internal.Kernels.{Biased, Diffusing};
 ghost use Rattle.rules.specs.Internal.Row.{Near, Diffused, Plain, Clear, Calm, Filling, Bytes};
 
-// The digits of eight dots, and the residuals next to the following dot, plus 128: on its left, above left and above.
-struct Eight {
+// The residuals next to a dot, plus 128: on its left, above left and above.
+pub struct Neighbours {
+    pub left: u32,
+    pub corner: u32,
+    pub above: u32,
+}
+
+// The digits of a byte's dots, and the residuals next to the following dot.
+struct DitheredByte {
     digits: u32,
-    left: u32,
-    corner: u32,
-    above: u32,
+    next: Neighbours,
 }
 
 // The residual above column x, plus 128, where the row goes on there.
@@ -38,23 +43,21 @@ fn dither_byte(
     y: usize,
     column: usize,
     gray: &[u8],
-    left: u32,
-    corner: u32,
-    above: u32,
+    near: Neighbours,
     work: &mut [i16],
-) -> Eight
-    requires { ⌜ Diffusing width column (length (now gray)) 0 corner (length (now work)) × (column + length (now gray) < width) × Near width y column corner (now work) left corner above ⌝ }
-    ensures { λ r. ⌜ Diffused width y column (now (gray .entry)) corner (now (work .entry)) r (now (work .exit)) ⌝ }
+) -> DitheredByte
+    requires { ⌜ Diffusing width column (length (now gray)) 0 (near .corner) (length (now work)) × (column + length (now gray) < width) × Near width y column (near .corner) (now work) near ⌝ }
+    ensures { λ r. ⌜ Diffused width y column (now (gray .entry)) (near .corner) (now (work .entry)) r (now (work .exit)) ⌝ }
 {
-    let near = reach(width, y);
+    let reached = reach(width, y);
     let mut digits: u32 = 0;
-    let mut left = left;
-    let mut corner = corner;
-    let mut above = above;
+    let mut left = near.left;
+    let mut corner = near.corner;
+    let mut above = near.above;
     let mut i: usize = 0;
     while i < gray.len() {
         let x = column + i;
-        let ahead = inside(work, near, x + 1);
+        let ahead = inside(work, reached, x + 1);
         let d = step(gray[i], left, corner, above, ahead);
         left = d.rest;
         corner = above;
@@ -63,11 +66,13 @@ fn dither_byte(
         digits = digits * 2 + d.bit;
         i += 1;
     }
-    Eight {
+    DitheredByte {
         digits: digits,
-        left: left,
-        corner: corner,
-        above: above,
+        next: Neighbours {
+            left: left,
+            corner: corner,
+            above: above,
+        },
     }
 }
 
@@ -105,81 +110,63 @@ fn clear(work: &[i16], x: usize, n: usize) -> bool
     others == 0
 }
 
-// Whether n samples from index `at` on, which go to row y from column x on, are black or white and nothing is handed to them: dithering alters none of them, and keeps no residual.
-fn calm(
-    y: usize,
-    x: usize,
-    samples: &[u8],
-    at: usize,
-    n: usize,
-    left: u32,
-    corner: u32,
-    work: &[i16],
-) -> bool
-    requires { ⌜ (at + n ≤ length (now samples)) × (x + n < length (now work)) ⌝ }
-    ensures { λ r. ⌜ (r ≡ true → Calm y x (now (samples .entry)) at n left corner (now (work .entry))) ⌝ }
+// Whether the first n samples, which go to row y from column x on, are black or white and nothing is handed to them: dithering alters none of them, and keeps no residual.
+fn calm(y: usize, x: usize, samples: &[u8], n: usize, near: Neighbours, work: &[i16]) -> bool
+    requires { ⌜ (n ≤ length (now samples)) × (x + n < length (now work)) ⌝ }
+    ensures { λ r. ⌜ (r ≡ true → Calm y x (now (samples .entry)) n near (now (work .entry))) ⌝ }
 {
     if y == 0 {
         return false;
     }
-    if left != 128 {
+    if near.left != 128 {
         return false;
     }
-    if corner != 128 {
+    if near.corner != 128 {
         return false;
     }
     if !clear(work, x, n + 1) {
         return false;
     }
-    plain(samples, at, n)
+    plain(samples, 0, n)
 }
 
-// So many bytes, of the samples from index `at` on, into the output from index `to` on. Answers the residual above the last dot, plus 128.
-pub fn dither_bytes(
+// As many bytes as the output has, from a column of row y on. Answers the residual above the last dot, plus 128.
+pub(crate) fn dither_bytes(
     width: usize,
     y: usize,
     column: usize,
     samples: &[u8],
-    at: usize,
     out: &mut [u8],
-    to: usize,
-    count: usize,
     corner: u32,
     work: &mut [i16],
 ) -> u32
-    requires { ⌜ Filling width column (length (now samples)) at (length (now out)) to count corner × (width ≤ length (now work)) ⌝ }
-    ensures { λ r. ⌜ Bytes dither width y column (now (samples .entry)) at (now (out .entry)) to corner (now (work .entry)) count (now (out .exit)) r (now (work .exit)) ⌝ }
+    requires { ⌜ Filling width column (length (now samples)) (length (now out)) corner (length (now work)) ⌝ }
+    ensures { λ r. ⌜ Bytes dither width y column (now (samples .entry)) corner (now (work .entry)) (length (now (out .entry))) (now (out .exit)) r (now (work .exit)) ⌝ }
 {
+    let count = out.len();
     if count == 0 {
         return corner;
     }
-    let mut left = left_of(work, column);
-    let mut above_left = corner_of(corner, column);
-    let mut above = over(work, reach(width, y), column);
-    if calm(y, column, samples, at, 8 * count, left, above_left, work) {
-        threshold_bytes(128, samples, at, out, to, count);
+    let left = left_of(work, column);
+    let above_left = corner_of(corner, column);
+    let above = over(work, reach(width, y), column);
+    let mut near = Neighbours {
+        left: left,
+        corner: above_left,
+        above: above,
+    };
+    if calm(y, column, samples, 8 * count, near, work) {
+        threshold_bytes(128, samples, 0, out, 0, count);
         return 128;
     }
     let mut k: usize = 0;
     while k < count {
-        let from = at + 8 * k;
+        let from = 8 * k;
         let end = from + 8;
-        let d = dither_byte(
-            width,
-            y,
-            column + 8 * k,
-            &samples[from..end],
-            left,
-            above_left,
-            above,
-            work,
-        );
-        left = d.left;
-        above_left = d.corner;
-        above = d.above;
-        let j = to + k;
-        out[j] = d.digits as u8;
+        let d = dither_byte(width, y, column + from, &samples[from..end], near, work);
+        near = d.next;
+        out[k] = d.digits as u8;
         k += 1;
     }
-    above_left
+    near.corner
 }

@@ -14,7 +14,7 @@ fn dot(bound: u8, gray: &[u8], at: usize) -> u32
 }
 
 // The digits of `begun`, and then a dot for each sample: 1 where it is at least `bound`.
-pub fn threshold_dots(bound: u8, gray: &[u8], begun: u32) -> u32
+pub(crate) fn threshold_dots(bound: u8, gray: &[u8], begun: u32) -> u32
     requires { ⌜ Packs begun (length (now gray)) ⌝ }
     ensures { λ r. ⌜ r ≡ appended begun (thresholdBit bound (now (gray .entry))) (length (now (gray .entry))) ⌝ }
 {
@@ -79,7 +79,14 @@ pub(crate) fn byte(bound: u8, gray: &[u8], at: usize) -> u8
 }
 
 // So many bytes of eight samples each, from sample `at` on, into the output from index `to` on.
-pub fn threshold_bytes(bound: u8, gray: &[u8], at: usize, out: &mut [u8], to: usize, count: usize)
+pub(crate) fn threshold_bytes(
+    bound: u8,
+    gray: &[u8],
+    at: usize,
+    out: &mut [u8],
+    to: usize,
+    count: usize,
+)
     requires { ⌜ (at + 8 * count ≤ length (now gray)) × (to + count ≤ length (now out)) ⌝ }
     ensures { λ r. ⌜ now (out .exit) ≡ stored bound (now (gray .entry)) at (now (out .entry)) to count ⌝ }
 {

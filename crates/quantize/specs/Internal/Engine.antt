@@ -11,6 +11,7 @@ use Rattle.options.specs.declared.Quantize.{Quantize}
 use Rattle.quantize.specs.declared.engine.Quantizer.{Quantizer}
 use Rattle.quantize.specs.declared.engine.Ran.{Ran}
 use Rattle.quantize.specs.declared.engine.Spot.{Spot}
+use Rattle.quantize.specs.declared.turn.Place.{Place}
 use Rattle.rules.specs.Diffusion.{Direction, Scan, onLeft, above, residualAt}
 use Rattle.rules.specs.Rule.{Rule, threshold, dither, ordered, rightwards, meaning, knownRule, carries, roomy}
 use Rattle.quantize.specs.Internal.Turn.{Served, stateOf, ruleOf}
@@ -83,6 +84,15 @@ pub record Idles (q : Quantizer) (out : List ℕ) (work : List ℤ) (r : Ran) (o
   pub written : r .written ≡ 0
   pub outSame : out′ ≡ out
   pub workSame : work′ ≡ work
+
+-- the quantizer at another place, and what was taken and written on the way there
+abbrev pub ranTo : Quantizer → Place → ℕ → ℕ → Ran
+ranTo q place taken written =
+    record {
+      quantizer = record { rule = q .rule; table = q .table; width = q .width; height = q .height; place = place };
+      taken = taken;
+      written = written;
+    }
 
 -- how many samples are taken and bytes written after n samples, for every work buffer
 pub record Counts (q : Quantizer) (s : Setting) (n samples room work : ℕ) (r : Ran) : Type 0 where

@@ -3,21 +3,20 @@ use Prim.Native.Nat.{ℕ, _+_, _-_, _*_, _%_, _^_, _≤_, _<_}
 use mathlib.Core.Path.{_≡_}
 use mathlib.Core.Bool.{Bool, true, false}
 use mathlib.Core.Logic.{_⊎_}
-use mathlib.Core.List.{List}
+use mathlib.Core.List.{List, _++_}
 use lib.IntN.{ℤ}
-use lib.ListN.{length, take}
+use lib.ListN.{length, take, drop}
 use Rattle.options.specs.declared.Quantize.{Quantize}
 use Rattle.options.specs.declared.Quantize.the-variants.{Threshold, Dither, Ordered}
-use Rattle.quantize.specs.declared.turn.Part.{Part}
-use Rattle.quantize.specs.declared.turn.Next.{Next}
+use Rattle.rules.specs.declared.dither.RowDots.{RowDots}
+use Rattle.quantize.specs.declared.turn.Advanced.{Advanced}
 use Rattle.quantize.specs.declared.turn.Place.{Place}
-use Rattle.quantize.specs.declared.turn.Taken.{Taken}
 use Rattle.rules.specs.Bits.{digits}
 use Rattle.rules.specs.Rule.{Rule, threshold, dither, ordered, meaning, knownRule, roomy}
 use Rattle.quantize.specs.Finished.{Setting}
 use Rattle.quantize.specs.Internal.Machine.{State}
 use Rattle.quantize.specs.Internal.Place.{At}
-use Rattle.quantize.specs.declared.turn.Filled.{Filled}
+use Rattle.quantize.specs.declared.turn.BytesFilled.{BytesFilled}
 use Rattle.rules.specs.Internal.Kernels.{Dots, carryOf, Packs}
 use Rattle.rules.specs.Internal.Row.{Bytes}
 
@@ -76,7 +75,7 @@ pub record Dotting (rule : Quantize) (w column n begun corner work : ℕ) : Type
   pub fits : w < 2 ^ 64
   pub served : Served rule w work
 
-abbrev pub Dotted : Quantize → List ℕ → ℕ → ℕ → ℕ → List ℕ → ℕ → ℕ → List ℤ → Part → List ℤ → Type 0
+abbrev pub Dotted : Quantize → List ℕ → ℕ → ℕ → ℕ → List ℕ → ℕ → ℕ → List ℤ → RowDots → List ℤ → Type 0
 Dotted rule table w y x gray begun corner work r work′ = Dots (ruleOf rule table) w y x gray begun corner work (r .digits) (r .corner) work′
 
 -- m samples more, after which the begun byte has these digits
@@ -90,25 +89,25 @@ pub record Advancing (w h frames row column m digits : ℕ) : Type 0 where
   pub digitsSmall : digits < 2 ^ (column % 8 + m)
 
 -- they end the row or the byte: it is written, its digits first, and none is begun
-pub record Ended (w column m digits : ℕ) (r : Next) : Type 0 where
+pub record Ended (w column m digits : ℕ) (r : Advanced) : Type 0 where
   pub ends : (w ≤ column + m) ⊎ (8 ≤ column % 8 + m)
   pub byteIs : r .byte ≡ digits * 2 ^ (8 - (column % 8 + m))
-  pub begunIs : r .begun ≡ 0
+  pub begunIs : r .place .begun ≡ 0
 
 -- the byte goes on
-pub record Goes (w column m digits : ℕ) (r : Next) : Type 0 where
+pub record Goes (w column m digits : ℕ) (r : Advanced) : Type 0 where
   pub inRow : column + m < w
   pub inByte : column % 8 + m < 8
-  pub begunIs : r .begun ≡ digits
+  pub begunIs : r .place .begun ≡ digits
 
 -- the place after them, where n were taken before, and the byte
-pub record Advances (w h frames row column m digits : ℕ) (r : Next) : Type 0 where
-  pub inRow : r .column < w
-  pub inFrame : r .row < h
-  pub begunSmall : r .begun < 2 ^ (r .column % 8)
+pub record Advances (w h frames row column m digits : ℕ) (r : Advanced) : Type 0 where
+  pub inRow : r .place .column < w
+  pub inFrame : r .place .row < h
+  pub begunSmall : r .place .begun < 2 ^ (r .place .column % 8)
   pub ended : r .whole ≡ true → Ended w column m digits r
   pub goes : r .whole ≡ false → Goes w column m digits r
-  pub moves : (s : Setting) (n : ℕ) → s .width ≡ w → s .height ≡ h → At s n frames row column → At s (n + m) (r .frames) (r .row) (r .column)
+  pub moves : (s : Setting) (n : ℕ) → s .width ≡ w → s .height ≡ h → At s n frames row column → At s (n + m) (r .place .frames) (r .place .row) (r .place .column)
 
 -- n samples, which end no later than the begun byte
 pub record Taking (rule : Quantize) (w h : ℕ) (p : Place) (n work : ℕ) : Type 0 where
@@ -119,25 +118,33 @@ pub record Taking (rule : Quantize) (w h : ℕ) (p : Place) (n work : ℕ) : Typ
   pub high : h < 2 ^ 64
   pub begunSmall : p .begun < 2 ^ (p .column % 8)
 
-pub record Takes (rule : Quantize) (table : List ℕ) (w h : ℕ) (p : Place) (gray : List ℕ) (work : List ℤ) (r : Taken) (work′ : List ℤ) : Type 0 where
+pub record Takes (rule : Quantize) (table : List ℕ) (w h : ℕ) (p : Place) (gray : List ℕ) (work : List ℤ) (r : Advanced) (work′ : List ℤ) : Type 0 where
   -- the digits of the begun byte after them
   pub digits : ℕ
   pub dotted : Dotted rule table w (p .row) (p .column) gray (p .begun) (p .corner) work (record { digits = digits; corner = r .place .corner }) work′
-  pub advances : Advances w h (p .frames) (p .row) (p .column) (length gray) digits
-      (record { frames = r .place .frames; row = r .place .row; column = r .place .column; begun = r .place .begun; byte = r .byte; whole = r .whole })
+  pub advances : Advances w h (p .frames) (p .row) (p .column) (length gray) digits r
 
--- the same for the rule that the code's values stand for, with any table
-abbrev pub Fills : Quantize → ℕ → ℕ → ℕ → List ℕ → ℕ → List ℕ → ℕ → ℕ → List ℤ → ℕ → List ℕ → ℕ → List ℤ → Type 0
-Fills rule w y x samples at out to corner work k out′ corner′ work′ = (table : List ℕ) → Bytes (ruleOf rule table) w y x samples at out to corner work k out′ corner′ work′
+-- samples and room for so many bytes, which do not end the row
+pub record BytesFilling (rule : Quantize) (w : ℕ) (p : Place) (samples count work : ℕ) : Type 0 where
+  pub there : 8 * count ≤ samples
+  pub inRow : p .column + 8 * count < w
+  pub small : p .corner ≤ 256
+  pub served : Served rule w work
+  pub atOnce : 0 < count → AtOnce rule
 
--- the row goes on, and no more was taken or written than there is
-pub record RowFilling (rule : Quantize) (w : ℕ) (p : Place) (samples at out to work : ℕ) : Type 0 where
+-- so many bytes, one after the other, of the rule that the code's values stand for, with any table
+abbrev pub Fills : Quantize → ℕ → ℕ → ℕ → List ℕ → ℕ → List ℤ → ℕ → List ℕ → ℕ → List ℤ → Type 0
+Fills rule w y x samples corner work k bytes corner′ work′ = (table : List ℕ) → Bytes (ruleOf rule table) w y x samples corner work k bytes corner′ work′
+
+-- the row goes on
+pub record RowFilling (rule : Quantize) (w : ℕ) (p : Place) (work : ℕ) : Type 0 where
   pub inRow : p .column < w
-  pub takenFits : at ≤ samples
-  pub writtenFits : to ≤ out
   pub small : p .corner ≤ 256
   pub served : Served rule w work
 
-pub record RowFilled (rule : Quantize) (w : ℕ) (p : Place) (samples : List ℕ) (at : ℕ) (out : List ℕ) (to : ℕ) (work : List ℤ) (r : Filled) (out′ : List ℕ) (work′ : List ℤ) : Type 0 where
-  pub wholes : Wholes w (p .column) (length samples - at) (length out - to) (r .bytes)
-  pub fills : Fills rule w (p .row) (p .column) samples at out to (p .corner) work (r .bytes) out′ (r .corner) work′
+-- whole bytes stand at the output's front
+pub record RowFilled (rule : Quantize) (w : ℕ) (p : Place) (samples out : List ℕ) (work : List ℤ) (r : BytesFilled) (out′ : List ℕ) (work′ : List ℤ) : Type 0 where
+  pub wholes : Wholes w (p .column) (length samples) (length out) (r .count)
+  pub bytes : List ℕ
+  pub fills : Fills rule w (p .row) (p .column) samples (p .corner) work (r .count) bytes (r .corner) work′
+  pub stored : out′ ≡ bytes ++ drop (r .count) out

@@ -6,8 +6,8 @@ use mathlib.Core.List.{List}
 use lib.Dec.{leb}
 use lib.IntN.{ℤ, subℕ}
 use lib.ListN.{length, getD, take, set}
-use Rattle.rules.specs.declared.dither.Dithered.{Dithered}
-use Rattle.rules.specs.Bits.{bit, appended, digits}
+use Rattle.rules.specs.declared.dither.RowDots.{RowDots}
+use Rattle.rules.specs.Bits.{bit, appended, digits, upto}
 use Rattle.rules.specs.Diffusion.{part, white, residual}
 use Rattle.rules.specs.Ordered.{number, numbers, exponent, bound, cell, knownSide}
 use Rattle.rules.specs.Rule.{Rule, dither}
@@ -58,8 +58,18 @@ unfoldable pub stored : ℕ → List ℕ → ℕ → List ℕ → ℕ → ℕ �
 stored t gray at out to zero = out
 stored t gray at out to (suc k) = set (stored t gray at out to k) (to + k) (digits (thresholdFrom t gray (at + 8 * k)) 8)
 
+-- so many bytes of eight such dots each
+abbrev pub thresholdBytes : ℕ → List ℕ → ℕ → List ℕ
+thresholdBytes t gray n = upto n (λ k. digits (thresholdFrom t gray (8 * k)) 8)
+
 abbrev pub orderedBit : ℕ → List ℕ → ℕ → ℕ → List ℕ → ℕ → ℕ
 orderedBit side table y x gray i = bit (leb (bound side (cell side table (x + i) y)) (getD gray i 0))
+
+-- n samples from column x on are compared with the numbers of a known side
+pub record Matching (side x n begun : ℕ) : Type 0 where
+  pub packs : Packs begun n
+  pub known : knownSide side ≡ true
+  pub fits : x + n < 2 ^ 64
 
 -- r is the number for this side
 pub record Cell (side x y r : ℕ) : Type 0 where
@@ -90,5 +100,5 @@ pub record Diffusing (w x n begun corner work : ℕ) : Type 0 where
   pub room : w ≤ work
   pub small : corner ≤ 256
 
-abbrev pub Diffuses : ℕ → ℕ → ℕ → List ℕ → ℕ → ℕ → List ℤ → Dithered → List ℤ → Type 0
+abbrev pub Diffuses : ℕ → ℕ → ℕ → List ℕ → ℕ → ℕ → List ℤ → RowDots → List ℤ → Type 0
 Diffuses w y x gray begun corner work r work′ = Dots dither w y x gray begun corner work (r .digits) (r .corner) work′

@@ -1,12 +1,13 @@
 -- `quantize::turn::advance` meets its contract.
 -- Assumes nothing.
-use Rattle.quantize.proofs.PlaceAdvanced.{advances-on, advances-byte, advances-row, advances-frame}
+use mathlib.Core.Path.{refl}
 use borrow.Author.Needs.{needs}
+use Rattle.quantize.proofs.PlaceAdvanced.{advances-on, advances-byte, advances-row, advances-frame, advanced}
 use Rattle.quantize.proofs.turn.advance.Statement.{statement}
 use Rattle.quantize.proofs.turn.advance.Tie as tie
 
-add-to : tie.Need-add-to
-add-to c = search needs
+abbrev padded : tie.After-struct-known3 → tie.After-pad
+padded c = c .before .before
 
 add-dots : tie.Need-add-dots
 add-dots c = search needs
@@ -17,39 +18,69 @@ cast-pad c = search needs
 pad-requires : tie.Need-pad-requires
 pad-requires c κs = search needs
 
+add-place : tie.Need-add-place
+add-place c = search needs
+
 returns : tie.Need-returns
-returns c = let s = c .before .before .before in advances-on _ _ _ _ _ _ _ _ (s .pre) (c .before .before .pad .ensures) (c .before .if1 .taken) (c .if2 .taken)
+returns c =
+    let b = padded (c .before .before) in
+    (advances-on _ _ _ _ _ _ _ _ _ (b .before .before .pre) (b .pad .ensures) (c .before .if1 .taken) (c .if2 .taken), refl)
+
+whole-byte-requires : tie.Need-whole-byte-requires
+whole-byte-requires c κs = search needs
 
 returns-2 : tie.Need-returns-2
-returns-2 c = let s = c .before .before .before in advances-byte _ _ _ _ _ _ _ _ (s .pre) (c .before .before .pad .ensures) (c .before .if1 .taken) (c .if2 .left)
+returns-2 c =
+    let e = c .before in
+    let b = padded (e .before .before) in
+    let s = b .before .before in
+    advanced _ _ _ _ _ _ _ _ _ (s .pre) (b .pad .ensures) _ _ (c .whole-byte .ensures)
+    (advances-byte _ _ _ _ _ _ _ _ _ (s .pre) (b .pad .ensures) (e .before .if1 .taken) (e .if2 .left)) refl
 
-add-if3 : tie.Need-add-if3
-add-if3 c = search needs
+add-place-2 : tie.Need-add-place-2
+add-place-2 c = search needs
 
-add-t15 : tie.Need-add-t15
-add-t15 c = search needs
+whole-byte-requires-2 : tie.Need-whole-byte-requires-2
+whole-byte-requires-2 c κs = search needs
 
 returns-3 : tie.Need-returns-3
-returns-3 c = let s = c .before .before .before in advances-row _ _ _ _ _ _ _ _ (s .pre) (c .before .before .pad .ensures) (c .before .if1 .left) (c .if3 .taken)
+returns-3 c =
+    let t = c .before in
+    let e = t .before .before .before in
+    let b = padded (e .before) in
+    let s = b .before .before in
+    advanced _ _ _ _ _ _ _ _ _ (s .pre) (b .pad .ensures) _ _ (c .whole-byte2 .ensures)
+    (advances-row _ _ _ _ _ _ _ _ _ (s .pre) (b .pad .ensures) (e .if1 .left) (t .if3 .taken)) refl
 
-sub-t11 : tie.Need-sub-t11
-sub-t11 c = search needs
+sub-place : tie.Need-sub-place
+sub-place c = search needs
+
+whole-byte-requires-3 : tie.Need-whole-byte-requires-3
+whole-byte-requires-3 c κs = search needs
 
 returns-4 : tie.Need-returns-4
-returns-4 c = let s = c .before .before .before in advances-frame _ _ _ _ _ _ _ _ (s .pre) (c .before .before .pad .ensures) (c .before .if1 .left) (c .if3 .left)
+returns-4 c =
+    let t = c .before .before in
+    let e = t .before .before .before in
+    let b = padded (e .before) in
+    let s = b .before .before in
+    advanced _ _ _ _ _ _ _ _ _ (s .pre) (b .pad .ensures) _ _ (c .whole-byte3 .ensures)
+    (advances-frame _ _ _ _ _ _ _ _ _ (s .pre) (b .pad .ensures) (e .if1 .left) (t .if3 .left)) refl
 
 pub advance-spec : {M : Type 1} → statement M
 advance-spec =
     tie.close
     (tie.spec
-    add-to
     add-dots
     cast-pad
     pad-requires
+    add-place
     returns
+    whole-byte-requires
     returns-2
-    add-if3
-    add-t15
+    add-place-2
+    whole-byte-requires-2
     returns-3
-    sub-t11
+    sub-place
+    whole-byte-requires-3
     returns-4)

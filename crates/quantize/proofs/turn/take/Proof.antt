@@ -2,12 +2,14 @@
 -- Assumes nothing.
 use mathlib.Core.Path.{refl}
 use borrow.Author.Needs.{needs}
+use denote.Ref.{now}
 use Rattle.rules.proofs.DitherDotsLoop.{dots-small}
+use Rattle.quantize.proofs.PlaceAdvanced.{takes-dots}
 use Rattle.quantize.proofs.turn.take.Statement.{statement}
 use Rattle.quantize.proofs.turn.take.Tie as tie
 
 dots-requires : tie.Need-dots-requires
-dots-requires c κs = search needs
+dots-requires c κs = c .before .before .pre .dotting
 
 advance-requires : tie.Need-advance-requires
 advance-requires c κs =
@@ -26,7 +28,17 @@ same-length : tie.Need-same-length
 same-length c = search needs
 
 returns : tie.Need-returns
-returns c = search needs
+returns c =
+    let d = c .before .before in
+    let a = d .before .before .before .args in
+    takes-dots (a .rule) (now (a .table)) (a .width) (a .height) (a .p) (now (a .gray)) (now (a .work)) (d .dots .result) _ _
+    (d .dots .ensures) (c .advance .ensures .0) (c .advance .ensures .1)
 
 pub take-spec : {M : Type 1} → statement M
-take-spec = tie.close (tie.spec dots-requires advance-requires same-length returns)
+take-spec =
+    tie.close
+    (tie.spec
+    dots-requires
+    advance-requires
+    same-length
+    returns)

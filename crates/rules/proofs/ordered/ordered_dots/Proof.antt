@@ -28,7 +28,7 @@ low l =
     subst (λ (n : ℕ). n < 65536) (sym (l .loop .inv .1))
     (appended-fits (a .begun) (orderedBit (a .side) (now (a .table)) (a .y) (a .column) (now (a .gray)))
     (λ i. bit-le (leb (bound (a .side) (cell (a .side) (now (a .table)) (a .column + i) (a .y))) (getD (now (a .gray)) i 0)))
-    (length (now (a .gray))) (l .loop .i) (start l .pre .0) (l .loop .inv .0))
+    (length (now (a .gray))) (l .loop .i) (start l .pre .packs) (l .loop .inv .0))
 
 dot-is : (c : tie.After-ordered-dot Inv-loop μ-loop) →
     let l = c .before .before .before .before in
@@ -50,10 +50,10 @@ unfolding appended
 loop-holds c = (omega arith, refl)
 
 add-cell-at : tie.Need-add-cell-at Inv-loop μ-loop
-add-cell-at c = omega (arith, start (c .before) .pre .1 .1)
+add-cell-at c = omega (arith, start (c .before) .pre .fits)
 
 cell-at-requires : tie.Need-cell-at-requires Inv-loop μ-loop
-cell-at-requires c κs = start (c .before) .pre .1 .0
+cell-at-requires c κs = start (c .before) .pre .known
 
 mul-digits : tie.Need-mul-digits Inv-loop μ-loop
 mul-digits c = omega (arith, low (c .before .before))
@@ -62,7 +62,7 @@ shared-slice-read-ordered-dot : tie.Need-shared-slice-read-ordered-dot Inv-loop 
 shared-slice-read-ordered-dot c = omega arith
 
 ordered-dot-requires : tie.Need-ordered-dot-requires Inv-loop μ-loop
-ordered-dot-requires c κs = start (c .before .before .before) .pre .1 .0
+ordered-dot-requires c κs = start (c .before .before .before) .pre .known
 
 add-digits : tie.Need-add-digits Inv-loop μ-loop
 add-digits c = omega (arith, low (c .before .before .before .before), dot-le c)

@@ -1,4 +1,4 @@
--- `quantize::row::calm` meets its contract.
+-- `rules::row::calm` meets its contract.
 -- Assumes nothing.
 use native.Mathlib.Omega.{arith}
 use borrow.Author.Needs.{needs}
@@ -31,10 +31,12 @@ plain-requires c κs = search needs
 returns-5 : tie.Need-returns-5
 returns-5 c =
     let n = c .before in
+    let third = n .before .before in
+    let second = third .before .before in
     λ e. record {
-      below = let z = n .before .before .before .before .if1 .left in omega (arith, z);
-      leftIs = n .before .before .before .if2 .left;
-      cornerIs = n .before .before .if3 .left;
+      below = let z = second .before .before .if1 .left in omega (arith, z);
+      leftIs = second .if2 .left;
+      cornerIs = third .if3 .left;
       clear = n .before .clear .ensures (not-false _ (n .if4 .left));
       plain = c .plain .ensures e;
     }

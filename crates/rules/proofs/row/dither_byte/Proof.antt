@@ -1,4 +1,4 @@
--- `quantize::row::dither_byte` meets its contract.
+-- `rules::row::dither_byte` meets its contract.
 -- Assumes nothing.
 use Prim.Native.Nat.{ℕ, _+_, _-_, _<_}
 use mathlib.Core.Path.{_≡_, _∙_, sym, subst}
@@ -18,11 +18,11 @@ use Rattle.rules.proofs.row.dither_byte.Statement.{statement}
 use Rattle.rules.proofs.row.dither_byte.Tie as tie
 
 abbrev Inv-loop : tie.InvT-loop
-Inv-loop width y column gray left₀ corner₀ above₀ work₀ near digits₀ left₁ corner₁ above₁ i₀ work digits left corner above i =
+Inv-loop width y column gray work₀ reached digits₀ left₀ corner₀ above₀ i₀ work digits left corner above i =
     Inv width y column gray 0 corner₀ work₀ work left digits corner above i
 
 abbrev μ-loop : tie.MeasureT-loop
-μ-loop width y column gray left₀ corner₀ above₀ work₀ near digits₀ left₁ corner₁ above₁ i₀ work digits left corner above i =
+μ-loop width y column gray work₀ reached digits₀ left₀ corner₀ above₀ i₀ work digits left corner above i =
     length gray - i
 
 abbrev start : tie.At-loop Inv-loop μ-loop → tie.Start Inv-loop μ-loop
@@ -31,7 +31,7 @@ start l = l .before .before .before
 low : (l : tie.At-loop Inv-loop μ-loop) → l .loop .digits < 65536
 low l =
     let a = start l .args in
-    let f = rowBit dither (a .width) (a .y) (a .column) (now (a .gray)) (carryOf (a .corner) (now (a .work))) in
+    let f = rowBit dither (a .width) (a .y) (a .column) (now (a .gray)) (carryOf (a .near .corner) (now (a .work))) in
     subst (λ (n : ℕ). n < 65536) (sym (l .loop .inv .digitsIs))
     (appended-fits 0 f (row-bit-le dither (a .width) (a .y) (a .column) (now (a .gray)) _) (length (now (a .gray))) (l .loop .i) (start l .pre .0 .packs) (l .loop .inv .bound))
 
@@ -42,7 +42,7 @@ loop-holds : tie.Need-loop-holds Inv-loop μ-loop
 loop-holds c =
     let s = c .before .before in
     let a = s .args in
-    inv-start (a .width) (a .y) (a .column) (now (a .gray)) 0 (a .corner) (now (a .work)) _ _ _ (s .pre .2 .leftIs) (s .pre .2 .cornerIs) (s .pre .2 .aboveIs)
+    inv-start (a .width) (a .y) (a .column) (now (a .gray)) 0 (a .near .corner) (now (a .work)) _ _ _ (s .pre .2 .leftIs) (s .pre .2 .cornerIs) (s .pre .2 .aboveIs)
 
 add-x : tie.Need-add-x Inv-loop μ-loop
 add-x c = let s = start (c .before) in omega (arith, s .pre .0 .within, s .pre .0 .room, s .good)
@@ -66,8 +66,8 @@ step-requires c κs = let i = c .before .before .before .before .loop .inv in (i
 lower-requires : tie.Need-lower-requires Inv-loop μ-loop
 lower-requires c κs = c .step .ensures .restIs .small
 
-mul-t18 : tie.Need-mul-t18 Inv-loop μ-loop
-mul-t18 c = let l = c .before .before .before .before .before .before in let s = start l in omega (arith, s .pre .0 .within, s .pre .0 .room, s .good, l .loop .inv .long)
+mul-t16 : tie.Need-mul-t16 Inv-loop μ-loop
+mul-t16 c = let l = c .before .before .before .before .before .before in let s = start l in omega (arith, s .pre .0 .within, s .pre .0 .room, s .good, l .loop .inv .long)
 
 in-work : (l : tie.At-loop Inv-loop μ-loop) → l .loop .i < length (now (start l .args .gray)) → start l .args .column + l .loop .i < length (l .loop .work)
 in-work l h = let s = start l in omega (arith, s .pre .0 .within, s .pre .0 .room, l .loop .inv .long)
@@ -95,7 +95,7 @@ loop-again c =
     let l = c .before .before .before .before .before .before .before in
     let a = start l .args in
     let t = c .before .before .before .before .before .before .loop-test .taken in
-    inv-more (a .width) (a .y) (a .column) (now (a .gray)) 0 (a .corner) (now (a .work)) (l .loop .work) _ _ _ _ (l .loop .i) (l .loop .inv) _ _ _
+    inv-more (a .width) (a .y) (a .column) (now (a .gray)) 0 (a .near .corner) (now (a .work)) (l .loop .work) _ _ _ _ (l .loop .i) (l .loop .inv) _ _ _
     (rw (l .before .reach .ensures .is (l .loop .work) (a .column + l .loop .i + 1)) (c .before .before .before .before .inside .ensures)) (c .before .before .step .ensures)
     _ (stored c) t (in-work l t)
 
@@ -109,8 +109,8 @@ returns c =
     let end = c .loop-test .left in
     let some = start l .pre .0 .some in
     record {
-      dots = inv-end (a .width) (a .y) (a .column) (now (a .gray)) 0 (a .corner) (now (a .work)) _ _ _ _ _ _ (l .loop .inv) end some;
-      near = inv-near (a .width) (a .y) (a .column) (now (a .gray)) 0 (a .corner) (now (a .work)) _ _ _ _ _ _ (l .loop .inv) end some;
+      dots = inv-end (a .width) (a .y) (a .column) (now (a .gray)) 0 (a .near .corner) (now (a .work)) _ _ _ _ _ _ (l .loop .inv) end some;
+      near = inv-near (a .width) (a .y) (a .column) (now (a .gray)) 0 (a .near .corner) (now (a .work)) _ _ _ _ _ _ (l .loop .inv) end some;
     }
 
 pub dither-byte-spec : {M : Type 1} → statement M
@@ -127,7 +127,7 @@ dither-byte-spec =
     shared-slice-read-step
     step-requires
     lower-requires
-    mul-t18
+    mul-t16
     slice-set-from-work
     mul-digits
     add-digits

@@ -1,7 +1,7 @@
--- `quantize::row::dither_bytes` meets its contract.
+-- `rules::row::dither_bytes` meets its contract.
 -- Assumes nothing.
 use Prim.Native.Nat.{ℕ, _+_, _-_, _*_, _≤_, _<_}
-use mathlib.Core.Path.{sym, subst}
+use mathlib.Core.Path.{refl, sym, _∙_, subst}
 use mathlib.Core.List.{List}
 use native.Mathlib.Omega.{arith}
 use borrow.Author.Needs.{needs}
@@ -12,63 +12,77 @@ use Rattle.rules.specs.Internal.Row.{Near, Bytes}
 use Rattle.rules.proofs.CalmBytes.{calm-all}
 use Rattle.rules.proofs.DitherBytesLoop.{Chain, bytes-none, chain-start, chain-more, chain-end, byte-small, near-own}
 use Rattle.rules.proofs.ListPiece.{piece-length}
+use Rattle.rules.proofs.StoredBytes.{stored-all}
 use Rattle.rules.proofs.row.dither_bytes.Statement.{statement}
 use Rattle.rules.proofs.row.dither_bytes.Tie as tie
 
 abbrev Inv-loop : tie.InvT-loop
-Inv-loop width y column samples at out₀ to count corner work₀ left₀ above-left₀ above₀ k₀ out work left above-left above k =
-    Chain width y column samples at out₀ to corner work₀ count out work left above-left above k
+Inv-loop width y column samples out₀ corner work₀ count left above-left above near₀ k₀ out work near k =
+    Chain width y column samples corner work₀ count out work near k
 
 abbrev μ-loop : tie.MeasureT-loop
-μ-loop width y column samples at out₀ to count corner work₀ left₀ above-left₀ above₀ k₀ out work left above-left above k =
+μ-loop width y column samples out₀ corner work₀ count left above-left above near₀ k₀ out work near k =
     count - k
 
+-- the function's entry, from where the residuals next to the first dot are known
+abbrev entered : tie.After-over Inv-loop μ-loop → tie.Start Inv-loop μ-loop
+entered o = o .before .before .before .before .before .before .before .before .before
+
 abbrev start : tie.At-loop Inv-loop μ-loop → tie.Start Inv-loop μ-loop
-start l = l .before .before .before .before .before .before .before .before .before .before .before .before .before
+start l = entered (l .before .before .before .before)
+
+-- where a turn of the loop began
+abbrev begun : tie.After-struct-known Inv-loop μ-loop → tie.In-loop Inv-loop μ-loop
+begun c = c .before .before .before .before .before .before
 
 -- the residuals next to the first dot
 near : (o : tie.After-over Inv-loop μ-loop)
-    → let a = o .before .before .before .before .before .before .before .before .before .args in
-    Near (a .width) (a .y) (a .column) (a .corner) (now (a .work)) (o .before .before .before .before .left-of .result) (o .before .before .before .corner-of .result) (o .over .result)
+    → let a = entered o .args in
+    Near (a .width) (a .y) (a .column) (a .corner) (now (a .work))
+    (record { left = o .before .before .before .before .left-of .result; corner = o .before .before .before .corner-of .result; above = o .over .result })
 near o =
-    let a = o .before .before .before .before .before .before .before .before .before .args in
+    let a = entered o .args in
     record {
       leftIs = o .before .before .before .before .left-of .ensures;
       cornerIs = o .before .before .before .corner-of .ensures;
       aboveIs = rw (o .before .reach .ensures .is (now (a .work)) (a .column)) (o .over .ensures);
     }
 
+-- there is a byte
+some : (o : tie.After-over Inv-loop μ-loop) → 0 < length (now (entered o .args .out))
+some o = let e = o .before .before .before .before .before .before .if1 .left in omega (arith, e)
+
 -- the samples of the next byte
-there : (l : tie.At-loop Inv-loop μ-loop) → l .loop .k < start l .args .count → start l .args .at + 8 * l .loop .k + 8 ≤ length (now (start l .args .samples))
-there l h = let s = start l in omega (arith, s .pre .0 .there)
+there : (l : tie.At-loop Inv-loop μ-loop) → l .loop .k < length (now (start l .args .out)) → 8 * l .loop .k + 8 ≤ length (now (start l .args .samples))
+there l h = let s = start l in omega (arith, s .pre .there)
 
 returns : tie.Need-returns Inv-loop μ-loop
-returns c = bytes-none dither _ _ _ _ _ _ _ _ _ _ (c .if1 .taken)
+returns c =
+    let a = c .before .before .before .args in
+    bytes-none dither (a .width) (a .y) (a .column) (now (a .samples)) (a .corner) (now (a .work)) (now (a .out)) (c .if1 .taken)
 
 left-of-requires : tie.Need-left-of-requires Inv-loop μ-loop
-left-of-requires c κs = let s = c .before .before .before .before in omega (arith, s .pre .0 .inRow, s .pre .1)
+left-of-requires c κs = let s = c .before .before .before .before in omega (arith, s .pre .inRow, s .pre .room)
 
 corner-of-requires : tie.Need-corner-of-requires Inv-loop μ-loop
-corner-of-requires c κs = c .before .before .before .before .before .pre .0 .small
+corner-of-requires c κs = c .before .before .before .before .before .pre .small
 
 reach-requires : tie.Need-reach-requires Inv-loop μ-loop
 reach-requires c κs = tt
 
 over-requires : tie.Need-over-requires Inv-loop μ-loop
-over-requires c κs = let s = c .before .before .before .before .before .before .before .before in omega (arith, c .reach .ensures .most, s .pre .1)
+over-requires c κs = let s = c .before .before .before .before .before .before .before .before in omega (arith, c .reach .ensures .most, s .pre .room)
 
 mul-calm : tie.Need-mul-calm Inv-loop μ-loop
-mul-calm c = let s = c .before .before .before .before .before .before .before .before .before in omega (arith, s .pre .0 .there, s .good)
+mul-calm c = let s = entered c in omega (arith, s .pre .there, s .good)
 
 calm-requires : tie.Need-calm-requires Inv-loop μ-loop
-calm-requires c κs =
-    let s = c .before .before .before .before .before .before .before .before .before .before in
-    (s .pre .0 .there, omega (arith, s .pre .0 .inRow, s .pre .1))
+calm-requires c κs = let s = entered (c .before) in (s .pre .there, omega (arith, s .pre .inRow, s .pre .room))
 
 threshold-bytes-requires : tie.Need-threshold-bytes-requires Inv-loop μ-loop
 threshold-bytes-requires c κs =
-    let s = c .before .before .before .before .before .before .before .before .before .before .before .before .before in
-    (s .pre .0 .there, s .pre .0 .fits)
+    let s = entered (c .before .before .before .before) in
+    (omega (arith, s .pre .there), omega arith)
 
 same-length : tie.Need-same-length Inv-loop μ-loop
 same-length c = search needs
@@ -81,36 +95,30 @@ returns-2 c =
     let t = c .before .before in
     let m = t .before .before .before in
     let o = m .before .before in
-    let s = o .before .before .before .before .before .before .before .before .before in
+    let s = entered o in
     let a = s .args in
     let n = near o in
-    let e = o .before .before .before .before .before .before .if1 .left in
     subst
-    (λ (out : List ℕ). Bytes dither (a .width) (a .y) (a .column) (now (a .samples)) (a .at) (now (a .out)) (a .to) (a .corner) (now (a .work)) (a .count) out 128 (now (a .work)))
-    (sym (t .threshold-bytes .ensures))
-    (calm-all (a .width) (a .y) (a .column) (a .corner) (now (a .samples)) (now (a .out)) (a .at) (a .to) (a .count) (now (a .work)) _ _ (s .pre .0 .there) (s .pre .0 .inRow) (s .pre .1)
-    (λ i. let f = o .before .before .before .before .before .before .before .before .shared-slice-known .given i in omega arith) (n .leftIs) (n .cornerIs) (m .calm .ensures (t .before .before .if2 .taken)) (omega (arith, e)))
+    (λ (out : List ℕ). Bytes dither (a .width) (a .y) (a .column) (now (a .samples)) (a .corner) (now (a .work)) (length (now (a .out))) out 128 (now (a .work)))
+    (sym (t .threshold-bytes .ensures ∙ stored-all 128 (now (a .samples)) (now (a .out))))
+    (calm-all (a .width) (a .y) (a .column) (a .corner) (now (a .samples)) (length (now (a .out))) (now (a .work)) _ (s .pre .there) (s .pre .inRow) (s .pre .room)
+    (λ i. let f = o .before .before .before .before .before .before .before .before .shared-slice-known .given i in omega arith)
+    (n .leftIs) (n .cornerIs) (m .calm .ensures (t .before .before .if2 .taken)) (some o))
 
 loop-holds : tie.Need-loop-holds Inv-loop μ-loop
 loop-holds c =
     let o = c .before .before .before in
-    let a = o .before .before .before .before .before .before .before .before .before .args in
-    chain-start (a .width) (a .y) (a .column) (now (a .samples)) (a .at) (now (a .out)) (a .to) (a .corner) (now (a .work)) (a .count) _ _ _ (near o)
+    let a = entered o .args in
+    chain-start (a .width) (a .y) (a .column) (now (a .samples)) (a .corner) (now (a .work)) (length (now (a .out))) (now (a .out)) _ refl (near o)
 
 mul-from : tie.Need-mul-from Inv-loop μ-loop
 mul-from c = let l = c .before in omega (arith, there l (c .loop-test .taken), start l .good)
 
-add-from : tie.Need-add-from Inv-loop μ-loop
-add-from c = let l = c .before in omega (arith, there l (c .loop-test .taken), start l .good)
-
 add-end : tie.Need-add-end Inv-loop μ-loop
 add-end c = let l = c .before in omega (arith, there l (c .loop-test .taken), start l .good)
 
-mul-dither-byte : tie.Need-mul-dither-byte Inv-loop μ-loop
-mul-dither-byte c = let l = c .before in omega (arith, there l (c .loop-test .taken), start l .good)
-
 add-dither-byte : tie.Need-add-dither-byte Inv-loop μ-loop
-add-dither-byte c = let l = c .before in let s = start l in omega (arith, s .pre .0 .inRow, s .pre .1, s .good)
+add-dither-byte c = let l = c .before in let s = start l in omega (arith, s .pre .inRow, s .pre .room, s .good)
 
 sub-dither-byte : tie.Need-sub-dither-byte Inv-loop μ-loop
 sub-dither-byte c = omega arith
@@ -127,38 +135,43 @@ dither-byte-requires c κs =
     let s = start l in
     let a = s .args in
     let i = l .loop .inv in
-    let n = piece-length (now (a .samples)) (a .at + 8 * l .loop .k) 8 (there l (c .before .before .loop-test .taken)) in (
-      record { some = omega arith; packs = (omega arith, omega arith); within = omega (arith, s .pre .0 .inRow); room = omega (arith, s .pre .1, i .workLong); small = i .near .cornerIs .small },
-      omega (arith, s .pre .0 .inRow),
-      near-own (a .width) (a .y) (a .column + 8 * l .loop .k) (i .last) (l .loop .work) _ _ _ (i .near),
+    let n = piece-length (now (a .samples)) (8 * l .loop .k) 8 (there l (c .before .before .loop-test .taken)) in (
+      record {
+        some = omega arith;
+        packs = (omega arith, omega arith);
+        within = omega (arith, s .pre .inRow);
+        room = omega (arith, s .pre .room, i .workLong);
+        small = i .near .cornerIs .small;
+      },
+      omega (arith, s .pre .inRow),
+      near-own (a .width) (a .y) (a .column + 8 * l .loop .k) (i .last) (l .loop .work) _ (i .near),
     )
-
-add-j : tie.Need-add-j Inv-loop μ-loop
-add-j c = let l = c .before .before .before .before .before in let s = start l in omega (arith, s .pre .0 .fits, s .good)
 
 cast-out : tie.Need-cast-out Inv-loop μ-loop
 cast-out c =
-    let t = c .before .before .before .before .before .loop-test .taken in
-    let l = c .before .before .before .before .before .before in
+    let t = begun c .loop-test .taken in
+    let l = begun c .before in
     let a = start l .args in
-    let b = byte-small (a .width) (a .y) (a .column) (now (a .samples)) (a .at) (now (a .out)) (a .to) (a .corner) (now (a .work)) (a .count) (l .loop .out) (l .loop .work) _ _ _ (l .loop .k) (l .loop .inv) t (there l t) _ _ (c .before .before .dither-byte .ensures) in
+    let b = byte-small (a .width) (a .y) (a .column) (now (a .samples)) (a .corner) (now (a .work)) (length (now (a .out)))
+    (l .loop .out) (l .loop .work) _ (l .loop .k) (l .loop .inv) t (there l t) _ _ (c .before .before .before .dither-byte .ensures) in
     omega (arith, b)
 
 slice-write-out : tie.Need-slice-write-out Inv-loop μ-loop
-slice-write-out c = let l = c .before .before .before .before .before .before in omega (arith, start l .pre .0 .fits, l .loop .inv .outLong)
+slice-write-out c = let l = begun c .before in omega (arith, begun c .loop-test .taken, l .loop .inv .outLong)
 
 add-k : tie.Need-add-k Inv-loop μ-loop
-add-k c = let l = c .before .before .before .before .before .before in omega (arith, start l .pre .0 .fits, start l .good)
+add-k c = let l = begun c .before in omega (arith, begun c .loop-test .taken, start l .good)
 
 loop-less : tie.Need-loop-less Inv-loop μ-loop
-loop-less c = omega arith
+loop-less c = omega (arith, begun c .loop-test .taken)
 
 loop-again : tie.Need-loop-again Inv-loop μ-loop
 loop-again c =
-    let t = c .before .before .before .before .before .loop-test .taken in
-    let l = c .before .before .before .before .before .before in
+    let t = begun c .loop-test .taken in
+    let l = begun c .before in
     let a = start l .args in
-    chain-more (a .width) (a .y) (a .column) (now (a .samples)) (a .at) (now (a .out)) (a .to) (a .corner) (now (a .work)) (a .count) (l .loop .out) (l .loop .work) _ _ _ (l .loop .k) (l .loop .inv) t (there l t) _ _ (c .before .before .dither-byte .ensures)
+    chain-more (a .width) (a .y) (a .column) (now (a .samples)) (a .corner) (now (a .work)) (length (now (a .out)))
+    (l .loop .out) (l .loop .work) _ (l .loop .k) (l .loop .inv) t (there l t) _ _ (c .before .before .before .dither-byte .ensures)
 
 same-length-3 : tie.Need-same-length-3 Inv-loop μ-loop
 same-length-3 c = c .before .loop .inv .outLong
@@ -170,8 +183,8 @@ returns-3 : tie.Need-returns-3 Inv-loop μ-loop
 returns-3 c =
     let l = c .before in
     let a = start l .args in
-    let e = l .before .before .before .before .before .before .before .before .before .before .if1 .left in
-    chain-end (a .width) (a .y) (a .column) (now (a .samples)) (a .at) (now (a .out)) (a .to) (a .corner) (now (a .work)) (a .count) _ _ _ _ _ _ (l .loop .inv) (c .loop-test .left) (omega (arith, e))
+    chain-end (a .width) (a .y) (a .column) (now (a .samples)) (a .corner) (now (a .work)) (length (now (a .out))) _ _ _ _ (l .loop .inv) (c .loop-test .left)
+    (some (l .before .before .before .before))
 
 pub dither-bytes-spec : {M : Type 1} → statement M
 dither-bytes-spec =
@@ -192,15 +205,12 @@ dither-bytes-spec =
     returns-2
     loop-holds
     mul-from
-    add-from
     add-end
-    mul-dither-byte
     add-dither-byte
     sub-dither-byte
     part-dither-byte-start
     part-dither-byte-end
     dither-byte-requires
-    add-j
     cast-out
     slice-write-out
     add-k

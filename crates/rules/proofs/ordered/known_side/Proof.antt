@@ -1,8 +1,8 @@
--- `quantize::asked::known` meets its contract.
+-- `rules::ordered::known_side` meets its contract.
 -- Assumes nothing.
 use borrow.Author.Tests.{ne-eqb}
-use Rattle.quantize.proofs.asked.known.Statement.{statement}
-use Rattle.quantize.proofs.asked.known.Tie as tie
+use Rattle.rules.proofs.ordered.known_side.Statement.{statement}
+use Rattle.rules.proofs.ordered.known_side.Tie as tie
 
 returns : tie.Need-returns
 returns c = rw (c .if1 .taken)
@@ -13,5 +13,5 @@ returns-2 c = rw (c .if2 .taken)
 returns-3 : tie.Need-returns-3
 returns-3 c = let side = c .before .before .args .side in rw (ne-eqb side 2 (c .before .if1 .left), ne-eqb side 4 (c .if2 .left))
 
-pub known-spec : {M : Type 1} → statement M
-known-spec = tie.close (tie.spec returns returns-2 returns-3)
+pub known-side-spec : {M : Type 1} → statement M
+known-side-spec = tie.close (tie.spec returns returns-2 returns-3)
