@@ -23,8 +23,7 @@ use Rattle.quantize.specs.Finished.{Setting, count, frame, dotOf, finished, set
 use Rattle.rules.specs.Packed.{paddedBit, byteAt}
 use Rattle.rules.proofs.DigitsAppended.{bit-le, appended-lt, appended-add, digits-tail}
 use Rattle.rules.proofs.UptoList.{length-upto, upto-at}
-use Rattle.quantize.proofs.BytePacked.{bit-in, bit-past, byte-at}
-use Rattle.quantize.proofs.Places.{div-at, mod-at}
+use Rattle.rules.proofs.PlaneBytes.{div-at, mod-at, bit-in, bit-past, byte-at}
 use Rattle.conformance.specs.ReadBack.{scanWhite}
 
 -- the digits after the first are below them

@@ -6,26 +6,14 @@ use mathlib.Core.Logic.{_⊎_, ⊎-elim}
 use native.Mathlib.Nat.{mod-lt, div-add-mod', mul-one}
 use native.Mathlib.Numerals.{add-one}
 use native.Mathlib.Omega.{arith}
-use borrow.Author.Tests.{lt-ltb, le-ltb}
 use Rattle.image.specs.Geometry.{rowBytes}
 use Rattle.rules.specs.Bits.{appended, digits}
 use Rattle.quantize.specs.Finished.{Setting, Bytewise, count}
 use Rattle.rules.specs.Packed.{paddedBit, byteAt}
 use Rattle.quantize.specs.Internal.Place.{begunBy, Begun}
 use Rattle.rules.proofs.DigitsAppended.{appended-ext, digits-tail}
-use Rattle.quantize.proofs.Places.{div-at, mod-at, col-row, on-row, on-column, count-now}
-
-pub bit-in : (w : ℕ) (d : ℕ → ℕ) (r c : ℕ) → c < w → paddedBit w d r c ≡ d (r * w + c)
-unfolding paddedBit
-bit-in w d r c h = rw (lt-ltb c w h)
-
-pub bit-past : (w : ℕ) (d : ℕ → ℕ) (r c : ℕ) → w ≤ c → paddedBit w d r c ≡ 0
-unfolding paddedBit
-bit-past w d r c h = rw (le-ltb c w h)
-
-pub byte-at : (w : ℕ) (d : ℕ → ℕ) (q b : ℕ) → b < rowBytes w → byteAt w d (q * rowBytes w + b) ≡ digits (λ i. paddedBit w d q (8 * b + i)) 8
-unfolding byteAt
-byte-at w d q b h = rw (div-at (rowBytes w) q b h, mod-at (rowBytes w) q b h)
+use Rattle.rules.proofs.PlaneBytes.{bit-in, bit-past, byte-at}
+use Rattle.quantize.proofs.Places.{col-row, on-row, on-column, count-now}
 
 -- no dot
 pub begun-none : (w : ℕ) (d : ℕ → ℕ) (n : ℕ) → n % w % 8 ≡ 0 → Begun w d n 0

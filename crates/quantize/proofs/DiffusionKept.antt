@@ -13,7 +13,8 @@ use Rattle.quantize.specs.Finished.{frame}
 use Rattle.rules.specs.Internal.Carry.{Carry, valueOf, diffused}
 use Rattle.quantize.specs.Internal.Engine.{Diffusion}
 use Rattle.rules.proofs.HeldRange.{Held}
-use Rattle.quantize.proofs.Places.{div-at, mod-at, next-row}
+use Rattle.rules.proofs.PlaneBytes.{div-at, mod-at}
+use Rattle.quantize.proofs.Places.{next-row}
 use Rattle.quantize.proofs.DotsDepend.{place-of, earlier, residual-same}
 use Rattle.quantize.proofs.DiffusionFollows.{follows, corner-small, diffusion-on, diffusion-row, diffusion-frame}
 

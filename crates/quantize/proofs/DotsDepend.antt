@@ -18,8 +18,8 @@ use Rattle.rules.specs.Packed.{paddedBit, byteAt}
 use Rattle.rules.proofs.Differences.{lt-or-le}
 use Rattle.rules.proofs.DigitsAppended.{appended-ext}
 use Rattle.rules.proofs.DotCauses.{valueAt-ext, residual-is}
-use Rattle.quantize.proofs.BytePacked.{bit-in, bit-past}
-use Rattle.quantize.proofs.Places.{div-at, mod-at, bytewise, begun-within}
+use Rattle.rules.proofs.PlaneBytes.{div-at, mod-at, bit-in, bit-past}
+use Rattle.quantize.proofs.Places.{bytewise, begun-within}
 
 -- ---- where sample n is
 

@@ -16,7 +16,7 @@ use Rattle.rules.specs.Internal.Row.{Bytes}
 use Rattle.rules.proofs.DitherBytesLoop.{bytes-none}
 use Rattle.quantize.proofs.DotsByRule.{dots-threshold}
 use Rattle.rules.proofs.ListPiece.{piece}
-use Rattle.rules.proofs.StoredBytes.{byte-piece}
+use Rattle.rules.proofs.StoredBytes.{digits-piece}
 
 module _ (rule : Quantize) (w y x : ℕ) (samples : List ℕ) (at : ℕ) (out : List ℕ) (to corner : ℕ) (work : List ℤ) where
   threshold-bytes : (t k : ℕ) → corner ≤ 256 → at + 8 * k ≤ length samples → Bytes (threshold t) w y x samples at out to corner work k (stored t samples at out to k) corner work
@@ -31,7 +31,7 @@ module _ (rule : Quantize) (w y x : ℕ) (samples : List ℕ) (at : ℕ) (out : 
         work = work;
         byte = byte;
         before = threshold-bytes t k h (omega arith);
-        dots = dots-threshold (Threshold t) out w y (x + 8 * k) (piece samples (at + 8 * k) 8) 0 corner work t byte refl h (byte-piece t samples (at + 8 * k) m);
+        dots = dots-threshold (Threshold t) out w y (x + 8 * k) (piece samples (at + 8 * k) 8) 0 corner work t byte refl h (digits-piece t samples (at + 8 * k) 8 m);
         stored = refl;
       }
 

@@ -14,7 +14,7 @@ use Rattle.quantize.specs.Finished.{Setting, wholeFrames}
 use Rattle.quantize.specs.Internal.Place.{At}
 use Rattle.quantize.specs.Internal.Engine.{Stands, spotOf, roomFor, behindFrames}
 use Rattle.quantize.proofs.DotsByRule.{roomy-same}
-use Rattle.quantize.proofs.Places.{mod-at, div-at}
+use Rattle.rules.proofs.PlaneBytes.{mod-at, div-at}
 
 and-false : (a b : Bool) → b ≡ false → false ≡ (a && b)
 and-false true b e = sym e

@@ -7,17 +7,9 @@ use native.Mathlib.Nat.{mul-add-div-right, mul-add-mod-self-right, mod-eq-of-lt,
 use native.Mathlib.Omega.{arith}
 use Rattle.image.specs.Geometry.{rowBytes}
 use Rattle.rules.specs.Rule.{Rule, threshold, dither, ordered}
+use Rattle.rules.proofs.PlaneBytes.{div-at, mod-at}
 use Rattle.quantize.specs.Finished.{Setting, begunBytes, Bytewise, count}
 use Rattle.quantize.specs.Internal.Place.{At}
-
--- ---- a number by row and column
-
-module _ (w q c : ℕ) (h : c < w) where
-  pub div-at : (q * w + c) / w ≡ q
-  div-at = let p : 0 < w = omega arith in rw (mul-add-div-right p q c, div-eq-of-lt h, add-zero)
-
-  pub mod-at : (q * w + c) % w ≡ c
-  mod-at = rw (mul-add-mod-self-right q w c, mod-eq-of-lt h)
 
 pub next-row : (w q : ℕ) → q * w + w ≡ (q + 1) * w + 0
 next-row w q = rw (add-mul, one-mul, add-zero)

@@ -1,13 +1,15 @@
 -- One frame's bytes as a plane of dots, each by its sample's number: what a plane that is written at once has to hold.
 -- Assumes nothing.
 use Prim.Native.Nat.{ℕ, _+_, _*_, _/_, _%_, _≤_, _<_}
-use mathlib.Core.Path.{_≡_, sym, ap, _∙_, fun-ext}
+use mathlib.Core.Path.{_≡_, refl, sym, ap, _∙_, fun-ext}
 use mathlib.Core.Logic.{⊎-elim}
 use mathlib.Core.List.{List, _++_}
 use native.Mathlib.Nat.{div-lt-iff-lt-mul, div-eq-of-lt, mod-eq-of-lt}
 use native.Mathlib.Omega.{arith}
+use lib.IntN.{ℤ}
 use lib.ListN.{length, getD, take, drop, take-append-drop}
 use lib.Seq.{length-take-le}
+use Rattle.error.specs.Answer.{gives}
 use Rattle.laws.proofs.Products.{up-to}
 use Rattle.image.specs.Geometry.{rowBytes}
 use Rattle.options.specs.declared.Quantize.{Quantize}
@@ -15,15 +17,17 @@ use Rattle.options.specs.declared.Quantize.the-variants.{Threshold, Dither}
 use Rattle.rules.specs.Bits.{upto, bit}
 use Rattle.rules.specs.Diffusion.{white, valueAt}
 use Rattle.rules.specs.Internal.Kernels.{thresholdBit}
+use Rattle.rules.specs.Internal.Planes.{planeIn}
 use Rattle.rules.specs.Rule.{rightwards, dot}
 use Rattle.quantize.specs.Finished.{Setting, count, frame, dotOf, finished, setting}
+use Rattle.quantize.specs.Whole.{refusedBy, Quantizes}
 use Rattle.rules.specs.Packed.{paddedBit, byteAt}
 use Rattle.rules.proofs.Differences.{lt-or-le}
 use Rattle.rules.proofs.DigitsAppended.{appended-ext}
 use Rattle.rules.proofs.UptoList.{upto-ext}
-use Rattle.quantize.proofs.BytePacked.{bit-in, bit-past}
+use Rattle.rules.proofs.PlaneBytes.{bit-in, bit-past}
 use Rattle.quantize.proofs.DotsDepend.{place-of, byte-counted}
-use Rattle.quantize.proofs.WholePlanes.{count-all}
+use Rattle.quantize.proofs.WholePlanes.{count-all, passed, quantizes-plane}
 
 -- ---- the bytes of h rows depend on the dots of these rows only
 
@@ -72,6 +76,16 @@ pub threshold-plane : (t w h : ℕ) (gray : List ℕ) → 0 < w → 0 < h → w 
 unfolding dotOf dot frame
 threshold-plane t w h gray wide high enough =
     plane-by (Threshold t) w h gray wide high enough _ (λ n l. ap (thresholdBit t gray) (sym (place-of w h n)))
+
+-- so the plane that the rule writes at once is what a whole call promises
+pub quantizes-threshold : (rule : Quantize) (t w h : ℕ) (gray out : List ℕ) (work : List ℤ) (code : ℕ) → rule ≡ Threshold t
+    → code ≡ refusedBy rule w h (length gray) (length work) → code ≡ 0 → rowBytes w * h ≤ length out
+    → (out′ : List ℕ) → out′ ≡ planeIn w h (thresholdBit t gray) (length gray) out → Quantizes rule w h gray out work (gives (rowBytes w * h)) out′ work
+quantizes-threshold rule t w h gray out work code r e z l out′ o =
+    let p = passed rule w h (length gray) (length work) (sym z ∙ e) in
+    quantizes-plane rule w h gray out work code e z l (thresholdBit t gray) out′ work
+    (ap (λ (q : Quantize). finished (setting q w h 1) (take (w * h) gray)) r ∙ threshold-plane t w h gray (p .wide) (p .high) (p .enough))
+    o refl (λ _. refl)
 
 frame-first : (w h : ℕ) (gray : List ℕ) → frame w h gray 0 ≡ (λ x y. getD gray (y * w + x) 0)
 unfolding frame

@@ -1,7 +1,7 @@
 -- Whole planes: the refusals in their order, and that one frame takes all of its samples.
 -- Assumes nothing.
 use Prim.Native.Nat.{ℕ, _+_, _-_, _*_, _≤_, _<_, min}
-use mathlib.Core.Path.{_≡_, refl, sym, ap, _∙_, subst}
+use mathlib.Core.Path.{_≡_, refl, sym, ap, ap₂, _∙_, subst}
 use mathlib.Core.Bool.{Bool, true, false, _||_}
 use mathlib.Core.Logic.{inl}
 use mathlib.Core.List.{List, [], _++_}
@@ -22,11 +22,13 @@ use Rattle.quantize.specs.declared.engine.Quantizer.{Quantizer}
 use Rattle.quantize.specs.declared.engine.Ran.{Ran}
 use Rattle.quantize.specs.Finished.{Setting, count, dotOf, finished, takes, setting}
 use Rattle.rules.specs.Packed.{byteAt}
-use Rattle.rules.specs.Rule.{meaning, knownRule, roomy}
+use Rattle.rules.specs.Rule.{meaning, knownRule, carries, roomy}
+use Rattle.rules.specs.Internal.Planes.{plane, planeIn}
 use Rattle.quantize.specs.Internal.Engine.{Opens, Holds, Runs}
 use Rattle.quantize.specs.Whole.{refusedBy, quantized, Quantizes}
 use Rattle.quantize.proofs.Places.{count-rows}
 use Rattle.quantize.proofs.TakenMost.{most-is}
+use Rattle.rules.proofs.PlaneWritten.{plane-in}
 use Rattle.rules.proofs.UptoList.{length-upto}
 
 -- ---- the refusals
@@ -142,6 +144,22 @@ module _ (rule : Quantize) (w h : ℕ) (gray out : List ℕ) (work : List ℤ) (
           beyond = refl;
           spared = λ _. refl;
           refused = λ _ _ _. refl;
+        }
+
+    -- a plane that was written at once, whatever gives its dots
+    pub quantizes-plane : rowBytes w * h ≤ length out → (d : ℕ → ℕ) (out′ : List ℕ) (work′ : List ℤ)
+        → finished (setting rule w h 1) (take (w * h) gray) ≡ plane w h d → out′ ≡ planeIn w h d (length gray) out
+        → drop w work′ ≡ drop w work → (carries (meaning rule) ≡ false → work′ ≡ work) → Quantizes rule w h gray out work (gives (rowBytes w * h)) out′ work′
+    quantizes-plane l d out′ work′ f o b c =
+        let k = plane-long rule w h (p .wide) (p .high) gray (p .enough) in
+        let m = mul-comm (rowBytes w) h in
+        record {
+          emits = subst (λ (a : Answer (List ℕ)). Emits a (gives (rowBytes w * h)) out out′) (sym (given-is z))
+              (emits-all _ out out′ (rowBytes w * h) (omega arith) (m ∙ sym k)
+              (o ∙ plane-in w h d (length gray) out (p .enough, omega arith) ∙ ap₂ (λ (x : List ℕ) (n : ℕ). x ++ drop n out) (sym f) (sym k)));
+          beyond = b;
+          spared = c;
+          refused = λ code place f. zero-one (cc);
         }
 
     module _ (l : rowBytes w * h ≤ length out) (q : Quantizer) (o : Opens rule w h 1 q) (r : Ran) (out′ : List ℕ) (work′ : List ℤ) (R : Runs q gray out work r out′ work′) where

@@ -1,4 +1,4 @@
-// Whole planes over the engine, one frame each.
+// Whole planes, one frame each: at once, or by the engine.
 use crate::asked::known_rule;
 use crate::asked::roomy;
 use crate::engine::Quantizer;
@@ -10,11 +10,14 @@ use error::WbmpError;
 use error::Written;
 use error::ZERO_DIMENSION;
 use options::Quantize;
+use rules::threshold_plane;
 ghost use mathlib.Core.Path.{_≡_};
+ghost use Prim.Native.Nat.{_≤_};
 ghost use lib.ListN.{length};
 ghost use Rattle.error.specs.Answer.{written};
 ghost use Rattle.options.specs.declared.Quantize.the-variants.{Threshold, Dither, Ordered};
 ghost use Rattle.error.specs.Emits.{Emits};
+ghost use Rattle.image.specs.Geometry.{planeBytes};
 ghost use Rattle.quantize.specs.Whole.{refusedBy, quantized, Quantizes};
 
 // The refusal of so many samples and numbers of work, or 0.
@@ -40,6 +43,23 @@ fn refused(width: u32, height: u32, gray: usize, rule: Quantize, work: usize) ->
     0
 }
 
+// The plane by the engine, where nothing is refused and there is room for it.
+fn engine_plane(
+    width: u32,
+    height: u32,
+    gray: &[u8],
+    rule: Quantize,
+    work: &mut [i16],
+    out: &mut [u8],
+) -> Written
+    requires { ⌜ (0 ≡ refusedBy rule width height (length (now gray)) (length (now work))) × (planeBytes width height ≤ length (now out)) ⌝ }
+    ensures { λ r. ⌜ Quantizes rule width height (now (gray .entry)) (now (out .entry)) (now (work .entry)) (written r) (now (out .exit)) (now (work .exit)) ⌝ }
+{
+    let q = Quantizer::new(rule, width, height, 1);
+    let r = q.run(gray, out, work);
+    Written::Bytes(r.written)
+}
+
 // Packs width × height gray samples into the plane's rows, at the front of the lent output.
 pub fn quantize_gray8(
     width: u32,
@@ -62,9 +82,14 @@ pub fn quantize_gray8(
             offset: 0,
         });
     }
-    let q = Quantizer::new(rule, width, height, 1);
-    let r = q.run(gray, out, work);
-    Written::Bytes(r.written)
+    match rule {
+        Quantize::Threshold(bound) => {
+            threshold_plane(bound, width, height, gray, out);
+            Written::Bytes(need)
+        }
+        Quantize::Dither => engine_plane(width, height, gray, rule, work, out),
+        Quantize::Ordered(_) => engine_plane(width, height, gray, rule, work, out),
+    }
 }
 
 pub fn from_gray8(

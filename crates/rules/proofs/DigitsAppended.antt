@@ -1,12 +1,12 @@
 -- Binary digits as they are appended.
 -- Assumes nothing.
-use Prim.Native.Nat.{ℕ, zero, suc, _+_, _-_, _*_, _^_, _≤_, _<_}
+use Prim.Native.Nat.{ℕ, zero, suc, _+_, _-_, _*_, _/_, _^_, _≤_, _<_}
 use mathlib.Core.Path.{_≡_, refl, sym, ap, _∙_, subst}
 use mathlib.Core.Bool.{Bool, true, false}
-use native.Mathlib.Nat.{add-zero, add-suc, pow-suc, lt-of-lt-of-le, mul-lt-mul-of-pos-right, mul-one, mul-assoc}
+use native.Mathlib.Nat.{zero-add, add-zero, add-suc, pow-suc, lt-of-lt-of-le, mul-lt-mul-of-pos-right, mul-one, mul-assoc}
 use native.Mathlib.Numerals.{add-one}
 use native.Mathlib.Omega.{arith}
-use lib.Pow.{pow-mono, pow-add, pow-pos}
+use lib.Pow.{pow-mono, pow-add, pow-pos, high}
 use lib.Dec.{leb}
 use borrow.Author.Tests.{le-leb, lt-leb}
 use Rattle.rules.specs.Bits.{bit, appended, digits}
@@ -46,6 +46,22 @@ pub appended-add : (f : ℕ → ℕ) (a m : ℕ) → appended (digits f a) (λ i
 unfolding appended
 appended-add f a zero = rw add-zero
 appended-add f a (suc m) = rw (add-suc, appended-add f a m)
+
+-- the digits begun, and the others below them
+pub appended-split : (b : ℕ) (f : ℕ → ℕ) (k : ℕ) → appended b f k ≡ b * 2 ^ k + digits f k
+unfolding appended
+appended-split b f zero = sym (add-zero (b * 2 ^ 0) ∙ mul-one b)
+appended-split b f (suc k) =
+    let p = appended-split b f k in
+    let r : b * 2 ^ suc k ≡ b * 2 ^ k * 2 = ap (λ (n : ℕ). b * n) (pow-suc 2 k) ∙ sym (mul-assoc b (2 ^ k) 2) in
+    omega arith
+
+-- the first digits alone
+pub digits-high : (f : ℕ → ℕ) → ((i : ℕ) → f i ≤ 1) → (m k : ℕ) → digits f (m + k) / 2 ^ k ≡ digits f m
+digits-high f h m k =
+    let g : ℕ → ℕ = λ i. f (m + i) in
+    let l : digits g k < 2 ^ k = rw zero-add at (appended-lt 0 g (λ i. h (m + i)) 0 k (omega arith)) in
+    ap (λ (n : ℕ). n / 2 ^ k) (sym (appended-add f m k) ∙ appended-split (digits f m) g k) ∙ high (digits f m) k l
 
 -- zeros at the end
 pub digits-tail : (f : ℕ → ℕ) (m k : ℕ) → ((i : ℕ) → m ≤ i → f i ≡ 0) → digits f (m + k) ≡ digits f m * 2 ^ k

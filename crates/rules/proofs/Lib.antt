@@ -19,3 +19,8 @@ pub mod Words
 pub mod WordCompared
 pub mod WordGathered
 pub mod RuleAsked
+pub mod UptoOverlaid
+pub mod PlaneBytes
+pub mod PlaneWritten
+pub mod WordPlain
+pub mod PlainRowWritten

@@ -9,26 +9,21 @@ use lib.Dec.{leb}
 use lib.ListN.{length, set, length-set}
 use Rattle.rules.specs.Bits.{bit, digits, appended}
 use Rattle.rules.specs.Internal.Kernels.{thresholdBit, thresholdFrom, stored}
-use Rattle.rules.proofs.DigitsAppended.{appended-ext}
+use Rattle.rules.proofs.DigitsAppended.{appended-ext, appended-split}
 use Rattle.rules.proofs.ListPiece.{piece, piece-length, piece-at}
-
--- eight dots after others
-eight-more : (b : ℕ) (f : ℕ → ℕ) → appended b f 8 ≡ b * 256 + digits f 8
-unfolding appended
-eight-more b f = omega arith
 
 module _ (t : ℕ) (gray : List ℕ) where
   -- a byte of dots after others
   pub byte-more : (begun byte n : ℕ) → n ≡ 8 → byte ≡ digits (thresholdFrom t gray 0) 8 → begun * 256 + byte ≡ appended begun (thresholdBit t gray) n
   byte-more begun byte n e h =
       let f : digits (thresholdFrom t gray 0) 8 ≡ digits (thresholdBit t gray) 8 = appended-ext 0 (thresholdFrom t gray 0) (thresholdBit t gray) 8 (λ i _. ap (thresholdBit t gray) (zero-add i)) in
-      rw (e, h, f) (sym (eight-more begun (thresholdBit t gray)))
+      rw (e, h, f) (sym (appended-split begun (thresholdBit t gray) 8))
 
-  -- the byte of eight samples from an index on
-  pub byte-piece : (at : ℕ) → at + 8 ≤ length gray → digits (thresholdFrom t gray at) 8 ≡ appended 0 (thresholdBit t (piece gray at 8)) (length (piece gray at 8))
-  byte-piece at h =
-      rw (piece-length gray at 8 h)
-      (appended-ext 0 (thresholdFrom t gray at) (thresholdBit t (piece gray at 8)) 8 (λ i l. ap (λ (g : ℕ). bit (leb t g)) (piece-at gray at 8 i l)))
+  -- the dots of m samples from an index on
+  pub digits-piece : (at m : ℕ) → at + m ≤ length gray → digits (thresholdFrom t gray at) m ≡ appended 0 (thresholdBit t (piece gray at m)) (length (piece gray at m))
+  digits-piece at m h =
+      rw (piece-length gray at m h)
+      (appended-ext 0 (thresholdFrom t gray at) (thresholdBit t (piece gray at m)) m (λ i l. ap (λ (g : ℕ). bit (leb t g)) (piece-at gray at m i l)))
 
   pub stored-length : (at : ℕ) (out : List ℕ) (to k : ℕ) → length (stored t gray at out to k) ≡ length out
   unfolding stored

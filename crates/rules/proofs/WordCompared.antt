@@ -18,7 +18,7 @@ use Rattle.rules.proofs.Words.{bytes-ext, bytes-add, bytes-times, bytes
 abbrev tops : ℕ
 tops = 0x8080808080808080
 
-abbrev ones : ℕ
+abbrev pub ones : ℕ
 ones = 0x0101010101010101
 
 -- no byte of the difference borrows
@@ -109,7 +109,7 @@ module _ (t : ℕ) (f : ℕ → ℕ) (small : Below 256 f) where
   raised-are =
       ap (bitOr (bytes f 8)) tops-are
       ∙ bytes-or f (λ i. 128) 8 small tops-small
-      ∙ bytes-ext (λ i. bitOr (f i) 128) (λ i. lows i + t % 128) 8 (λ i. raised (f i) (small i) ∙ omega arith)
+      ∙ bytes-ext (λ i. bitOr (f i) 128) (λ i. lows i + t % 128) 8 (λ i l. raised (f i) (small i) ∙ omega arith)
 
   lows-are : bitOr (bytes f 8) tops - t % 128 * ones ≡ bytes lows 8
   lows-are =
@@ -122,7 +122,7 @@ module _ (t : ℕ) (f : ℕ → ℕ) (small : Below 256 f) where
   lowered : (g : ℕ → ℕ) → Below 256 g → ((i : ℕ) → bitAnd (g i) 128 ≡ dots i * 128) → bitAnd (bytes g 8) tops / 128 ≡ bytes dots 8
   lowered g h e =
       ap (λ (n : ℕ). n / 128)
-      (ap (bitAnd (bytes g 8)) tops-are ∙ bytes-and g (λ i. 128) 8 h tops-small ∙ bytes-ext (λ i. bitAnd (g i) 128) (λ i. dots i * 128) 8 e ∙ bytes-times dots 8)
+      (ap (bitAnd (bytes g 8)) tops-are ∙ bytes-and g (λ i. 128) 8 h tops-small ∙ bytes-ext (λ i. bitAnd (g i) 128) (λ i. dots i * 128) 8 (λ i l. e i) ∙ bytes-times 128 dots 8)
       ∙ mul-div-cancel (bytes dots 8) (omega arith)
 
   pub dots-below : t < 128 → bitAnd (bitOr (bytes f 8) (bitOr (bytes f 8) tops - t % 128 * ones)) tops / 128 ≡ bytes dots 8

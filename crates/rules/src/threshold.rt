@@ -31,7 +31,7 @@ pub fn threshold_dots(bound: u8, gray: &[u8], begun: u32) -> u32
 }
 
 // Eight samples as one number, a byte each, the first the highest. So written, they are one load to the compiler.
-fn word(gray: &[u8], at: usize) -> u64
+pub(crate) fn word(gray: &[u8], at: usize) -> u64
     requires { ⌜ at + 8 ≤ length (now gray) ⌝ }
     ensures { λ r. ⌜ (r ≡ bytes (samplesFrom (now (gray .entry)) at) 8) × Below 256 (samplesFrom (now (gray .entry)) at) ⌝ }
 {
@@ -49,7 +49,7 @@ fn word(gray: &[u8], at: usize) -> u64
 const TOPS: u64 = 0x8080_8080_8080_8080;
 
 // The lowest bit of each byte.
-const ONES: u64 = 0x0101_0101_0101_0101;
+pub(crate) const ONES: u64 = 0x0101_0101_0101_0101;
 
 // The dots of eight samples, a byte each. The highest bit of a byte of `low` says whether the sample's other seven bits are at least those of `bound`.
 fn compared(bound: u8, samples: u64) -> u64
@@ -63,7 +63,7 @@ fn compared(bound: u8, samples: u64) -> u64
 }
 
 // Eight dots, a byte each, as one byte. In `halves` dot j of the lower half, from the lowest on, is bit 8 j, and that of the upper half bit 8 j + 4; the product brings them to bits 21 + j and 25 + j.
-fn gathered(dots: u64) -> u8
+pub(crate) fn gathered(dots: u64) -> u8
     ensures { λ r. ⌜ Gathers dots r ⌝ }
 {
     let halves = dots % 0x1_0000_0000 + dots / 0x1_0000_0000 * 16;
@@ -71,7 +71,7 @@ fn gathered(dots: u64) -> u8
 }
 
 // The dots of eight samples as a byte.
-fn byte(bound: u8, gray: &[u8], at: usize) -> u8
+pub(crate) fn byte(bound: u8, gray: &[u8], at: usize) -> u8
     requires { ⌜ at + 8 ≤ length (now gray) ⌝ }
     ensures { λ r. ⌜ r ≡ digits (thresholdFrom bound (now (gray .entry)) at) 8 ⌝ }
 {

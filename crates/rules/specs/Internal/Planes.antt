@@ -1,26 +1,38 @@
 -- What the functions promise that write whole planes, or whole rows, at once.
-use Prim.Native.Nat.{ℕ, _+_, _*_, _%_, _/_, _≤_}
+use Prim.Native.Nat.{ℕ, _+_, _-_, _*_, _%_, _/_, _^_, _≤_}
 use mathlib.Core.Path.{_≡_}
 use mathlib.Core.Bool.{Bool, true, _&&_}
 use mathlib.Core.List.{List, _++_}
-use lib.Dec.{leb}
+use lib.Dec.{leb, ltb}
 use lib.ListN.{length, getD, drop}
 use Rattle.error.specs.Choice.{if}
 use Rattle.image.specs.Geometry.{rowBytes}
-use Rattle.rules.specs.Bits.{upto, bit}
+use Rattle.rules.specs.Bits.{upto, bit, digits}
 use Rattle.rules.specs.Diffusion.{Scan, white, valueAt}
 use Rattle.rules.specs.Packed.{byteAt}
 use Rattle.rules.specs.Rule.{rightwards}
-use Rattle.rules.specs.Internal.Kernels.{thresholdBit}
+use Rattle.rules.specs.Internal.Kernels.{thresholdBit, thresholdFrom}
 use Rattle.rules.specs.Internal.Row.{Plain}
 
 -- the bytes of h rows of w dots, where the dot of sample n is d n
 abbrev pub plane : ℕ → ℕ → (ℕ → ℕ) → List ℕ
 plane w h d = upto (h * rowBytes w) (byteAt w d)
 
+-- the plane at the output's front
+abbrev pub planeAt : ℕ → ℕ → (ℕ → ℕ) → List ℕ → List ℕ
+planeAt w h d out = plane w h d ++ drop (h * rowBytes w) out
+
 -- the plane at the output's front, where there are samples and room for it, and otherwise the output as it was
 abbrev pub planeIn : ℕ → ℕ → (ℕ → ℕ) → ℕ → List ℕ → List ℕ
-planeIn w h d samples out = if (leb (w * h) samples && leb (h * rowBytes w) (length out)) (plane w h d ++ drop (h * rowBytes w) out) out
+planeIn w h d samples out = if (leb (w * h) samples && leb (h * rowBytes w) (length out)) (planeAt w h d out) out
+
+-- there are samples and room for it
+abbrev pub PlaneFits : ℕ → ℕ → ℕ → ℕ → Type 0
+PlaneFits w h samples bytes = (w * h ≤ samples) × (h * rowBytes w ≤ bytes)
+
+-- the last byte of a row whose m last samples stand from an index on
+abbrev pub endingByte : ℕ → List ℕ → ℕ → ℕ → ℕ
+endingByte t gray at m = digits (thresholdFrom t gray at) m * 2 ^ (8 - m)
 
 -- the scan whose samples stand row by row in a list
 abbrev pub scanOf : ℕ → List ℕ → Scan
@@ -30,9 +42,14 @@ scanOf w gray x y = getD gray (y * w + x) 0
 abbrev pub ditherBit : ℕ → List ℕ → ℕ → ℕ
 ditherBit w gray n = bit (white (valueAt rightwards w (scanOf w gray) (n % w) (n / w)))
 
--- r says that the first w samples are black and white alone: then their row is written, white where a sample is white
+-- sample c of a row of w, and 0 behind its last
+abbrev pub rowSample : ℕ → List ℕ → ℕ → ℕ
+rowSample w gray c = if (ltb c w) (getD gray c 0) 0
+
+-- r says whether there are w samples, with room for their row, and they are black and white alone: then the row is written, white where a sample is white
 pub record PlainRow (w : ℕ) (gray out : List ℕ) (r : Bool) (out′ : List ℕ) : Type 0 where
   pub beyond : drop (rowBytes w) out′ ≡ drop (rowBytes w) out
   pub there : r ≡ true → (w ≤ length gray) × (rowBytes w ≤ length out)
   pub plain : r ≡ true → Plain gray 0 w
+  pub all : w ≤ length gray → rowBytes w ≤ length out → Plain gray 0 w → r ≡ true
   pub written : r ≡ true → out′ ≡ plane w 1 (thresholdBit 128 gray) ++ drop (rowBytes w) out

@@ -1,6 +1,7 @@
 -- Eight samples, or eight dots, as one number with a byte for each.
-use Prim.Native.Nat.{ℕ, zero, suc, _+_, _*_, _<_}
+use Prim.Native.Nat.{ℕ, zero, suc, _+_, _*_, _%_, _<_}
 use mathlib.Core.Path.{_≡_}
+use mathlib.Core.Bool.{Bool, true}
 use mathlib.Core.List.{List}
 use lib.Dec.{leb}
 use lib.ListN.{getD}
@@ -26,3 +27,9 @@ Compares t w r = (f : ℕ → ℕ) → Below 256 f → w ≡ bytes f 8 → r ≡
 -- where z's eight bytes are f's values, each a dot, they are r's binary digits
 abbrev pub Gathers : ℕ → ℕ → Type 0
 Gathers z r = (f : ℕ → ℕ) → Below 2 f → z ≡ bytes f 8 → r ≡ digits f 8
+
+-- where w's eight bytes are f's values, r says whether each is 0 or 255
+abbrev pub TellsPlain : ℕ → Bool → Type 0
+TellsPlain w r =
+    (f : ℕ → ℕ) → Below 256 f → w ≡ bytes f 8
+    → (r ≡ true → (i : ℕ) → i < 8 → f i % 255 ≡ 0) × (((i : ℕ) → i < 8 → f i % 255 ≡ 0) → r ≡ true)

@@ -3,7 +3,8 @@
 use Prim.Native.Nat.{_+_, _/_}
 use native.Mathlib.Omega.{arith}
 use Rattle.laws.proofs.Products.{product-below}
-use Rattle.quantize.proofs.WholePlanes.{quantizes-refused, quantizes-short, quantizes-all}
+use Rattle.quantize.proofs.PlaneFinished.{quantizes-threshold}
+use Rattle.quantize.proofs.WholePlanes.{quantizes-refused, quantizes-short}
 use borrow.Author.Needs.{needs}
 use Rattle.quantize.proofs.whole.quantize_gray8.Statement.{statement}
 use Rattle.quantize.proofs.whole.quantize_gray8.Tie as tie
@@ -23,24 +24,52 @@ mul-need c = let s = c .before .before .before .before in record { fits = produc
 returns-2 : tie.Need-returns-2
 returns-2 c = let g = c .before in quantizes-short _ _ _ _ _ _ _ (g .before .refused .ensures) (g .if1 .left) (c .if2 .taken)
 
-new-requires : tie.Need-new-requires
-new-requires c κs = search needs
+enum-known-rule : tie.Need-enum-known-rule
+enum-known-rule c = search needs
 
-run-requires : tie.Need-run-requires
-run-requires c κs = search needs
+threshold-plane-requires : tie.Need-threshold-plane-requires
+threshold-plane-requires c κs = search needs
+
+enum-told : tie.Need-enum-told
+enum-told c = search needs
+
+engine-plane-requires : tie.Need-engine-plane-requires
+engine-plane-requires c κs = search needs
+
+enum-told-2 : tie.Need-enum-told-2
+enum-told-2 c = search needs
+
+engine-plane-requires-2 : tie.Need-engine-plane-requires-2
+engine-plane-requires-2 c κs = search needs
 
 same-length : tie.Need-same-length
 same-length c = search needs
 
+returns-3 : tie.Need-returns-3
+returns-3 c =
+    let p = c .before .before in
+    let m = p .before .before .before in
+    let e = m .before .before in
+    let g = e .before in
+    quantizes-threshold _ _ _ _ _ _ _ _ (m .rule .given .1) (g .before .refused .ensures) (g .if1 .left) (e .if2 .left) _ (p .threshold-plane .ensures)
+
 same-length-2 : tie.Need-same-length-2
 same-length-2 c = search needs
 
-returns-3 : tie.Need-returns-3
-returns-3 c =
-    let r = c .before .before .before in
-    let n = r .before .before .before in
-    let g = n .before in
-    quantizes-all _ _ _ _ _ _ _ (g .before .before .refused .ensures) (g .before .if1 .left) (g .if2 .left) _ (n .new .ensures) _ _ _ (r .run .ensures)
+same-length-3 : tie.Need-same-length-3
+same-length-3 c = search needs
+
+returns-4 : tie.Need-returns-4
+returns-4 c = search needs
+
+same-length-4 : tie.Need-same-length-4
+same-length-4 c = search needs
+
+same-length-5 : tie.Need-same-length-5
+same-length-5 c = search needs
+
+returns-5 : tie.Need-returns-5
+returns-5 c = search needs
 
 pub quantize-gray8-spec : {M : Type 1} → statement M
 quantize-gray8-spec =
@@ -51,8 +80,17 @@ quantize-gray8-spec =
     add-need
     mul-need
     returns-2
-    new-requires
-    run-requires
+    enum-known-rule
+    threshold-plane-requires
+    enum-told
+    engine-plane-requires
+    enum-told-2
+    engine-plane-requires-2
     same-length
+    returns-3
     same-length-2
-    returns-3)
+    same-length-3
+    returns-4
+    same-length-4
+    same-length-5
+    returns-5)
