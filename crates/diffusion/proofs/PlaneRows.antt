@@ -4,9 +4,8 @@ use Prim.Native.Nat.{ℕ, zero, suc, _+_, _*_, _/_, _%_, _≤_, _<_}
 use mathlib.Core.Path.{_≡_, refl, sym, ap, _∙_}
 use mathlib.Core.Logic.{⊎-elim}
 use mathlib.Core.List.{List, [], _∷_, _++_, append-nil}
-use native.Mathlib.Nat.{mul-add-div-right, mul-add-mod-self-right, mod-eq-of-lt, div-eq-of-lt, add-zero, suc-mul, one-mul}
+use native.Mathlib.Nat.{suc-mul, one-mul}
 use native.Mathlib.Omega.{arith}
-use borrow.Author.Tests.{lt-ltb, le-ltb}
 use lib.ListN.{length, drop}
 use lib.Seq.{drop-length}
 use Rattle.image.specs.Geometry.{rowBytes}
@@ -15,34 +14,25 @@ use Rattle.rules.specs.Packed.{paddedBit, byteAt}
 use Rattle.rules.specs.Internal.Planes.{plane}
 use Rattle.rules.proofs.Differences.{lt-or-le}
 use Rattle.rules.proofs.DigitsAppended.{appended-ext}
+use Rattle.rules.proofs.PlaneBytes.{bit-in, bit-past, byte-at}
 use Rattle.rules.proofs.UptoList.{length-upto, upto-ext, upto-add}
 use Rattle.diffusion.specs.Internal.Rows.{rowOf}
-
--- ---- a number by row and column
-
-module _ (w q c : ℕ) (h : c < w) where
-  pub div-at : (q * w + c) / w ≡ q
-  div-at = let p : 0 < w = omega arith in rw (mul-add-div-right p q c, div-eq-of-lt h, add-zero)
-
-  pub mod-at : (q * w + c) % w ≡ c
-  mod-at = rw (mul-add-mod-self-right q w c, mod-eq-of-lt h)
 
 -- ---- row q of one plane and row r of another have the same dots
 
 module _ (w : ℕ) (d e : ℕ → ℕ) (q r : ℕ) (same : (c : ℕ) → c < w → d (q * w + c) ≡ e (r * w + c)) where
   bit-same : (c : ℕ) → paddedBit w d q c ≡ paddedBit w e r c
-  unfolding paddedBit
   bit-same c =
       ⊎-elim
-      (λ (k : c < w). rw (lt-ltb c w k) (same c k))
-      (λ (k : w ≤ c). rw (le-ltb c w k))
+      (λ (k : c < w). bit-in w d q c k ∙ same c k ∙ sym (bit-in w e r c k))
+      (λ (k : w ≤ c). bit-past w d q c k ∙ sym (bit-past w e r c k))
       (lt-or-le c w)
 
   byte-same : (b : ℕ) → b < rowBytes w → byteAt w d (q * rowBytes w + b) ≡ byteAt w e (r * rowBytes w + b)
-  unfolding byteAt
   byte-same b l =
-      rw (div-at (rowBytes w) q b l, mod-at (rowBytes w) q b l, div-at (rowBytes w) r b l, mod-at (rowBytes w) r b l)
-      (appended-ext 0 (λ i. paddedBit w d q (8 * b + i)) (λ i. paddedBit w e r (8 * b + i)) 8 (λ i k. bit-same (8 * b + i)))
+      byte-at w d q b l
+      ∙ appended-ext 0 (λ i. paddedBit w d q (8 * b + i)) (λ i. paddedBit w e r (8 * b + i)) 8 (λ i k. bit-same (8 * b + i))
+      ∙ sym (byte-at w e r b l)
 
 module _ (w : ℕ) where
   first-row : (d : ℕ → ℕ) (b : ℕ) → byteAt w d (0 * rowBytes w + b) ≡ byteAt w d b

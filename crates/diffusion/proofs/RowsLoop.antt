@@ -20,11 +20,12 @@ use Rattle.rules.specs.Diffusion.{Scan, white, valueAt}
 use Rattle.rules.specs.Rule.{rightwards}
 use Rattle.rules.specs.Internal.Planes.{plane, scanOf, ditherBit}
 use Rattle.rules.proofs.Differences.{lt-or-le}
+use Rattle.rules.proofs.PlaneBytes.{div-at, mod-at}
 use Rattle.rules.proofs.ListPiece.{piece, piece-length, piece-at}
 use Rattle.diffusion.specs.Internal.Sums.{none, valueBy, handedDown, Handed}
 use Rattle.diffusion.specs.Internal.Rows.{grayOf, dotBy, rowOf}
 use Rattle.diffusion.specs.Internal.Planes.{handedTo, RowNext, PlaneLent, RowsWritten}
-use Rattle.diffusion.proofs.PlaneRows.{div-at, mod-at, row-length, row-same, rows-more, row-one}
+use Rattle.diffusion.proofs.PlaneRows.{row-length, row-same, rows-more}
 use Rattle.diffusion.proofs.SumsCorrect.{down-small, value-same, down-same, dot-correct, handed-first, handed-next}
 
 -- ---- the bytes

@@ -1,8 +1,8 @@
 // Rows one after the other: what a row hands down is kept in the work buffer, unless it is nothing.
-use crate::plain::plain_row;
 use crate::row::dither_row;
 use crate::tables::down_table;
 use crate::tables::right_table;
+use rules::plain_row;
 ghost use mathlib.Core.Path.{_≡_};
 ghost use Prim.Native.Nat.{_≤_};
 ghost use lib.ListN.{length, drop};
