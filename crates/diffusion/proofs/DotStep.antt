@@ -12,7 +12,7 @@ use lib.Signed.{nonNeg}
 use mir.Syntax.{w16}
 use mir.Val.{Fits}
 use Rattle.diffusion.specs.declared.row.Flow.{Flow}
-use Rattle.diffusion.specs.Internal.Sums.{partOf, restOf}
+use Rattle.diffusion.specs.Internal.Sums.{restOf}
 use Rattle.diffusion.specs.Internal.Rows.{RightTable, DownTable}
 use Rattle.diffusion.specs.Internal.Flow.{partsOf, DotLent, DotPassed}
 use Rattle.diffusion.proofs.SumsCorrect.{part-small, rest-small}
@@ -58,7 +58,8 @@ module _ (rights downs : List ℕ) (f : Flow) (gray : ℕ) (z sum : ℤ) (same :
   pub index-lt : gray + natAbs z + f .right < 512
   index-lt = subst⁻¹ (λ (i : ℤ). gray + natAbs i + f .right < 512) same (omega (arith, lent .rightSmall, lent .sumSmall))
 
-  pub dot-passed : RightTable rights → DownTable downs → DotPassed f (gray + natAbs sum + f .right) (stepped rights downs f (gray + natAbs z + f .right))
+  pub dot-passed : RightTable rights → DownTable downs
+      → DotPassed f (gray + natAbs sum + f .right) (stepped rights downs f (gray + natAbs z + f .right))
   dot-passed r d =
       subst (λ (i : ℤ). DotPassed f (gray + natAbs i + f .right) (stepped rights downs f (gray + natAbs z + f .right))) same
       (step-passed rights downs f (gray + natAbs z + f .right) r d index-lt)
