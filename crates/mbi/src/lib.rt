@@ -48,24 +48,15 @@ pub fn mbi_step(strict: bool, at: usize, value: u32, count: u8, byte: u8) -> Mbi
     ensures { λ r. ⌜ Stepped strict at value count byte r ⌝ }
 {
     if leading(strict, count, byte) {
-        return MbiStep::Refused(WbmpError {
-            code: MBI_NOT_SHORTEST,
-            offset: at,
-        });
+        return MbiStep::Refused(WbmpError::new(MBI_NOT_SHORTEST, at));
     }
     let after = std::num::wrapping_add_usize(at, 1);
     let v = (value as u64) * 128 + (byte as u64) % 128;
     if v > 4294967295 {
-        return MbiStep::Refused(WbmpError {
-            code: MBI_OVERFLOW,
-            offset: after,
-        });
+        return MbiStep::Refused(WbmpError::new(MBI_OVERFLOW, after));
     }
     if count >= MAX_MBI_BYTES {
-        return MbiStep::Refused(WbmpError {
-            code: MBI_TOO_LONG,
-            offset: after,
-        });
+        return MbiStep::Refused(WbmpError::new(MBI_TOO_LONG, after));
     }
     if byte < 128 {
         return MbiStep::Ends(v as u32);
@@ -98,10 +89,7 @@ fn read_mbi(strict: bool, bytes: &[u8], offset: usize) -> MbiRead
         at += 1;
         count += 1;
     }
-    MbiRead::Refused(WbmpError {
-        code: MBI_TRUNCATED,
-        offset: at,
-    })
+    MbiRead::Refused(WbmpError::new(MBI_TRUNCATED, at))
 }
 
 // An integer of at most 7 bytes; leading 0x80s are accepted.
@@ -137,10 +125,7 @@ pub fn write_mbi_u32(value: u32, out: &mut [u8]) -> Written
 {
     let n = mbi_u32_len(value);
     if out.len() < n {
-        return Written::Refused(WbmpError {
-            code: OUTPUT_TOO_SHORT,
-            offset: 0,
-        });
+        return Written::refused(OUTPUT_TOO_SHORT);
     }
     let mut k = n - 1;
     let mut v = value / 128;
