@@ -1,6 +1,7 @@
 pub mod Machine
 pub mod RunSteps
 pub mod IntegerByte
+pub mod PairByte
 pub mod StepSound
 pub mod BytesTaken
 pub mod EndRefusal
