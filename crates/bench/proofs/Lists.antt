@@ -9,7 +9,7 @@ use lib.IntN.{ℤ}
 use lib.ListN.{length}
 use borrow.Author.Tests.{le-leb}
 use Rattle.error.specs.Choice.{if}
-use Rattle.error.specs.Answer.{Answer, gives, refuses, written}
+use Rattle.error.specs.Answer.{Answer, gives, refuses, codeOf, written}
 use Rattle.error.specs.Emits.{emitted}
 use Rattle.laws.proofs.Tests.{if-true, if-false, zero-one}
 use Rattle.ext_write.specs.Write.{fieldsBytes}
@@ -34,7 +34,6 @@ use Rattle.replay.specs.Encode as Encode
 use Rattle.replay.specs.Decode as Decode
 use Rattle.replay.specs.declared.EncodeReplayed.{EncodeReplayed}
 use Rattle.replay.specs.declared.DecodeReplayed.{DecodeReplayed}
-use Rattle.bench.specs.Made.{codeOf}
 use Rattle.bench.specs.Lists.{formatOf, asked, rule, ruleOf, ReadsList, startedBy, makingFrom, MakesList, MadeWhole}
 
 -- ---- settings

@@ -1,10 +1,10 @@
 // Threshold and dithering, sessions and whole making under C names, for tools/bench, which times them. They are no part of include/wbmp.h.
 use error::Written;
 ghost use mathlib.Core.Path.{_≡_};
-ghost use Rattle.error.specs.Answer.{written};
+ghost use Rattle.error.specs.Answer.{codeOf, written};
 ghost use Rattle.options.specs.declared.Quantize.the-variants.{Threshold};
 ghost use Rattle.quantize.specs.Whole.{quantized};
-ghost use Rattle.bench.specs.Made.{codeOf, Made, Dithered};
+ghost use Rattle.bench.specs.Made.{Made, Dithered};
 
 mod sessions;
 

@@ -11,12 +11,12 @@ use lib.ListN.{length, take, drop, length-append, length-drop}
 use lib.Seq.{drop-drop, length-take-le}
 use borrow.Author.Tests.{lt-ltb, leb-true, leb-false, eqb-true, eqb-false, eq-eqb, ne-eqb}
 use Rattle.error.specs.Choice.{if}
-use Rattle.error.specs.Answer.{Answer, gives, refuses, bind, map}
+use Rattle.error.specs.Answer.{Answer, gives, refuses, bind, map, codeOf}
 use Rattle.laws.proofs.Lists.{length-part}
 use Rattle.laws.proofs.Tests.{if-true, if-false}
 use Rattle.ext.specs.Kinds.{Pair, Fields}
 use Rattle.ext_write.specs.Write.{checkPair, pairBytes, pairsBytes, cutPairs, sum, lentFields, lentBytes, fieldsBytes}
-use Rattle.ext_write.specs.Internal.Steps.{lentPair, codeOf, startAfter, checkStart, checkStep, checkPairs}
+use Rattle.ext_write.specs.Internal.Steps.{lentPair, startAfter, checkStart, checkStep, checkPairs}
 use Rattle.ext_write.specs.declared.PairsCheck.{PairsCheck}
 use Rattle.ext_write.proofs.PairVerdict.{Verdict, verdict, pair-passed}
 use Rattle.ext_write.proofs.PairsLaid.{laid, pairs-laid, laid-cons}
