@@ -2,7 +2,7 @@ pub mod Machine
 pub mod RunSteps
 pub mod IntegerByte
 pub mod PairByte
-pub mod StepSound
+pub mod StepReachable
 pub mod BytesTaken
 pub mod EndRefusal
 pub mod RefusalMet

@@ -22,7 +22,7 @@ use Rattle.header_reader.specs.declared.run.PairsRun.{PairsRun}
 use Rattle.header_reader.specs.declared.run.FieldsRun.{FieldsRun}
 use Rattle.header_reader.specs.declared.reader.HeaderReader.{HeaderReader}
 use Rattle.header_reader.proofs.Machine.{steps-cons, steps-append}
-use Rattle.header_reader.proofs.StepSound.{SoundStep, sound-steps}
+use Rattle.header_reader.proofs.StepReachable.{ReachableStep, reachable-steps}
 
 -- ---- octets
 
@@ -220,7 +220,7 @@ module _ (r : HeaderReader) (piece : List ℕ) where
                   record {
                     mode-is = h .mode-is;
                     phase-is = refl;
-                    sound = subst SoundStep (run .reached) (sound-steps o (take (x .taken) piece) st (h .sound));
+                    reachable = subst ReachableStep (run .reached) (reachable-steps o (take (x .taken) piece) st (h .reachable));
                   };
               reached = run .reached;
               inside = none-or o st (run .inside);

@@ -14,7 +14,7 @@ ghost use Rattle.error.specs.Answer.{gives, written};
 ghost use Rattle.error.specs.Emits.{Emits};
 ghost use Rattle.mbi.specs.Bytes.{mbiBytes};
 ghost use Rattle.mbi.specs.Read.{readMbi, meaning};
-ghost use Rattle.mbi.specs.Internal.Step.{Stepped};
+ghost use Rattle.mbi.specs.Internal.Step.{MbiStepped};
 
 // An integer that was read, with the offset after it, or a refusal.
 pub enum MbiRead {
@@ -45,7 +45,7 @@ fn leading(strict: bool, count: u8, byte: u8) -> bool
 
 // The byte at an offset, where `count` bytes before it have given `value`. `after` wraps only at the last `usize`, where no byte stands.
 pub fn mbi_step(strict: bool, at: usize, value: u32, count: u8, byte: u8) -> MbiStep
-    ensures { λ r. ⌜ Stepped strict at value count byte r ⌝ }
+    ensures { λ r. ⌜ MbiStepped strict at value count byte r ⌝ }
 {
     if leading(strict, count, byte) {
         return MbiStep::Refused(WbmpError::new(MBI_NOT_SHORTEST, at));
