@@ -64,7 +64,7 @@ module _ (o : Settings) (strict : Bool) (f : Fields) (bytes τ : List ℕ) (read
       (omega (
         arith,
         fields-bound (o .classes) true (kindBits (fixByte f)) (fieldsFile (fixByte f) bytes []) 2 (f, 2 + length bytes)
-            (read []) .span-most,
+            (read []) .spanMost,
       ))
 
   pub held-more : (at n : ℕ) (ext : List ℕ) → FileHeld at ext

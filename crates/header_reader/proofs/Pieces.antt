@@ -113,7 +113,7 @@ unfolding stepOf readByte
 height = takes (Phase.InHeight 0 HeaderFields.Absent 9 (begun 3)) 2 (PhaseStep.Done sized) refl
 
 opened : Represents (reader (Phase.InType (begun 0))) (settings lenient) start
-opened = record { mode-is = refl; phase-is = refl; reachable = reachable-start }
+opened = record { modeIs = refl; phaseIs = refl; reachable = reachable-start }
 
 cut : Run (reader (Phase.InType (begun 0))) ((0 ∷ []) ∷ [] ∷ (0 ∷ 9 ∷ []) ∷ (2 ∷ []) ∷ []) (gives (parsed sized))
 cut = piece (byte type nothing) (piece nothing (piece (byte fix (byte width nothing)) (whole (last height))))

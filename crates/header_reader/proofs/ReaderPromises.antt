@@ -54,7 +54,7 @@ asReader mode (PhaseStep.Refused e) = HeaderStep.Refused e
 
 answers : (mode : HeaderMode) (o : Settings) (x : PhaseStep) → settings mode ≡ o → ReachableStep (moved x)
     → Answers o (asReader mode x) (moved x)
-answers mode o (PhaseStep.More p) m s = record { mode-is = m; phase-is = refl; reachable = s }
+answers mode o (PhaseStep.More p) m s = record { modeIs = m; phaseIs = refl; reachable = s }
 answers mode o (PhaseStep.Done h) m s = refl
 answers mode o (PhaseStep.Refused e) m s = (refl, refl)
 
@@ -66,10 +66,10 @@ module _ (r : HeaderReader) (b : ℕ) where
       record {
         does = λ o st h.
             let q : moved x ≡ stepOf o st b =
-            sym (ap moved c) ∙ e ∙ ap (λ (k : Settings). stepOf k (state (r .phase)) b) (h .mode-is)
-            ∙ ap (λ (k : State). stepOf o k b) (h .phase-is) in
+            sym (ap moved c) ∙ e ∙ ap (λ (k : Settings). stepOf k (state (r .phase)) b) (h .modeIs)
+            ∙ ap (λ (k : State). stepOf o k b) (h .phaseIs) in
             subst (λ (k : Step). Answers o (asReader (r .mode) x) k) q
-            (answers (r .mode) o x (h .mode-is) (subst⁻¹ ReachableStep q (reachable-step o st b (h .reachable))));
+            (answers (r .mode) o x (h .modeIs) (subst⁻¹ ReachableStep q (reachable-step o st b (h .reachable))));
       }
 
   -- a reader that is out of range stands for nothing
@@ -77,9 +77,9 @@ module _ (r : HeaderReader) (b : ℕ) where
   lost t x w e =
       record {
         does = λ o st h.
-            let y = w .yes (bounded (state (r .phase)) (subst⁻¹ Reachable (h .phase-is) (h .reachable))) in
+            let y = w .yes (bounded (state (r .phase)) (subst⁻¹ Reachable (h .phaseIs) (h .reachable))) in
             zero-one (cc);
       }
 
 pub ended-at : (r : HeaderReader) (e : WbmpError) → ((o : Settings) → refusal e ≡ resume o (state (r .phase)) []) → ReaderEnded r e
-ended-at r e p = record { does = λ o st h. p o ∙ ap (λ (k : State). resume o k []) (h .phase-is) }
+ended-at r e p = record { does = λ o st h. p o ∙ ap (λ (k : State). resume o k []) (h .phaseIs) }

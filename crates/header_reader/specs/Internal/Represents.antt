@@ -44,8 +44,8 @@ Reachable (inWidth fix f at v n) = (at ≤ 4128 + n) × (n ≤ 7)
 Reachable (inHeight fix f w at v n) = (at ≤ 4136 + n) × (n ≤ 7)
 
 pub record Represents (r : HeaderReader) (o : Settings) (st : State) : Type 0 where
-  pub mode-is : settings (r .mode) ≡ o
-  pub phase-is : state (r .phase) ≡ st
+  pub modeIs : settings (r .mode) ≡ o
+  pub phaseIs : state (r .phase) ≡ st
   pub reachable : Reachable st
 
 -- the code's step answers as a step of the definitions

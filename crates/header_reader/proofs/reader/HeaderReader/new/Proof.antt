@@ -8,7 +8,7 @@ start-requires : tie.Need-start-requires
 start-requires c κs = search needs
 
 returns : tie.Need-returns
-returns c = record { mode-is = refl; phase-is = rw (c .start .ensures); reachable = reachable-start }
+returns c = record { modeIs = refl; phaseIs = rw (c .start .ensures); reachable = reachable-start }
 
 pub new-spec : {M : Type 1} → statement M
 new-spec = tie.close (tie.spec start-requires returns)
