@@ -4,7 +4,7 @@ use header::HeaderRead;
 ghost use mathlib.Core.Path.{_≡_};
 ghost use Prim.Native.Nat.{_≤_};
 ghost use lib.ListN.{length};
-ghost use Rattle.api.specs.Internal.Parts.{Reads, Heights, Fronts, frontIn};
+ghost use Rattle.api.specs.Internal.Parts.{ShortReads, Heights, Fronts, frontIn};
 
 // The sizes and the offset after them, where they were read.
 pub(crate) enum Front {
@@ -25,7 +25,7 @@ enum Short {
 // The integer 16384, the largest that sniffing takes for a size: 81 80 00.
 fn largest_size(bytes: &[u8], at: usize) -> Short
     requires { ⌜ at ≤ length (now bytes) ⌝ }
-    ensures { λ r. ⌜ Reads (now (bytes .entry)) at r ⌝ }
+    ensures { λ r. ⌜ ShortReads (now (bytes .entry)) at r ⌝ }
 {
     if bytes.len() - at < 3 {
         return Short::Longer;
@@ -47,7 +47,7 @@ fn largest_size(bytes: &[u8], at: usize) -> Short
 
 // An integer of one or two bytes in its smallest encoding, or 16384.
 fn short_integer(bytes: &[u8], at: usize) -> Short
-    ensures { λ r. ⌜ Reads (now (bytes .entry)) at r ⌝ }
+    ensures { λ r. ⌜ ShortReads (now (bytes .entry)) at r ⌝ }
 {
     if bytes.len() <= at {
         return Short::Longer;

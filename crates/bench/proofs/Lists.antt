@@ -9,7 +9,7 @@ use lib.IntN.{ℤ}
 use lib.ListN.{length}
 use borrow.Author.Tests.{le-leb}
 use Rattle.error.specs.Choice.{if}
-use Rattle.error.specs.Answer.{Answer, gives, refuses, written}
+use Rattle.error.specs.Answer.{Answer, gives, refuses, codeOf, written}
 use Rattle.error.specs.Emits.{Emits, emitted}
 use Rattle.laws.proofs.Tests.{if-true, if-false, zero-one}
 use Rattle.ext_write.specs.Write.{fieldsBytes}
@@ -35,7 +35,7 @@ use Rattle.replay.specs.Encode as Encode
 use Rattle.replay.specs.Decode as Decode
 use Rattle.replay.specs.declared.EncodeReplayed.{EncodeReplayed}
 use Rattle.replay.specs.declared.DecodeReplayed.{DecodeReplayed}
-use Rattle.bench.specs.Made.{codeOf, Made}
+use Rattle.bench.specs.Made.{Made}
 use Rattle.bench.specs.Lists.{formatOf, asked, rule, ruleOf, planesFile, ReadsList, startedBy, makingFrom, MakesList, MadeWhole}
 use Rattle.bench.proofs.Makes.{made}
 

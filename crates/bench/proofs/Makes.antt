@@ -3,11 +3,11 @@ use Prim.Native.Nat.{ℕ}
 use mathlib.Core.Path.{_≡_, ap, _∙_}
 use mathlib.Core.List.{List}
 use lib.IntN.{ℤ}
-use Rattle.error.specs.Answer.{Answer}
+use Rattle.error.specs.Answer.{Answer, codeOf}
 use Rattle.error.specs.Emits.{Emits}
 use Rattle.options.specs.declared.Quantize.the-variants.{Dither}
 use Rattle.quantize.specs.Whole.{Quantizes}
-use Rattle.bench.specs.Made.{codeOf, Made, Dithered}
+use Rattle.bench.specs.Made.{Made, Dithered}
 
 pub made : (a : Answer (List ℕ)) (w : Answer ℕ) (r : ℕ) (old new : List ℕ) → Emits a w old new → r ≡ codeOf w → Made a r old new
 made a w r old new e q = record { answer = q ∙ ap codeOf (e .answer); bytes = e .bytes }

@@ -4,15 +4,10 @@ use mathlib.Core.Path.{_≡_}
 use mathlib.Core.List.{List}
 use lib.IntN.{ℤ}
 use lib.ListN.{length, drop}
-use Rattle.error.specs.Answer.{Answer, gives, refuses}
+use Rattle.error.specs.Answer.{Answer, refuses, codeOf}
 use Rattle.error.specs.Emits.{emitted, output}
 use Rattle.options.specs.declared.Quantize.the-variants.{Dither}
 use Rattle.quantize.specs.Whole.{quantized}
-
--- the number of a refusal, 0 where there is none; the place is 0 always
-abbrev pub codeOf : Answer ℕ → ℕ
-codeOf (gives n) = 0
-codeOf (refuses code offset) = code
 
 pub record Made (a : Answer (List ℕ)) (r : ℕ) (old new : List ℕ) : Type 0 where
   pub answer : r ≡ codeOf (emitted a old)

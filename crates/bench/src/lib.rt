@@ -2,10 +2,10 @@
 // include/wbmp.h.
 use error::Written;
 ghost use mathlib.Core.Path.{_≡_};
-ghost use Rattle.error.specs.Answer.{written};
+ghost use Rattle.error.specs.Answer.{codeOf, written};
 ghost use Rattle.options.specs.declared.Quantize.the-variants.{Threshold};
 ghost use Rattle.quantize.specs.Whole.{quantized};
-ghost use Rattle.bench.specs.Made.{codeOf, Made, Dithered};
+ghost use Rattle.bench.specs.Made.{Made, Dithered};
 
 mod sessions;
 

@@ -17,10 +17,10 @@ use Rattle.header.specs.Settings.{Settings}
 use Rattle.header.specs.Read.{Outline, outline, readHeader}
 use Rattle.header_reader.specs.Internal.Machine.{State, inType, atFix, inOctets, atOctet, atPair, inIdentifier, inValue, inWidth, inHeight}
 use Rattle.header_reader.specs.Internal.Machine.{start, Step, more, done, refused, onByte, resume, stepOf, steps, after}
-use Rattle.header_reader.specs.Internal.Represents.{Sound}
+use Rattle.header_reader.specs.Internal.Represents.{Reachable}
 use Rattle.header_reader.specs.Internal.Pieces.{onward}
 use Rattle.header_reader.proofs.Machine.{steps-cons, steps-all}
-use Rattle.header_reader.proofs.StepSound.{SoundStep, sound-step, sound-start}
+use Rattle.header_reader.proofs.StepReachable.{ReachableStep, reachable-step, reachable-start}
 use Rattle.header_reader.proofs.EndRefusal.{endCode, endOffset, end-is}
 use Rattle.header_reader.proofs.Direct.{direct}
 
@@ -45,7 +45,7 @@ Waits (inWidth fix f at v n) = Unit {0}
 Waits (inHeight fix f w at v n) = Unit {0}
 
 abbrev Near : Step → Type 0
-Near (more st) = Sound st × Waits st
+Near (more st) = Reachable st × Waits st
 Near (done h) = h .body < 8192
 Near (refused code offset) = Told code offset
 
@@ -87,7 +87,7 @@ wrong-told strict at v n b code offset h e =
     go false false false true q = zero-one (cc)
     go false false false false q = zero-one (cc)
 
--- the part of `Near` that a sound step does not say by itself
+-- the part of `Near` that a reachable step does not say by itself
 abbrev Tells : Step → Type 0
 Tells (more st) = Waits st
 Tells (done h) = h .body < 8192
@@ -103,7 +103,7 @@ module _ (o : Settings) where
   number at v n b (ends w) g l h e p q = q w
   number at v n b (wrong code offset) g l h e p q = wrong-told (o .shortest) at v n b code offset h e
 
-  tells-step : (st : State) (b : ℕ) → Sound st → Waits st → Tells (stepOf o st b)
+  tells-step : (st : State) (b : ℕ) → Reachable st → Waits st → Tells (stepOf o st b)
   unfolding stepOf
   tells-step (inType at v n) b s k =
       number at v n b _ _ _ (omega arith) refl (λ w. tt)
@@ -133,24 +133,24 @@ module _ (o : Settings) where
       number at v n b _ _ _ (omega arith) refl (λ h. tt)
       (λ h. pick (eqb w 0 || eqb h 0) _ _ (told (omega arith) (omega arith) (omega arith)) (λ e. omega arith))
 
-  both : (x : Step) → SoundStep x → Tells x → Near x
+  both : (x : Step) → ReachableStep x → Tells x → Near x
   both (more st) s k = (s, k)
   both (done h) s k = k
   both (refused code offset) s k = k
 
-  near-steps : (σ : List ℕ) (st : State) → Sound st → Waits st → Near (steps o st σ)
+  near-steps : (σ : List ℕ) (st : State) → Reachable st → Waits st → Near (steps o st σ)
   unfolding steps
   near-steps [] st s k = (s, k)
   near-steps (b ∷ σ) st s k =
       subst⁻¹ Near (steps-cons o st b σ)
-      (go (stepOf o st b) (both (stepOf o st b) (sound-step o st b s) (tells-step st b s k)) (λ t. near-steps σ t))
+      (go (stepOf o st b) (both (stepOf o st b) (reachable-step o st b s) (tells-step st b s k)) (λ t. near-steps σ t))
     where
-      go : (x : Step) → Near x → ((t : State) → Sound t → Waits t → Near (steps o t σ)) → Near (onward o x σ)
+      go : (x : Step) → Near x → ((t : State) → Reachable t → Waits t → Near (steps o t σ)) → Near (onward o x σ)
       go (more t) h ih = ih t (h .0) (h .1)
       go (done h) k ih = k
       go (refused code offset) h ih = h
 
-end-told : (st : State) → Sound st → Waits st → Told (endCode st) (endOffset st)
+end-told : (st : State) → Reachable st → Waits st → Told (endCode st) (endOffset st)
 end-told (inType at v n) s k = told (omega arith) (omega arith) (omega arith)
 end-told (atFix at) s k = told (omega arith) (omega arith) (omega arith)
 end-told (inOctets fix from at) s k = told (omega arith) (omega arith) (omega arith)
@@ -168,7 +168,7 @@ Placed (refuses code offset) = Told code offset
 
 pub header-placed : (o : Settings) (s : List ℕ) → Placed (map outline (readHeader o s))
 header-placed o s =
-    subst⁻¹ Placed (direct o s ∙ steps-all o s start) (go (steps o start s) (near-steps o s start sound-start tt))
+    subst⁻¹ Placed (direct o s ∙ steps-all o s start) (go (steps o start s) (near-steps o s start reachable-start tt))
   where
     go : (x : Step) → Near x → Placed (after o x [])
     go (more st) k = subst⁻¹ Placed (end-is o st) (end-told st (k .0) (k .1))

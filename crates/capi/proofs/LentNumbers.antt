@@ -15,7 +15,7 @@ use Rattle.api.specs.declared.ImageInfo.{ImageInfo}
 use Rattle.capi.specs.Packed.{packed, held}
 use Rattle.capi.specs.Lent.{fieldsKind, fieldsStart, fieldsLength, fieldsPairs}
 use Rattle.capi.specs.Asked.{readAsked, outputAsked}
-use Rattle.capi.specs.Calls.{Holds, Informs, Reads}
+use Rattle.capi.specs.Calls.{LentHolds, Informs, Reads}
 use Rattle.capi.specs.declared.numbers.FieldNumbers.{FieldNumbers}
 
 -- a lent number after an answer that is known

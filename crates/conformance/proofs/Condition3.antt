@@ -25,7 +25,7 @@ use Rattle.decode_session.specs.Model.{nothing}
 use Rattle.decode_session.proofs.Cuts.{unmet, whole}
 use Rattle.conformance.specs.Lists.{MakingList, Card, samplesOf, wasClosed, Condition3}
 use Rattle.conformance.proofs.Made.{made-is}
-use Rattle.conformance.proofs.Taken.{samples-taken, closed-machine}
+use Rattle.conformance.proofs.SamplesTaken.{samples-taken, closed-machine}
 use Rattle.conformance.proofs.CutShown.{admitted, some-read, replied, shows}
 use Rattle.conformance.proofs.CutRead.{begins}
 

@@ -46,7 +46,7 @@ use Rattle.conformance.specs.Lists.{ReadingList, fieldsShown, Shows}
 use Rattle.conformance.proofs.Files.{Filed, filed, head, header-read, fitting}
 use Rattle.conformance.proofs.ReadBack.{all-there, image-read, frames-are}
 use Rattle.conformance.proofs.Made.{Passed, passed, body-size, made-back}
-use Rattle.conformance.proofs.FieldsLeft.{Left, left-none, left-more, left-shows}
+use Rattle.conformance.proofs.FieldsLeft.{FileHeld, held-none, held-more, held-shows}
 
 -- the settings of an accepted opening passed their test, and it was lent enough
 opening-says : (d : Decoding) (n : ℕ) → opening d n ≡ gives tt → (1 ≤ ceilingOf d) × (4118 ≤ n)
@@ -101,13 +101,13 @@ module _ (d : Decoding) (bytes : List ℕ) (h : Outline) (read : readImage d byt
         → (imageSettings (d .mode) .classes ≡ true → strict ≡ true) → fieldsShown (spanOf 2 (f, 2 + length fb)) extension ≡ gives f
     by-buffer f e g r p q c =
         let o = imageSettings (d .mode) in
-        let K = Left o strict f fb τ r p q c g in
+        let K = FileHeld o strict f fb τ r p q c g in
         let n = ended K (λ at n ext b k.
         subst (λ (s : List ℕ). K (at + n)
         (sets ext (length (fieldBytes o (take at s))) (drop (length (fieldBytes o (take at s))) (fieldBytes o (take (at + n) s)))))
-        (sym e) (left-more o strict f fb τ r p q c g at n ext k))
-        (left-none o strict f fb τ r p q c g (l .lent) (opening-says d (length (l .lent)) (admitted l) .1)) in
-        left-shows o strict f fb τ r p q c g extension (subst (λ (s : List ℕ). K (length s) extension) e (n .holds))
+        (sym e) (held-more o strict f fb τ r p q c g at n ext k))
+        (held-none o strict f fb τ r p q c g (l .lent) (opening-says d (length (l .lent)) (admitted l) .1)) in
+        held-shows o strict f fb τ r p q c g extension (subst (λ (s : List ℕ). K (length s) extension) e (n .holds))
 
     fields-are : (f : Fields) → bytes ≡ 0 ∷ fixByte f ∷ (fb ++ τ) → fieldsBytes strict f ≡ gives fb
         → Fitting (imageSettings (d .mode)) strict f

@@ -20,7 +20,7 @@ use Rattle.ext_write.proofs.ReadBack.{read-back}
 use Rattle.header.specs.Settings.{Settings}
 use Rattle.header.specs.Write.{fixByte}
 use Rattle.header_pieces.specs.Extension.{fieldBytes}
-use Rattle.decode_session.proofs.CutFields.{fieldsFile, Holds, holds-none, holds-more, holds-all}
+use Rattle.decode_session.proofs.CutFields.{fieldsFile, FieldsHeld, holds-none, holds-more, holds-all}
 use Rattle.conformance.specs.Lists.{fieldsShown}
 
 -- what the FixHeader byte of fields says
@@ -54,26 +54,26 @@ module _ (o : Settings) (strict : Bool) (f : Fields) (bytes τ : List ℕ) (read
   read ρ = rw (fix-says f readable .1) (read-back strict (o .classes) ease (0 ∷ fixByte f ∷ []) bytes ρ f readable given)
 
   -- the buffer holds the fields of the first bytes
-  abbrev pub Left : ℕ → List ℕ → Type 0
-  Left = Holds o (fixByte f) bytes τ f passed follow read
+  abbrev pub FileHeld : ℕ → List ℕ → Type 0
+  FileHeld = FieldsHeld o (fixByte f) bytes τ f passed follow read
 
   -- 4,118 bytes are enough
-  pub left-none : (ext : List ℕ) → 4118 ≤ length ext → Left 0 ext
-  left-none ext l =
+  pub held-none : (ext : List ℕ) → 4118 ≤ length ext → FileHeld 0 ext
+  held-none ext l =
       holds-none o (fixByte f) bytes τ f passed follow read ext
       (omega (
         arith,
         fields-bound (o .classes) true (kindBits (fixByte f)) (fieldsFile (fixByte f) bytes []) 2 (f, 2 + length bytes)
-            (read []) .span-most,
+            (read []) .spanMost,
       ))
 
-  pub left-more : (at n : ℕ) (ext : List ℕ) → Left at ext
-      → Left (at + n) (sets ext (length (fieldBytes o (take at file)))
+  pub held-more : (at n : ℕ) (ext : List ℕ) → FileHeld at ext
+      → FileHeld (at + n) (sets ext (length (fieldBytes o (take at file)))
       (drop (length (fieldBytes o (take at file))) (fieldBytes o (take (at + n) file))))
-  left-more = holds-more o (fixByte f) bytes τ f passed follow read
+  held-more = holds-more o (fixByte f) bytes τ f passed follow read
 
-  pub left-shows : (ext : List ℕ) → Left (length file) ext → fieldsShown (spanOf 2 (f, 2 + length bytes)) ext ≡ gives f
-  left-shows ext h =
+  pub held-shows : (ext : List ℕ) → FileHeld (length file) ext → fieldsShown (spanOf 2 (f, 2 + length bytes)) ext ≡ gives f
+  held-shows ext h =
       span-shows f (length bytes) ext readable
       ∙ ap (λ (l : List ℕ). map (λ (x : Fields × ℕ). x .0) (readFields false true (kindOf f) l 0))
       (holds-all o (fixByte f) bytes τ f passed follow read ext h ∙ sym (append-nil bytes))

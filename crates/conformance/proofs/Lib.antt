@@ -14,7 +14,7 @@ pub mod FieldsLeft
 pub mod CutShown
 pub mod CutRead
 pub mod CardCalls
-pub mod Taken
+pub mod SamplesTaken
 pub mod Condition3
 pub mod ListCards
 pub mod Theorems

@@ -22,7 +22,7 @@ use Rattle.ext.specs.Read.{readFields}
 use Rattle.ext_write.specs.Write.{fieldsBytes}
 use Rattle.ext.proofs.Bounds.{Bounds}
 use Rattle.ext.proofs.Bounds as FieldBounds
-use Rattle.ext.proofs.Prefix.{settled}
+use Rattle.ext.proofs.Prefix.{decided}
 use Rattle.ext.proofs.Prefix as FieldPrefix
 use Rattle.ext_write.proofs.ReadBack.{read-back}
 use Rattle.header_reader.specs.Internal.Machine.{start}
@@ -136,11 +136,11 @@ integer-prefix : (strict : Bool) (s rest : List ℕ) (at : ℕ) → Final (readM
     → readMbi strict (s ++ rest) at ≡ readMbi strict s at
 integer-prefix = mbi-prefix
 
-fields-prefix : (strict follow : Bool) (kind : ℕ) (s rest : List ℕ) (at : ℕ) → settled (readFields strict follow kind s at) ≡ true
+fields-prefix : (strict follow : Bool) (kind : ℕ) (s rest : List ℕ) (at : ℕ) → decided (readFields strict follow kind s at) ≡ true
     → readFields strict follow kind (s ++ rest) at ≡ readFields strict follow kind s at
 fields-prefix = FieldPrefix.fields-prefix
 
-header-prefix : (o : Settings) (s rest : List ℕ) → settled (readHeader o s) ≡ true → readHeader o (s ++ rest) ≡ readHeader o s
+header-prefix : (o : Settings) (s rest : List ℕ) → decided (readHeader o s) ≡ true → readHeader o (s ++ rest) ≡ readHeader o s
 header-prefix = HeaderPrefix.header-prefix
 
 -- ---- image.rs

@@ -31,7 +31,7 @@ module _ (d : Decoding) (file : List ℕ) (h : Outline) (accepted : readImage d 
     pub holds : K (length file) ext
 
   -- what feeding leaves
-  pub record Left (at : ℕ) (ext : List ℕ) (s : DecodeSession) (r : Reply) : Type 0 where
+  pub record FeedLeaves (at : ℕ) (ext : List ℕ) (s : DecodeSession) (r : Reply) : Type 0 where
     pub stands : Stands s (still (at + tookOf (r .answer)))
     pub holds : K at ext → K (at + tookOf (r .answer)) (r .extension)
     pub unmet : isMet (r .answer) ≡ false
@@ -39,7 +39,7 @@ module _ (d : Decoding) (file : List ℕ) (h : Outline) (accepted : readImage d 
 
   left : (at size : ℕ) (s : DecodeSession) (out ext out′ ext′ : List ℕ) (r : DecodeFed) → at ≤ length file → Stands s (still at)
       → Feeds s (take size (drop at file)) out ext r out′ ext′
-      → Left at ext (r .session) (record { answer = fedMeaning (r .answer); output = out′; extension = ext′ })
+      → FeedLeaves at ext (r .session) (record { answer = fedMeaning (r .answer); output = out′; extension = ext′ })
   left at size s out ext out′ ext′ r l st f =
       let o = outcome (still at) (feed (take size (drop at file)) out ext) in
       let g = f .does (still at) st in

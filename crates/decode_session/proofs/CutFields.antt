@@ -18,7 +18,7 @@ use Rattle.mbi.specs.Read.{readMbi, readRest}
 use Rattle.mbi.proofs.RoundTrip.{read-written}
 use Rattle.ext.specs.Kinds.{Fields, fieldsFollow, kindBits}
 use Rattle.ext.specs.Read.{readFields}
-use Rattle.ext.proofs.Prefix.{settled, fields-prefix}
+use Rattle.ext.proofs.Prefix.{decided, fields-prefix}
 use Rattle.ext.proofs.Bounds.{fields-bound}
 use Rattle.header.specs.Settings.{Settings}
 use Rattle.header_pieces.specs.Extension.{fieldsEnd, fieldBytes}
@@ -88,7 +88,7 @@ module _ (o : Settings) (fix : ℕ) (fields τ : List ℕ) (f : Fields) (passed 
 
     by-answer : (a : Answer (Fields × ℕ)) → fieldsIn part ≡ a → slice 2 (fieldsEnd part a) part ≡ take n fields
     by-answer (gives r) e =
-        let w = fields-prefix (o .classes) true (kindBits fix) part (drop n fields ++ []) 2 (ap settled e) in
+        let w = fields-prefix (o .classes) true (kindBits fix) part (drop n fields ++ []) 2 (ap decided e) in
         let b = fields-bound (o .classes) true (kindBits fix) part 2 r e in
         let q = whole-read in
         let same : r ≡ (f, 2 + length fields) = cc in
@@ -100,7 +100,7 @@ module _ (o : Settings) (fix : ℕ) (fields τ : List ℕ) (f : Fields) (passed 
         go : (t : Bool) → isEnd code ≡ t → slice 2 (if t (length part) place) part ≡ take n fields
         go true q = ap (drop 2) (take-length part)
         go false q =
-            let w = fields-prefix (o .classes) true (kindBits fix) part (drop n fields ++ []) 2 (ap settled e ∙ ap not q) in
+            let w = fields-prefix (o .classes) true (kindBits fix) part (drop n fields ++ []) 2 (ap decided e ∙ ap not q) in
             let r = whole-read in
             zero-one (cc)
 
@@ -129,18 +129,18 @@ module _ (o : Settings) (fix : ℕ) (fields τ : List ℕ) (f : Fields) (passed 
           ∙ ap (λ (k : ℕ). take k fields) (sym less)
 
   -- a buffer that holds the fields of the first bytes
-  pub record Holds (at : ℕ) (ext : List ℕ) : Type 0 where
+  pub record FieldsHeld (at : ℕ) (ext : List ℕ) : Type 0 where
     pub long : length fields ≤ length ext
     pub front : take (length (take (at - 2) fields)) ext ≡ take (at - 2) fields
 
-  pub holds-none : (ext : List ℕ) → length fields ≤ length ext → Holds 0 ext
+  pub holds-none : (ext : List ℕ) → length fields ≤ length ext → FieldsHeld 0 ext
   holds-none ext l = record { long = l; front = refl }
 
   abbrev file : List ℕ
   file = fieldsFile fix fields τ
 
-  pub holds-more : (at n : ℕ) (ext : List ℕ) → Holds at ext
-      → Holds (at + n) (sets ext (length (fieldBytes o (take at file)))
+  pub holds-more : (at n : ℕ) (ext : List ℕ) → FieldsHeld at ext
+      → FieldsHeld (at + n) (sets ext (length (fieldBytes o (take at file)))
       (drop (length (fieldBytes o (take at file))) (fieldBytes o (take (at + n) file))))
   holds-more at n ext h =
       let a = take (at - 2) fields in
@@ -150,7 +150,7 @@ module _ (o : Settings) (fix : ℕ) (fields τ : List ℕ) (f : Fields) (passed 
       let e = stored-behind a b ext q (omega (arith, h .long, length-take (at + n - 2) fields)) (h .front) in
       rw (kept at, kept (at + n)) (record { long = omega (arith, h .long, length-sets ext (length a) (drop (length a) b)); front = e })
 
-  pub holds-all : (ext : List ℕ) → Holds (length file) ext → take (length fields) ext ≡ fields
+  pub holds-all : (ext : List ℕ) → FieldsHeld (length file) ext → take (length fields) ext ≡ fields
   holds-all ext h =
       let e : take (length file - 2) fields ≡ fields = take-all (length file - 2) fields (omega (arith, length-append fields τ)) in
       ap (λ (l : List ℕ). take (length l) ext) (sym e) ∙ h .front ∙ e

@@ -4,7 +4,7 @@ use mathlib.Core.Path.{_≡_, refl, ap, _∙_}
 use mathlib.Core.List.{List, [], _++_}
 use lib.ListN.{length, take, drop}
 use Rattle.error.specs.Answer.{Answer, gives, refuses}
-use Rattle.ext.proofs.Prefix.{settled}
+use Rattle.ext.proofs.Prefix.{decided}
 use Rattle.mbi.specs.Read.{readRest}
 use Rattle.header.specs.Read.{Outline, readHeader}
 use Rattle.image.specs.declared.PixelFormat.{PixelFormat}
@@ -36,7 +36,7 @@ module _ (ceiling : ℕ) (d : Decoding) (s ρ : List ℕ) where
     where
       go : (a : Answer Outline) → headerOf (d .mode) s ≡ a
           → Extends (sequenceOf ceiling (d .format) s a) (sequenceOf ceiling (d .format) (s ++ ρ) (headerOf (d .mode) (s ++ ρ)))
-      go (gives h) e = rw (header-kept s ρ (d .mode) (ap settled e) ∙ e)
+      go (gives h) e = rw (header-kept s ρ (d .mode) (ap decided e) ∙ e)
           (body-extends (d .format) (h .width) 0 (take (ceiling * planeOf h) (drop (h .body) s))
           (take (ceiling * planeOf h) (drop (h .body) (s ++ ρ)))
           (let a = drop-extends (h .body) s ρ in

@@ -8,7 +8,7 @@ use lib.ListN.{length, take, drop, length-take, length-drop, take-append-drop}
 use lib.Seq.{take-all, take-add, take-take}
 use Rattle.error.specs.Answer.{Answer, refuses, map, isEnd}
 use Rattle.laws.proofs.Lists.{append-take-drop}
-use Rattle.ext.proofs.Prefix.{settled}
+use Rattle.ext.proofs.Prefix.{decided}
 use Rattle.options.specs.Limits.{Decoding, ceilingOf}
 use Rattle.header.specs.Read.{Outline}
 use Rattle.decoder.specs.Body.{framesIn}
@@ -59,7 +59,7 @@ module _ (d : Decoding) (file : List ℕ) where
       → readImage d file ≡ refuses code place
   met-whole at size code place f e =
       ap (readImage d) (sym (rest-of at size))
-      ∙ image-kept (take at file ++ take size (drop at file)) (drop size (drop at file)) d (ap settled e ∙ ap not f)
+      ∙ image-kept (take at file ++ take size (drop at file)) (drop size (drop at file)) d (ap decided e ∙ ap not f)
       ∙ e
 
   module _ (at size : ℕ) (out ext : List ℕ) (l : at ≤ length file) where

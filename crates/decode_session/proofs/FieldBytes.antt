@@ -16,7 +16,7 @@ use Rattle.mbi.specs.Read.{readMbi}
 use Rattle.mbi.proofs.IntegerBounds.{mbi-within}
 use Rattle.ext.specs.Kinds.{Fields, fieldsFollow, kindBits}
 use Rattle.ext.specs.Read.{readFields}
-use Rattle.ext.proofs.Prefix.{settled, fields-prefix}
+use Rattle.ext.proofs.Prefix.{decided, fields-prefix}
 use Rattle.header.specs.Settings.{Settings}
 use Rattle.header.specs.Read.{Header, Outline, outline, readHeight, readSizes, readFix, readAfterFix, readHeader}
 use Rattle.header.proofs.Prefix.{integer-prefix}
@@ -32,7 +32,7 @@ module _ (o : Settings) (s ρ : List ℕ) where
       let w = bind-gives (readMbi (o .shortest) s (f .0 .1)) (readHeight o s fix at (f .0)) g (f .2) in
       let read = mbi-within (o .shortest) s (f .0 .1) (w .0 .0) (w .0 .1) (w .1) in
       ap (λ (x : Answer (Fields × ℕ)). slice at (fieldsEnd (s ++ ρ) x) (s ++ ρ))
-      (fields-prefix (o .classes) true (kindBits fix) s ρ at (ap settled (f .1)) ∙ f .1)
+      (fields-prefix (o .classes) true (kindBits fix) s ρ at (ap decided (f .1)) ∙ f .1)
       ∙ ap (drop at) (take-append-le (f .0 .1) s ρ (omega (arith, read .after, read .inside)))
       ∙ ap (λ (x : Answer (Fields × ℕ)). slice at (fieldsEnd s x) s) (sym (f .1))
 
@@ -70,7 +70,7 @@ module _ (o : Settings) (s ρ : List ℕ) where
   fields-kept h e =
       let g = map-gives outline (readHeader o s) h e in
       let v = bind-gives (readMbi (o .shortest) s 0) _ (g .0) (g .1) in
-      ap (afterType o (s ++ ρ)) (integer-prefix o s ρ 0 (ap settled (v .1)) ∙ v .1) ∙ typed (g .0) (v .0) (eqb (v .0 .0) 0) (v .2)
+      ap (afterType o (s ++ ρ)) (integer-prefix o s ρ 0 (ap decided (v .1)) ∙ v .1) ∙ typed (g .0) (v .0) (eqb (v .0 .0) 0) (v .2)
       ∙ ap (afterType o s) (sym (v .1))
     where
       typed : (g : Header) (v : ℕ × ℕ) (t : Bool) → if t (readFix o s (v .1)) (refuses 5 (v .1)) ≡ gives g

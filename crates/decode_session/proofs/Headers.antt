@@ -11,7 +11,7 @@ use Rattle.header.specs.Read.{Outline, outline, readHeader}
 use Rattle.header_reader.specs.Internal.Machine.{State, inType, atFix, inOctets, atOctet, atPair, inIdentifier, inValue, inWidth}
 use Rattle.header_reader.specs.Internal.Machine.{inHeight, Step, more, done, refused, start, steps, stepOf, resume, after}
 use Rattle.header_reader.specs.Internal.Pieces.{onward}
-use Rattle.header_reader.specs.Internal.Represents.{Sound}
+use Rattle.header_reader.specs.Internal.Represents.{Reachable}
 use Rattle.header_reader.specs.declared.reader.HeaderReader.{HeaderReader}
 use Rattle.header_reader.proofs.Machine.{steps-cons, steps-law, steps-all}
 use Rattle.header_reader.proofs.Direct.{direct}
@@ -60,7 +60,7 @@ module _ (o : Settings) where
     unread-end st e = unread st e ∙ end-is o st
 
   -- where it stands
-  taken-bound : (st : State) → Sound st → taken st < 8192
+  taken-bound : (st : State) → Reachable st → taken st < 8192
   taken-bound (inType at v n) h = omega arith
   taken-bound (atFix at) h = omega arith
   taken-bound (inOctets fix from at) h = omega arith
@@ -74,5 +74,5 @@ module _ (o : Settings) where
   pub reached-bound : (bytes : List ℕ) (r : HeaderReader) (at kept : ℕ) → Reached o bytes r at kept → at < 8192
   reached-bound bytes r at kept h =
       let a = taken-steps o bytes start (h .state) (h .reached) in
-      let b = taken-bound (h .state) (h .represents .sound) in
+      let b = taken-bound (h .state) (h .represents .reachable) in
       omega (arith, h .atIs)

@@ -15,10 +15,7 @@ pub(crate) fn finish(stage: Stage) -> DecodeClose
         Stage::Header(reader, _, _) => DecodeClose::Refused(reader.ended()),
         Stage::Body(h, whole, _) => {
             if whole == 0 {
-                return DecodeClose::Refused(WbmpError {
-                    code: PLANE_TOO_SHORT,
-                    offset: h.data_offset,
-                });
+                return DecodeClose::Refused(WbmpError::new(PLANE_TOO_SHORT, h.data_offset));
             }
             DecodeClose::Frames(least(whole, MAX_READ_FRAMES) as u32)
         }

@@ -74,12 +74,6 @@ pub enum HeaderSeen {
     Header(ParsedHeader),
 }
 
-fn refusal(code: u8) -> WbmpError
-    ensures { λ r. ⌜ r ≡ record { code = code; offset = 0 } ⌝ }
-{
-    WbmpError { code, offset: 0 }
-}
-
 // A call that is refused and alters nothing.
 fn unaltered(session: DecodeSession, e: WbmpError) -> DecodeFed
     ensures { λ r. ⌜ r ≡ record { session = session; answer = DecodeFeed.Refused e } ⌝ }
@@ -101,7 +95,7 @@ impl DecodeSession {
                 stage,
                 live: false,
             };
-            let answer = Checked::Refused(refusal(BUFFER_TOO_SHORT));
+            let answer = Checked::Refused(WbmpError::new(BUFFER_TOO_SHORT, 0));
             return DecodeOpened { session, answer };
         }
         let session = DecodeSession {
@@ -120,18 +114,18 @@ impl DecodeSession {
         let options = self.options;
         let stage = self.stage;
         if !self.live {
-            return unaltered(self, refusal(SESSION_CLOSED));
+            return unaltered(self, WbmpError::new(SESSION_CLOSED, 0));
         }
         match stage {
             Stage::Header(reader, at, kept) => {
                 if ext.len() < EXTENSION_BYTES {
-                    return unaltered(self, refusal(BUFFER_TOO_SHORT));
+                    return unaltered(self, WbmpError::new(BUFFER_TOO_SHORT, 0));
                 }
                 feed_head(options, reader, at, kept, piece, out, ext)
             }
             Stage::Body(h, whole, begun) => {
                 if ext.len() < EXTENSION_BYTES {
-                    return unaltered(self, refusal(BUFFER_TOO_SHORT));
+                    return unaltered(self, WbmpError::new(BUFFER_TOO_SHORT, 0));
                 }
                 feed_planes(options, h, whole, begun, 0, piece, out)
             }
@@ -144,7 +138,7 @@ impl DecodeSession {
         ensures { λ r. ⌜ Closes self r ⌝ }
     {
         if !self.live {
-            let answer = DecodeClose::Refused(refusal(SESSION_CLOSED));
+            let answer = DecodeClose::Refused(WbmpError::new(SESSION_CLOSED, 0));
             return DecodeClosed {
                 session: self,
                 answer,

@@ -11,7 +11,7 @@ use Rattle.error.specs.Choice.{if}
 use Rattle.error.specs.Answer.{Answer, gives, refuses, bind, map, isEnd}
 use Rattle.laws.proofs.Lists.{part-append}
 use Rattle.laws.proofs.Tests.{zero-one}
-use Rattle.ext.proofs.Prefix.{settled}
+use Rattle.ext.proofs.Prefix.{decided}
 use Rattle.header.specs.Read.{Header, Outline, outline, readHeader}
 use Rattle.header.proofs.Prefix.{bind-prefix, header-prefix}
 use Rattle.image.specs.Geometry.{rowBytes}
@@ -24,20 +24,20 @@ use Rattle.decoder.specs.Image.{imageSettings, headerOf, testBody, readI
 use Rattle.decoder.specs.Frames.{Image, fitted, decoded}
 use Rattle.decoder.proofs.Planed.{one-less}
 
-outline-settled : (x : Answer Header) → settled (map outline x) ≡ settled x
-outline-settled (gives a) = refl
-outline-settled (refuses code offset) = refl
+outline-decided : (x : Answer Header) → decided (map outline x) ≡ decided x
+outline-decided (gives a) = refl
+outline-decided (refuses code offset) = refl
 
 module _ (s ρ : List ℕ) where
   pub longer : length s ≤ length (s ++ ρ)
   longer = rw length-append (omega arith)
 
-  pub header-kept : (mode : Mode) → settled (headerOf mode s) ≡ true → headerOf mode (s ++ ρ) ≡ headerOf mode s
+  pub header-kept : (mode : Mode) → decided (headerOf mode s) ≡ true → headerOf mode (s ++ ρ) ≡ headerOf mode s
   header-kept mode e =
       ap (map outline)
-      (header-prefix (imageSettings mode) s ρ (sym (outline-settled (readHeader (imageSettings mode) s)) ∙ e))
+      (header-prefix (imageSettings mode) s ρ (sym (outline-decided (readHeader (imageSettings mode) s)) ∙ e))
 
-  body-kept : (d : Decoding) (h : Outline) → settled (testBody d (length s) h) ≡ true
+  body-kept : (d : Decoding) (h : Outline) → decided (testBody d (length s) h) ≡ true
       → testBody d (length (s ++ ρ)) h ≡ testBody d (length s) h
   unfolding testBody
   body-kept d h =
@@ -45,7 +45,7 @@ module _ (s ρ : List ℕ) where
       _ _
       (λ _. refl) (λ _. go (ltb (length s - h .body) (planeOf h)) refl)
     where
-      go : (t : Bool) → ltb (length s - h .body) (planeOf h) ≡ t → settled {A = Outline} (if t (refuses 20 (h .body)) (gives h)) ≡ true
+      go : (t : Bool) → ltb (length s - h .body) (planeOf h) ≡ t → decided {A = Outline} (if t (refuses 20 (h .body)) (gives h)) ≡ true
           → if (ltb (length (s ++ ρ) - h .body) (planeOf h)) (refuses 20 (h .body)) (gives h) ≡ if t (refuses 20 (h .body)) (gives h)
       go true p q = zero-one (cc)
       go false p q =
@@ -54,7 +54,7 @@ module _ (s ρ : List ℕ) where
           rw (le-ltb (length (s ++ ρ) - h .body) (planeOf h) (omega arith))
 
   -- an image's answer other than an early end (1, 6, 9, 13, 20) stays
-  pub image-kept : (d : Decoding) → settled (readImage d s) ≡ true → readImage d (s ++ ρ) ≡ readImage d s
+  pub image-kept : (d : Decoding) → decided (readImage d s) ≡ true → readImage d (s ++ ρ) ≡ readImage d s
   unfolding readImage
   image-kept d =
       bind-prefix (headerOf (d .mode) s) (headerOf (d .mode) (s ++ ρ)) (testBody d (length s)) (testBody d (length (s ++ ρ)))
@@ -75,7 +75,7 @@ module _ (s ρ : List ℕ) where
       go (gives h) e q = unfit (leb (framesIn ceiling (length s) h * planeOf h) room) _ q
       go (refuses c o) e q =
           let same : c ≡ code = cc in
-          let met : settled (readImage d s) ≡ true = ap settled e ∙ ap (λ (k : ℕ). not (isEnd k)) same ∙ ap not f in
+          let met : decided (readImage d s) ≡ true = ap decided e ∙ ap (λ (k : ℕ). not (isEnd k)) same ∙ ap not f in
           ap (λ (a : Answer Outline). bind a (λ h. fitted room h (framesIn ceiling (length (s ++ ρ)) h))) (image-kept d met ∙ e) ∙ q
 
   pub planes-kept : (f : PixelFormat) (h : Outline) (k : ℕ) → h .body + k * planeOf h ≤ length s → planes f (s ++ ρ) h k ≡ planes f s h k

@@ -11,7 +11,7 @@ use Rattle.laws.proofs.Products.{some-size}
 use Rattle.mbi.specs.Read.{readRest, readByte}
 use Rattle.ext.specs.Kinds.{absent}
 use Rattle.ext.specs.Read.{readFields}
-use Rattle.ext.proofs.Prefix.{settled}
+use Rattle.ext.proofs.Prefix.{decided}
 use Rattle.header.specs.Read.{Outline, readHeader}
 use Rattle.options.specs.Limits.{Decoding, checkLimits}
 use Rattle.options.specs.Settings.{defaults}
@@ -57,7 +57,7 @@ module _ (s ρ : List ℕ) (ceiling : ℕ) (d : Decoding) (h : Outline) (read : 
   same-frames : framesIn ceiling (length (s ++ ρ)) h ≡ framesIn ceiling (length s) h → (room : ℕ) → Unaffected room
   unfolding decoded shown
   same-frames e room =
-      let again : readImage d (s ++ ρ) ≡ gives h = image-kept s ρ d (ap settled read) ∙ read in
+      let again : readImage d (s ++ ρ) ≡ gives h = image-kept s ρ d (ap decided read) ∙ read in
       let there = image-parts d s h read .1 in
       let fit = frames-fit (ceiling - 1) (planeOf h) (length s - h .body) (omega arith) in
       let inside : h .body + framesIn ceiling (length s) h * planeOf h ≤ length s = omega arith in (

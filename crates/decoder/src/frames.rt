@@ -56,10 +56,7 @@ fn write_frames(
     let frames = 1 + animated_frame_count(bytes.len(), start, plane, most);
     let need = frames * plane;
     if out.len() < need {
-        return Decoded::Refused(WbmpError {
-            code: OUTPUT_TOO_SHORT,
-            offset: 0,
-        });
+        return Decoded::Refused(WbmpError::new(OUTPUT_TOO_SHORT, 0));
     }
     write_planes(bytes, h, frames, format, out);
     let ext_fields = h.ext_fields;

@@ -39,10 +39,7 @@ fn test_body(size: usize, h: ParsedHeader, options: DecodeOptions) -> HeaderRead
         }
     }
     if saturating_sub(size, start) < plane {
-        return HeaderRead::Refused(WbmpError {
-            code: PLANE_TOO_SHORT,
-            offset: start,
-        });
+        return HeaderRead::Refused(WbmpError::new(PLANE_TOO_SHORT, start));
     }
     HeaderRead::Header(h)
 }

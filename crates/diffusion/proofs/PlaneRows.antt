@@ -12,7 +12,7 @@ use Rattle.image.specs.Geometry.{rowBytes}
 use Rattle.rules.specs.Bits.{upto, digits, appended}
 use Rattle.rules.specs.Packed.{paddedBit, byteAt}
 use Rattle.rules.specs.Internal.Planes.{plane}
-use Rattle.rules.proofs.Differences.{lt-or-le}
+use Rattle.laws.proofs.Tests.{lt-or-le}
 use Rattle.rules.proofs.DigitsAppended.{appended-ext}
 use Rattle.rules.proofs.PlaneBytes.{bit-in, bit-past, byte-at}
 use Rattle.rules.proofs.UptoList.{length-upto, upto-ext, upto-add}

@@ -14,7 +14,7 @@ use borrow.Author.Tests.{lt-ltb, le-ltb}
 use Rattle.image.specs.Geometry.{rowBytes}
 use Rattle.rules.specs.Bits.{upto}
 use Rattle.rules.specs.Packed.{byteAt}
-use Rattle.rules.proofs.Differences.{lt-or-le}
+use Rattle.laws.proofs.Tests.{lt-or-le}
 use Rattle.rules.proofs.DigitsAppended.{shifted-lt}
 use Rattle.rules.proofs.OrderedNumbers.{take-more}
 use Rattle.diffusion.specs.declared.row.Flow.{Flow}

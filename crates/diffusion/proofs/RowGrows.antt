@@ -13,7 +13,7 @@ use lib.Pow.{pow-mono}
 use lib.Seq.{getD-set-same, getD-set-other}
 use borrow.Author.Tests.{lt-ltb}
 use Rattle.rules.specs.Bits.{appended}
-use Rattle.rules.proofs.Differences.{lt-or-le}
+use Rattle.laws.proofs.Tests.{lt-or-le}
 use Rattle.rules.proofs.DigitsAppended.{one-more}
 use Rattle.diffusion.specs.declared.row.Flow.{Flow}
 use Rattle.diffusion.specs.Internal.Sums.{partOf, restOf, handedRight, valueBy, restBy, restBefore, restAfter, handedDown, sumsOf}

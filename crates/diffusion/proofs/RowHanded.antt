@@ -10,12 +10,11 @@ use native.Mathlib.Omega.{arith}
 use lib.IntN.{ℤ, pos, natAbs}
 use lib.ListN.{length, getD, drop, set, List·getD-append}
 use lib.Seq.{drop-at, getD-set-same, getD-set-other}
-use Rattle.laws.proofs.Tests.{zero-one}
+use Rattle.laws.proofs.Tests.{zero-one, lt-or-le}
 use Rattle.image.specs.Geometry.{rowBytes}
 use Rattle.rules.specs.Internal.Kernels.{thresholdBit}
 use Rattle.rules.specs.Internal.Planes.{PlainRow}
 use Rattle.rules.specs.Internal.Row.{Plain}
-use Rattle.rules.proofs.Differences.{lt-or-le}
 use Rattle.diffusion.specs.Internal.Sums.{none, valueBy, handedDown, sumsOf, Sums, Level}
 use Rattle.diffusion.specs.Internal.Rows.{grayOf, dotBy, rowOf, RowLent, RowDithered}
 use Rattle.diffusion.specs.Internal.Planes.{handedTo, AllNone, RowGiven, RowBegun, RowNext}

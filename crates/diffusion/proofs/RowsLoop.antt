@@ -19,7 +19,7 @@ use Rattle.rules.specs.Packed.{byteAt}
 use Rattle.rules.specs.Diffusion.{Scan, white, valueAt}
 use Rattle.rules.specs.Rule.{rightwards}
 use Rattle.rules.specs.Internal.Planes.{plane, scanOf, ditherBit}
-use Rattle.rules.proofs.Differences.{lt-or-le}
+use Rattle.laws.proofs.Tests.{lt-or-le}
 use Rattle.rules.proofs.PlaneBytes.{div-at, mod-at}
 use Rattle.rules.proofs.ListPiece.{piece, piece-length, piece-at}
 use Rattle.diffusion.specs.Internal.Sums.{none, valueBy, handedDown, Handed}

@@ -11,7 +11,8 @@ use lib.IntN.{ℤ, pos, subℕ, _+ℤ_, +ℤ-assoc}
 use Rattle.rules.specs.Bits.{bit}
 use Rattle.rules.specs.Diffusion.{Scan, toRight, part, value, white, residual, before, after, valueFrom, handed, rowValue, above, valueAt}
 use Rattle.rules.specs.Rule.{rightwards}
-use Rattle.rules.proofs.Differences.{lt-or-le, sub-eq, sub-add, pos-is, part-is, stepped}
+use Rattle.laws.proofs.Tests.{lt-or-le}
+use Rattle.rules.proofs.Differences.{sub-eq, sub-add, pos-is, part-is, stepped}
 use Rattle.diffusion.specs.Internal.Sums.{partOf, restOf, handedRight, valueBy, restBy, restBefore, restAfter, handedDown}
 use Rattle.diffusion.specs.Internal.Sums.{none, Handed, Level}
 

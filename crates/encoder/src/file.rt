@@ -1,7 +1,6 @@
 // What every file that is written or made has: its frames are counted, and its header stands in front.
 use error::Checked;
 use error::FRAME_COUNT;
-use error::WbmpError;
 use error::ZERO_DIMENSION;
 use ext_write::FieldsCheck;
 use ext_write::PairsBegun;
@@ -10,34 +9,27 @@ use options::MAX_MADE_FRAMES;
 ghost use Rattle.options.specs.Settings.{madeFrames};
 ghost use mathlib.Core.Path.{_≡_};
 ghost use Prim.Native.Nat.{_-_};
-ghost use Rattle.error.specs.Answer.{checked, refuses};
+ghost use Rattle.error.specs.Answer.{checked};
 ghost use Rattle.encoder.specs.File.{checkCount};
 ghost use Rattle.encoder.specs.Internal.Begin.{BeginsBefore};
 
 const MAX_FRAMES: usize = MAX_MADE_FRAMES as usize;
-
-// "Writers return place 0 always."
-pub(crate) fn refused(code: u8) -> Checked
-    ensures { λ r. ⌜ checked r ≡ refuses code 0 ⌝ }
-{
-    Checked::Refused(WbmpError { code, offset: 0 })
-}
 
 // Whether a file has this size and so many frames.
 pub(crate) fn check_count(width: u32, height: u32, count: usize) -> Checked
     ensures { λ r. ⌜ checked r ≡ checkCount madeFrames width height count ⌝ }
 {
     if width == 0 {
-        return refused(ZERO_DIMENSION);
+        return Checked::refused(ZERO_DIMENSION);
     }
     if height == 0 {
-        return refused(ZERO_DIMENSION);
+        return Checked::refused(ZERO_DIMENSION);
     }
     if count == 0 {
-        return refused(FRAME_COUNT);
+        return Checked::refused(FRAME_COUNT);
     }
     if count > MAX_FRAMES {
-        return refused(FRAME_COUNT);
+        return Checked::refused(FRAME_COUNT);
     }
     Checked::Accepted
 }

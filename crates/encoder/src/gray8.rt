@@ -1,7 +1,6 @@
 // Whole making: scans of gray samples, end to end, become the frames of a file.
 use crate::file::begin_header_before;
 use crate::file::check_count;
-use crate::file::refused;
 use error::BUFFER_TOO_SHORT;
 use error::Checked;
 use error::GRAY_TOO_SHORT;
@@ -47,14 +46,14 @@ fn check_scans(
         return counted;
     };
     if !quantize::known_rule(rule) {
-        return refused(UNKNOWN_SETTING);
+        return Checked::refused(UNKNOWN_SETTING);
     }
     if !quantize::roomy(rule, width, work) {
-        return refused(BUFFER_TOO_SHORT);
+        return Checked::refused(BUFFER_TOO_SHORT);
     }
     let area = width as usize * height as usize;
     if gray / area < count {
-        return refused(GRAY_TOO_SHORT);
+        return Checked::refused(GRAY_TOO_SHORT);
     }
     Checked::Accepted
 }

@@ -1,7 +1,6 @@
 // Whole writing.
 use crate::file::begin_header_before;
 use crate::file::check_count;
-use crate::file::refused;
 use error::Checked;
 use error::PLANE_TOO_SHORT;
 use error::Written;
@@ -58,7 +57,7 @@ fn check_planes(width: u32, height: u32, count: usize, stride: usize, bytes: usi
         }
     }
     if bytes / count < needed_bytes(width, height, stride) {
-        return refused(PLANE_TOO_SHORT);
+        return Checked::refused(PLANE_TOO_SHORT);
     }
     Checked::Accepted
 }

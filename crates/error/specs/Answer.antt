@@ -25,6 +25,11 @@ map f (refuses code offset) = refuses code offset
 abbrev pub isEnd : ℕ → Bool
 isEnd code = eqb code 1 || eqb code 6 || eqb code 9 || eqb code 13 || eqb code 20
 
+-- the number of a refusal, 0 for none
+abbrev pub codeOf : {A : Type 0} → Answer A → ℕ
+codeOf (gives a) = 0
+codeOf (refuses code offset) = code
+
 -- what the code's values mean
 abbrev pub refusal : {A : Type 0} → WbmpError → Answer A
 refusal e = refuses (e .code) (e .offset)

@@ -1,4 +1,7 @@
 // Refusals: a number of document 01's table and its place, the Rust's offset when the call ends; 0 for writers and where the table says so.
+ghost use mathlib.Core.Path.{_≡_};
+ghost use Rattle.error.specs.declared.Written.{Written};
+ghost use Rattle.error.specs.declared.Checked.{Checked};
 
 // An integer ends before its last byte.
 pub const MBI_TRUNCATED: u8 = 1;
@@ -68,14 +71,38 @@ pub struct WbmpError {
     pub offset: usize,
 }
 
+impl WbmpError {
+    pub fn new(code: u8, offset: usize) -> WbmpError
+        ensures { λ r. ⌜ r ≡ record { code = code; offset = offset } ⌝ }
+    {
+        WbmpError { code, offset }
+    }
+}
+
 // What a writer answers: how many bytes it wrote at the front of the lent output, or a refusal, which wrote none.
 pub enum Written {
     Bytes(usize),
     Refused(WbmpError),
 }
 
+impl Written {
+    pub fn refused(code: u8) -> Written
+        ensures { λ r. ⌜ r ≡ Written.Refused (record { code = code; offset = 0 }) ⌝ }
+    {
+        Written::Refused(WbmpError { code, offset: 0 })
+    }
+}
+
 // What a check of something to be written answers.
 pub enum Checked {
     Accepted,
     Refused(WbmpError),
+}
+
+impl Checked {
+    pub fn refused(code: u8) -> Checked
+        ensures { λ r. ⌜ r ≡ Checked.Refused (record { code = code; offset = 0 }) ⌝ }
+    {
+        Checked::Refused(WbmpError { code, offset: 0 })
+    }
 }

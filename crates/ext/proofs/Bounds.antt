@@ -19,8 +19,8 @@ use Rattle.ext.proofs.Continuation.{pairCount}
 -- fields f of a file s that stand from `at` to `end`
 pub record Bounds (follow : Bool) (s : List ℕ) (at : ℕ) (f : Fields) (end : ℕ) : Type 0 where
   pub forward : at ≤ end
-  pub span-most : end - at ≤ 4118
-  pub pairs-most : pairCount f ≤ 1366
+  pub spanMost : end - at ≤ 4118
+  pub pairsMost : pairCount f ≤ 1366
   pub empty : follow ≡ false → end ≡ at
   pub within : follow ≡ true → end ≤ length s
 
@@ -78,8 +78,8 @@ fields-bound strict false kind s at r e =
     subst (λ (x : Fields × ℕ). Bounds false s at (x .0) (x .1)) is
     (record {
       forward = omega arith;
-      span-most = omega arith;
-      pairs-most = omega arith;
+      spanMost = omega arith;
+      pairsMost = omega arith;
       empty = λ z. refl;
       within = λ z. zero-one (cc);
     })
@@ -105,8 +105,8 @@ fields-bound strict true kind s at r e =
         subst (λ (x : Fields × ℕ). Bounds true s at (x .0) (x .1)) is
         (record {
           forward = a;
-          span-most = omega arith;
-          pairs-most = c;
+          spanMost = omega arith;
+          pairsMost = c;
           empty = λ z. zero-one (cc);
           within = λ z. d;
         })

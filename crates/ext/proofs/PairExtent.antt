@@ -58,12 +58,12 @@ module _ (s : List ℕ) (a : ℕ) (h : PairHeader) where
 
 -- a pair of a file s, whose header byte h stands at `at`
 pub record PairIn (s : List ℕ) (h at : ℕ) (p : PairAt) : Type 0 where
-  pub identifier-is : p .pair .identifier ≡ slice (at + 1) (at + 1 + identifierSize h) s
-  pub value-is : p .pair .value ≡ slice (at + 1 + identifierSize h) (at + 1 + identifierSize h + valueSize h) s
-  pub end-is : p .end ≡ at + 1 + identifierSize h + valueSize h
+  pub identifierIs : p .pair .identifier ≡ slice (at + 1) (at + 1 + identifierSize h) s
+  pub valueIs : p .pair .value ≡ slice (at + 1 + identifierSize h) (at + 1 + identifierSize h + valueSize h) s
+  pub endIs : p .end ≡ at + 1 + identifierSize h + valueSize h
   pub within : p .end ≤ length s
-  pub identifier-some : 1 ≤ identifierSize h
-  pub value-some : 1 ≤ valueSize h
+  pub identifierSome : 1 ≤ identifierSize h
+  pub valueSome : 1 ≤ valueSize h
 
 pub pair-in : (strict : Bool) (s : List ℕ) (at : ℕ) (p : PairAt) → readPair strict s at ≡ gives p → PairIn s (getD s at 0) at p
 unfolding readPair
@@ -100,12 +100,12 @@ pair-in strict s at p e =
         let is : wholePair s at ≡ p = cc in
         subst (PairIn s h at) is
         (record {
-          identifier-is = refl;
-          value-is = refl;
-          end-is = refl;
+          identifierIs = refl;
+          valueIs = refl;
+          endIs = refl;
           within = w;
-          identifier-some = omega arith;
-          value-some = omega arith;
+          identifierSome = omega arith;
+          valueSome = omega arith;
         })
 
 -- a pair takes bytes

@@ -58,10 +58,10 @@ stands-fields strict true kind s at r e =
 sizes : (s : List ℕ) (h at : ℕ) (x : PairAt) → PairIn s h at x
     → (length (x .pair .identifier) ≡ identifierSize h) × (length (x .pair .value) ≡ valueSize h)
 sizes s h at x i =
-    let m = i .end-is in
+    let m = i .endIs in
     let w = i .within in
-    let a = ap length (i .identifier-is) ∙ length-slice (at + 1) (at + 1 + identifierSize h) s (omega arith) in
-    let b = ap length (i .value-is) ∙ length-slice (at + 1 + identifierSize h) (at + 1 + identifierSize h + valueSize h) s (omega arith) in
+    let a = ap length (i .identifierIs) ∙ length-slice (at + 1) (at + 1 + identifierSize h) s (omega arith) in
+    let b = ap length (i .valueIs) ∙ length-slice (at + 1 + identifierSize h) (at + 1 + identifierSize h + valueSize h) s (omega arith) in
     (omega arith, omega arith)
 
 finds-here : (s : List ℕ) (at : ℕ) (p : Pair) (ps : List Pair) (identifier : List ℕ) (from len : ℕ) → p .identifier ≡ identifier
@@ -126,9 +126,9 @@ walk-next s identifier start ps at left header is-header h r =
         let is : length (p .identifier) ≡ identifierSize b = ap (λ (p : Pair). length (p .identifier)) (sym e) ∙ z .0 in
         let vs : length (p .value) ≡ valueSize b = ap (λ (p : Pair). length (p .value)) (sym e) ∙ z .1 in
         let name : p .identifier ≡ slice (at + 1) (at + 1 + identifierSize b) s = ap (λ (p : Pair). p .identifier) (sym e)
-        ∙ i .identifier-is in
-        let held : slice value (value + valueSize b) s ≡ p .value = sym (i .value-is) ∙ ap (λ (p : Pair). p .value) e in
-        let m = i .end-is in
+        ∙ i .identifierIs in
+        let held : slice value (value + valueSize b) s ≡ p .value = sym (i .valueIs) ∙ ap (λ (p : Pair). p .value) e in
+        let m = i .endIs in
         let w = i .within in
         record {
           within = omega arith;

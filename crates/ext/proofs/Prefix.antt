@@ -15,19 +15,19 @@ use Rattle.ext.specs.Kinds.{Pair, Fields, bitfield, reserved, pairs}
 use Rattle.ext.specs.Read.{PairAt, readOctets, readOctet, readPair, readPairs, readFields, pairParts, classed}
 
 -- an answer that more bytes do not change
-abbrev pub settled : {A : Type 0} → Answer A → Bool
-settled (gives a) = true
-settled (refuses code offset) = not (isEnd code)
+abbrev pub decided : {A : Type 0} → Answer A → Bool
+decided (gives a) = true
+decided (refuses code offset) = not (isEnd code)
 
-settled-map : {A B : Type 0} (f : A → B) (x : Answer A) → settled (map f x) ≡ settled x
-settled-map f (gives a) = refl
-settled-map f (refuses code offset) = refl
+decided-map : {A B : Type 0} (f : A → B) (x : Answer A) → decided (map f x) ≡ decided x
+decided-map f (gives a) = refl
+decided-map f (refuses code offset) = refl
 
-settled-bind : {A B : Type 0} (f : A → Answer B) (x : Answer A) → settled (bind x f) ≡ true → settled x ≡ true
-settled-bind f (gives a) e = refl
-settled-bind f (refuses code offset) e = e
+decided-bind : {A B : Type 0} (f : A → Answer B) (x : Answer A) → decided (bind x f) ≡ true → decided x ≡ true
+decided-bind f (gives a) e = refl
+decided-bind f (refuses code offset) e = e
 
-octets-prefix : (τ ρ : List ℕ) (start at : ℕ) → settled (readOctets τ start at) ≡ true
+octets-prefix : (τ ρ : List ℕ) (start at : ℕ) → decided (readOctets τ start at) ≡ true
     → readOctets (τ ++ ρ) start at ≡ readOctets τ start at
 unfolding readOctets
 octets-prefix [] ρ start at e = zero-one (cc)
@@ -44,14 +44,14 @@ octets-prefix (b ∷ τ) ρ start at e = go (leb (start + 4096) at) (ltb b 128) 
               ]
         ]
 
-    go : (t u : Bool) → settled (octets t u τ) ≡ true
-        → (settled (readOctets τ start (at + 1)) ≡ true → readOctets (τ ++ ρ) start (at + 1) ≡ readOctets τ start (at + 1))
+    go : (t u : Bool) → decided (octets t u τ) ≡ true
+        → (decided (readOctets τ start (at + 1)) ≡ true → readOctets (τ ++ ρ) start (at + 1) ≡ readOctets τ start (at + 1))
         → octets t u (τ ++ ρ) ≡ octets t u τ
     go true u q ih = refl
     go false true q ih = refl
-    go false false q ih = ap (map _) (ih (sym (settled-map _ (readOctets τ start (at + 1))) ∙ q))
+    go false false q ih = ap (map _) (ih (sym (decided-map _ (readOctets τ start (at + 1))) ∙ q))
 
-octet-prefix : (τ ρ : List ℕ) (at : ℕ) → settled (readOctet τ at) ≡ true → readOctet (τ ++ ρ) at ≡ readOctet τ at
+octet-prefix : (τ ρ : List ℕ) (at : ℕ) → decided (readOctet τ at) ≡ true → readOctet (τ ++ ρ) at ≡ readOctet τ at
 unfolding readOctet
 octet-prefix [] ρ at e = zero-one (cc)
 octet-prefix (b ∷ τ) ρ at e = refl
@@ -60,7 +60,7 @@ module _ (strict : Bool) (s ρ : List ℕ) where
   slice-prefix : (a b : ℕ) → b ≤ length s → slice a b (s ++ ρ) ≡ slice a b s
   slice-prefix a b h = ap (drop a) (take-append-le b s ρ h)
 
-  parts-prefix : (more : Bool) (a b e : ℕ) → b ≤ e → settled (pairParts strict s more a b e) ≡ true
+  parts-prefix : (more : Bool) (a b e : ℕ) → b ≤ e → decided (pairParts strict s more a b e) ≡ true
       → pairParts strict (s ++ ρ) more a b e ≡ pairParts strict s more a b e
   parts-prefix more a b e o q = go (ltb (length s) b) (ltb (length s) e) refl refl q
     where
@@ -68,7 +68,7 @@ module _ (strict : Bool) (s ρ : List ℕ) where
       whole s = record { pair = record { identifier = slice a b s; value = slice b e s }; more = more; end = e }
 
       go : (t u : Bool) → ltb (length s) b ≡ t → ltb (length s) e ≡ u
-          → settled (if t (refuses 13 a) (if u (refuses 13 b) (classed strict (whole s)))) ≡ true
+          → decided (if t (refuses 13 a) (if u (refuses 13 b) (classed strict (whole s)))) ≡ true
           → pairParts strict (s ++ ρ) more a b e ≡ if t (refuses 13 a) (if u (refuses 13 b) (classed strict (whole s)))
       go true u x y q = zero-one (cc)
       go false true x y q = zero-one (cc)
@@ -82,7 +82,7 @@ module _ (strict : Bool) (s ρ : List ℕ) where
             slice-prefix b e h,
           )
 
-  pair-prefix : (at : ℕ) → at < length s → settled (readPair strict s at) ≡ true → readPair strict (s ++ ρ) at ≡ readPair strict s at
+  pair-prefix : (at : ℕ) → at < length s → decided (readPair strict s at) ≡ true → readPair strict (s ++ ρ) at ≡ readPair strict s at
   unfolding readPair
   pair-prefix at h q = rw (List·getD-append s ρ 0 at h) (go (eqb (b / 16 % 8) 0) (eqb (b % 16) 0) q)
     where
@@ -94,12 +94,12 @@ module _ (strict : Bool) (s ρ : List ℕ) where
           if t (refuses 11 (at + 1)) (if u (refuses 12 (at + 1))
           (pairParts strict s (leb 128 b) (at + 1) (at + 1 + b / 16 % 8) (at + 1 + b / 16 % 8 + b % 16)))
 
-      go : (t u : Bool) → settled (pair t u s) ≡ true → pair t u (s ++ ρ) ≡ pair t u s
+      go : (t u : Bool) → decided (pair t u s) ≡ true → pair t u (s ++ ρ) ≡ pair t u s
       go true u q = refl
       go false true q = refl
       go false false q = parts-prefix (leb 128 b) (at + 1) (at + 1 + b / 16 % 8) (at + 1 + b / 16 % 8 + b % 16) (omega arith) q
 
-  pairs-prefix : (most most′ start at : ℕ) → most ≤ most′ → settled (readPairs most strict s start at) ≡ true
+  pairs-prefix : (most most′ start at : ℕ) → most ≤ most′ → decided (readPairs most strict s start at) ≡ true
       → readPairs most′ strict (s ++ ρ) start at ≡ readPairs most strict s start at
   unfolding readPairs
   pairs-prefix zero most′ start at o q = zero-one (cc)
@@ -113,23 +113,23 @@ module _ (strict : Bool) (s ρ : List ℕ) where
       afters : ℕ → List ℕ → PairAt → Answer (List Pair × ℕ)
       afters most s p = after (readPairs most strict s start (p .end)) (p .more) p
 
-      each : ((end : ℕ) → settled (readPairs most strict s start end) ≡ true
+      each : ((end : ℕ) → decided (readPairs most strict s start end) ≡ true
           → readPairs most′ strict (s ++ ρ) start end ≡ readPairs most strict s start end)
-          → (x : Answer PairAt) → settled (bind x (afters most s)) ≡ true → bind x (afters most′ (s ++ ρ)) ≡ bind x (afters most s)
+          → (x : Answer PairAt) → decided (bind x (afters most s)) ≡ true → bind x (afters most′ (s ++ ρ)) ≡ bind x (afters most s)
       each ih (refuses code offset) q = refl
       each ih (gives p) q = again (p .more) q
         where
-          again : (t : Bool) → settled (after (readPairs most strict s start (p .end)) t p) ≡ true
+          again : (t : Bool) → decided (after (readPairs most strict s start (p .end)) t p) ≡ true
               → after (readPairs most′ strict (s ++ ρ) start (p .end)) t p ≡ after (readPairs most strict s start (p .end)) t p
-          again true q = ap (map _) (ih (p .end) (sym (settled-map _ (readPairs most strict s start (p .end))) ∙ q))
+          again true q = ap (map _) (ih (p .end) (sym (decided-map _ (readPairs most strict s start (p .end))) ∙ q))
           again false q = refl
 
       pairs : Bool → Bool → ℕ → List ℕ → Answer (List Pair × ℕ)
       pairs t u most s =
           elim t [ true ↦ refuses 9 at | false ↦ elim u [ true ↦ refuses 10 at | false ↦ bind (readPair strict s at) (afters most s) ] ]
 
-      go : (t u : Bool) → leb (length s) at ≡ t → settled (pairs t u most s) ≡ true
-          → ((end : ℕ) → settled (readPairs most strict s start end) ≡ true
+      go : (t u : Bool) → leb (length s) at ≡ t → decided (pairs t u most s) ≡ true
+          → ((end : ℕ) → decided (readPairs most strict s start end) ≡ true
           → readPairs most′ strict (s ++ ρ) start end ≡ readPairs most strict s start end)
           → pairs (leb (length (s ++ ρ)) at) u most′ (s ++ ρ) ≡ pairs t u most s
       go true u x q ih = zero-one (cc)
@@ -138,16 +138,16 @@ module _ (strict : Bool) (s ρ : List ℕ) where
           let n = length-append s ρ in
           rw (lt-leb (length (s ++ ρ)) at (omega arith)) (under u q)
         where
-          under : (u : Bool) → settled (pairs false u most s) ≡ true → pairs false u most′ (s ++ ρ) ≡ pairs false u most s
+          under : (u : Bool) → decided (pairs false u most s) ≡ true → pairs false u most′ (s ++ ρ) ≡ pairs false u most s
           under true q = refl
           under false q =
-              rw (pair-prefix at (leb-false (length s) at x) (settled-bind (afters most s) (readPair strict s at) q))
+              rw (pair-prefix at (leb-false (length s) at x) (decided-bind (afters most s) (readPair strict s at) q))
               (each ih (readPair strict s at) q)
 
 -- a reader of the bytes from an offset on, which is refused where there are none
-from-prefix : {A : Type 0} (read : List ℕ → Answer A) (s ρ : List ℕ) (at : ℕ) → settled (read []) ≡ false
-    → ((τ : List ℕ) → settled (read τ) ≡ true → read (τ ++ ρ) ≡ read τ)
-    → settled (read (drop at s)) ≡ true → read (drop at (s ++ ρ)) ≡ read (drop at s)
+from-prefix : {A : Type 0} (read : List ℕ → Answer A) (s ρ : List ℕ) (at : ℕ) → decided (read []) ≡ false
+    → ((τ : List ℕ) → decided (read τ) ≡ true → read (τ ++ ρ) ≡ read τ)
+    → decided (read (drop at s)) ≡ true → read (drop at (s ++ ρ)) ≡ read (drop at s)
 from-prefix read s ρ at ends same q = go (leb (length s) at) refl
   where
     go : (t : Bool) → leb (length s) at ≡ t → read (drop at (s ++ ρ)) ≡ read (drop at s)
@@ -155,7 +155,7 @@ from-prefix read s ρ at ends same q = go (leb (length s) at) refl
     go false x = let h = leb-false (length s) at x in rw (drop-append-le at s ρ (omega arith)) (same (drop at s) q)
 
 -- An answer other than an end of the input stays.
-pub fields-prefix : (strict follow : Bool) (kind : ℕ) (s ρ : List ℕ) (at : ℕ) → settled (readFields strict follow kind s at) ≡ true
+pub fields-prefix : (strict follow : Bool) (kind : ℕ) (s ρ : List ℕ) (at : ℕ) → decided (readFields strict follow kind s at) ≡ true
     → readFields strict follow kind (s ++ ρ) at ≡ readFields strict follow kind s at
 unfolding readFields readOctets readOctet
 fields-prefix strict false kind s ρ at q = refl
@@ -172,23 +172,23 @@ fields-prefix strict true kind s ρ at q = go (eqb kind 0) (eqb kind 3) q
               ]
         ]
 
-    go : (t u : Bool) → settled (fields t u s) ≡ true → fields t u (s ++ ρ) ≡ fields t u s
+    go : (t u : Bool) → decided (fields t u s) ≡ true → fields t u (s ++ ρ) ≡ fields t u s
     go true u q =
         ap (map _) (from-prefix (λ τ. readOctets τ at at) s ρ at refl (λ τ. octets-prefix τ ρ at at)
-        (sym (settled-map _ (readOctets (drop at s) at at)) ∙ q))
+        (sym (decided-map _ (readOctets (drop at s) at at)) ∙ q))
     go false true q =
         let n = length-append s ρ in
         ap (map _) (pairs-prefix strict s ρ (suc (length s)) (suc (length (s ++ ρ))) at at (omega arith)
-        (sym (settled-map _ (readPairs (suc (length s)) strict s at at)) ∙ q))
+        (sym (decided-map _ (readPairs (suc (length s)) strict s at at)) ∙ q))
     go false false q =
         ap (map _) (from-prefix (λ τ. readOctet τ at) s ρ at refl (λ τ. octet-prefix τ ρ at)
-        (sym (settled-map _ (readOctet (drop at s) at)) ∙ q))
+        (sym (decided-map _ (readOctet (drop at s) at)) ∙ q))
 
 -- two such answers: one octet of kind 01, and a pair of kind 11 whose identifier's length is 0
-example : settled (readFields true true 1 (7 ∷ []) 0) ≡ true
+example : decided (readFields true true 1 (7 ∷ []) 0) ≡ true
 unfolding readFields readOctet
 example = refl
 
-example-refused : settled (readFields true true 3 (1 ∷ []) 0) ≡ true
+example-refused : decided (readFields true true 3 (1 ∷ []) 0) ≡ true
 unfolding readFields readPairs readPair
 example-refused = refl

@@ -53,9 +53,9 @@ kindNumber Reserved10 = 2
 kindNumber ParameterPairs11 = 3
 
 pub record SplitFix (b : ℕ) (r : FixHeaderField) : Type 0 where
-  pub raw-is : r .raw ≡ b
-  pub follow-is : r .«ext_fields_follow» ≡ fieldsFollow b
-  pub kind-is : kindNumber (r .«ext_type») ≡ kindBits b
+  pub rawIs : r .raw ≡ b
+  pub followIs : r .«ext_fields_follow» ≡ fieldsFollow b
+  pub kindIs : kindNumber (r .«ext_type») ≡ kindBits b
 
 -- "header bit 7 continues, bits 6-4 identifier length, bits 3-0 value length"
 abbrev pub pairHeader : ℕ → PairHeader

@@ -11,12 +11,12 @@ use lib.ListN.{length, take, drop, length-append, length-drop}
 use lib.Seq.{drop-drop, length-take-le}
 use borrow.Author.Tests.{lt-ltb, leb-true, leb-false, eqb-true, eqb-false, eq-eqb, ne-eqb}
 use Rattle.error.specs.Choice.{if}
-use Rattle.error.specs.Answer.{Answer, gives, refuses, bind, map}
+use Rattle.error.specs.Answer.{Answer, gives, refuses, bind, map, codeOf}
 use Rattle.laws.proofs.Lists.{length-part}
 use Rattle.laws.proofs.Tests.{if-true, if-false}
 use Rattle.ext.specs.Kinds.{Pair, Fields}
 use Rattle.ext_write.specs.Write.{checkPair, pairBytes, pairsBytes, cutPairs, sum, lentFields, lentBytes, fieldsBytes}
-use Rattle.ext_write.specs.Internal.Steps.{lentPair, codeOf, startAfter, checkStart, checkStep, checkPairs}
+use Rattle.ext_write.specs.Internal.Steps.{lentPair, startAfter, checkStart, checkStep, checkPairs}
 use Rattle.ext_write.specs.declared.PairsCheck.{PairsCheck}
 use Rattle.ext_write.proofs.PairVerdict.{Verdict, verdict, pair-passed}
 use Rattle.ext_write.proofs.PairsLaid.{laid, pairs-laid, laid-cons}
@@ -180,15 +180,15 @@ laid-length strict [] text bytes e h = let f : bytes ≡ [] = cc in ap length f
 laid-length strict (i ∷ []) text bytes e h =
     let p : Pair = record { identifier = take i text; value = [] } in
     let k = laid-cons strict p [] bytes e in
-    absurd (omega (arith, pair-passed strict p (k .accepts) .value-some))
+    absurd (omega (arith, pair-passed strict p (k .accepts) .valueSome))
 laid-length strict (i ∷ v ∷ ls) text bytes e h =
     let k = laid-cons strict (record { identifier = take i text; value = take v (drop i text) })
     (cutPairs ls (drop (i + v) text)) bytes e in
-    let r : length (k .rest) ≡ sum ls + length ls / 2 = laid-length strict ls (drop (i + v) text) (k .rest) (k .rest-is)
+    let r : length (k .rest) ≡ sum ls + length ls / 2 = laid-length strict ls (drop (i + v) text) (k .rest) (k .restIs)
     (omega (arith, length-drop (i + v) text)) in
     let a : length (take i text) ≡ i = length-take-le i text (omega arith) in
     let b : length (take v (drop i text)) ≡ v = length-part v i text (omega arith) in
-    let f : length bytes ≡ suc (length ((take i text ++ take v (drop i text)) ++ k .rest)) = ap length (k .bytes-are) in
+    let f : length bytes ≡ suc (length ((take i text ++ take v (drop i text)) ++ k .rest)) = ap length (k .bytesAre) in
     let g : length (i ∷ v ∷ ls) ≡ suc (suc (length ls)) = refl in
     omega (arith, length-append (take i text) (take v (drop i text)), length-append (take i text ++ take v (drop i text)) (k .rest))
 

@@ -18,19 +18,19 @@ use Rattle.ext_write.proofs.CheckRun.{lent-31, lent-pairs}
 
 -- kinds 01 and 10
 pub record Single (kind : ℕ) : Type 0 where
-  pub not-0 : eqb kind 0 ≡ false
-  pub not-3 : eqb kind 3 ≡ false
+  pub not0 : eqb kind 0 ≡ false
+  pub not3 : eqb kind 3 ≡ false
 
 pub single-01 : (t : ExtFieldType) → t ≡ Reserved01 → Single (kindNumber t)
 single-01 t e = record {
-  not-0 = ap (λ (u : ExtFieldType). eqb (kindNumber u) 0) e;
-  not-3 = ap (λ (u : ExtFieldType). eqb (kindNumber u) 3) e;
+  not0 = ap (λ (u : ExtFieldType). eqb (kindNumber u) 0) e;
+  not3 = ap (λ (u : ExtFieldType). eqb (kindNumber u) 3) e;
 }
 
 pub single-10 : (t : ExtFieldType) → t ≡ Reserved10 → Single (kindNumber t)
 single-10 t e = record {
-  not-0 = ap (λ (u : ExtFieldType). eqb (kindNumber u) 0) e;
-  not-3 = ap (λ (u : ExtFieldType). eqb (kindNumber u) 3) e;
+  not0 = ap (λ (u : ExtFieldType). eqb (kindNumber u) 0) e;
+  not3 = ap (λ (u : ExtFieldType). eqb (kindNumber u) 3) e;
 }
 
 module _ (strict : Bool) (lengths : List ℕ) where
@@ -45,9 +45,9 @@ module _ (strict : Bool) (lengths : List ℕ) where
     pub lent-octet : (text : List ℕ) → lentBytes strict kind text lengths ≡ octetBytes text
     unfolding lentFields fieldsBytes octetBytes
     lent-octet [] = ap (λ (a : Answer Fields). bind a (fieldsBytes strict))
-        (if-false _ _ _ (single .not-0) ∙ if-false _ _ _ (single .not-3))
+        (if-false _ _ _ (single .not0) ∙ if-false _ _ _ (single .not3))
     lent-octet (o ∷ os) = ap (λ (a : Answer Fields). bind a (fieldsBytes strict))
-        (if-false _ _ _ (single .not-0) ∙ if-false _ _ _ (single .not-3))
+        (if-false _ _ _ (single .not0) ∙ if-false _ _ _ (single .not3))
 
     pub octet-length : (text : List ℕ) → octetLength text ≡ map length (lentBytes strict kind text lengths)
     unfolding octetBytes

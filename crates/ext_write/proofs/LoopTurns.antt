@@ -10,7 +10,7 @@ use native.Mathlib.Omega.{arith}
 use mathlib.Core.Bool.{Bool, not}
 use mathlib.Core.List.{List, [], _∷_}
 use mathlib.Core.WellFounded.{WellFounded, InvImage·wf}
-use lib.Dec.{T as Holds}
+use lib.Dec.{T as IsTrue}
 use lib.ListN.{length, getD, drop}
 use lib.Seq.{drop-cons}
 use lib.WfN.{Nat·lt-wfRel}
@@ -34,8 +34,8 @@ next-of l k d h = drop-cons l k d h ∙ ap (λ j. getD l k d ∷ drop j l) (one-
 
 module _ {M : Type 1} {𝓤 : URA M} {H : Heap 𝓤} {A : Atoms 𝓤} {K : Type 0} {W : Given 𝓤 H A} {Γ : List (Item 𝓤)} {E : Env 𝓤 H}
     {C : Calls 𝓤 H} {Λ : Loops 𝓤 H} {q : Post 𝓤 H} where
-  pub tests : K → {c : Operand} {n : ℕ} {b : Body} {y : Bool} → Opd K W Γ E c (vbool y) → (Holds y → Seq K W Γ (runs C Λ E b q))
-      → (Holds (not y) → Seq K W Γ (prop (post 𝓤 H q (exits n))))
+  pub tests : K → {c : Operand} {n : ℕ} {b : Body} {y : Bool} → Opd K W Γ E c (vbool y) → (IsTrue y → Seq K W Γ (runs C Λ E b q))
+      → (IsTrue (not y) → Seq K W Γ (prop (post 𝓤 H q (exits n))))
       → Seq K W Γ (runs C Λ E (seq (cond c skip (exit n)) b) q)
   tests t o held failed = first t $ branches t o (λ y. skips t $ record { prf = held y .prf })
       (λ z. jumps t $ record { prf = failed z .prf })

@@ -11,11 +11,11 @@ use lib.ListN.{length, getD, take, drop, set, length-drop, length-set, drop-of-l
 use lib.Seq.{sets, drop-drop, getD-drop, take-add, length-sets}
 use borrow.Author.Tests.{lt-ltb, le-ltb, le-leb, lt-leb, eq-eqb, ne-eqb, ltb-true, ltb-false}
 use Rattle.error.specs.Choice.{if}
-use Rattle.error.specs.Answer.{Answer}
+use Rattle.error.specs.Answer.{Answer, codeOf}
 use Rattle.laws.proofs.Lists.{drop-at, length-part}
 use Rattle.laws.proofs.Tests.{if-true, if-false}
 use Rattle.ext_write.specs.Write.{checkPair, pairBytes}
-use Rattle.ext_write.specs.Internal.Steps.{lentPair, codeOf, startAfter, checkStep, checkPairs, canPut, putStep, putOutput, putPairs}
+use Rattle.ext_write.specs.Internal.Steps.{lentPair, startAfter, checkStep, checkPairs, canPut, putStep, putOutput, putPairs}
 use Rattle.ext_write.specs.declared.PairsCheck.{PairsCheck}
 use Rattle.ext_write.specs.declared.PairsPut.{PairsPut}
 

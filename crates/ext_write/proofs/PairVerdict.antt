@@ -69,12 +69,12 @@ verdict strict p =
 
 -- what a pair that is accepted has passed
 pub record PairPassed (strict : Bool) (p : Pair) : Type 0 where
-  pub identifier-some : 1 ≤ length (p .identifier)
-  pub identifier-most : length (p .identifier) ≤ 7
-  pub identifier-class : inClass strict isChar (p .identifier) ≡ true
-  pub value-some : 1 ≤ length (p .value)
-  pub value-most : length (p .value) ≤ 15
-  pub value-class : inClass strict isAlphaDigit (p .value) ≡ true
+  pub identifierSome : 1 ≤ length (p .identifier)
+  pub identifierMost : length (p .identifier) ≤ 7
+  pub identifierClass : inClass strict isChar (p .identifier) ≡ true
+  pub valueSome : 1 ≤ length (p .value)
+  pub valueMost : length (p .value) ≤ 15
+  pub valueClass : inClass strict isAlphaDigit (p .value) ≡ true
 
 if-gives : (b : Bool) (x : Answer (Unit {0})) (code : ℕ) → if b x (refuses code 0) ≡ gives tt → (b ≡ true) × (x ≡ gives tt)
 if-gives true x code e = (refl, e)
@@ -98,10 +98,10 @@ pair-passed strict p e =
     let a = range-both 7 (length (p .identifier)) (i .0) in
     let b = range-both 15 (length (p .value)) (v .0) in
     record {
-      identifier-some = a .0;
-      identifier-most = a .1;
-      identifier-class = k .0;
-      value-some = b .0;
-      value-most = b .1;
-      value-class = w .0;
+      identifierSome = a .0;
+      identifierMost = a .1;
+      identifierClass = k .0;
+      valueSome = b .0;
+      valueMost = b .1;
+      valueClass = w .0;
     }

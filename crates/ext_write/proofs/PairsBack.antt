@@ -94,8 +94,8 @@ module _ (strict strict′ : Bool) (ease : strict′ ≡ true → strict ≡ tru
 
   classes-back : classed strict′ (backAt p more q) ≡ gives (backAt p more q)
   classes-back =
-      if-true _ _ _ (eased strict strict′ isChar (p .identifier) ease (ok .identifier-class))
-      ∙ if-true _ _ _ (eased strict strict′ isAlphaDigit (p .value) ease (ok .value-class))
+      if-true _ _ _ (eased strict strict′ isChar (p .identifier) ease (ok .identifierClass))
+      ∙ if-true _ _ _ (eased strict strict′ isAlphaDigit (p .value) ease (ok .valueClass))
 
   parts-back : pairParts strict′ file more (length q + 1) (length q + 1 + length (p .identifier))
       (length q + 1 + length (p .identifier) + length (p .value)) ≡ gives (backAt p more q)
@@ -109,12 +109,12 @@ module _ (strict strict′ : Bool) (ease : strict′ ≡ true → strict ≡ tru
   pair-back =
       ap (λ (h : ℕ). readWith strict′ file (length q) (h / 16 % 8) (h % 16) (leb 128 h)) header-back
       ∙ rw (
-        header-identifier more (length (p .identifier)) (length (p .value)) (ok .identifier-most) (ok .value-most),
-        header-value more (length (p .identifier)) (length (p .value)) (ok .identifier-most) (ok .value-most),
-        header-more more (length (p .identifier)) (length (p .value)) (ok .identifier-most) (ok .value-most),
+        header-identifier more (length (p .identifier)) (length (p .value)) (ok .identifierMost) (ok .valueMost),
+        header-value more (length (p .identifier)) (length (p .value)) (ok .identifierMost) (ok .valueMost),
+        header-more more (length (p .identifier)) (length (p .value)) (ok .identifierMost) (ok .valueMost),
       )
-      (if-false _ _ _ (ne-eqb (length (p .identifier)) 0 (λ e. omega (arith, ok .identifier-some)))
-      ∙ if-false _ _ _ (ne-eqb (length (p .value)) 0 (λ e. omega (arith, ok .value-some)))
+      (if-false _ _ _ (ne-eqb (length (p .identifier)) 0 (λ e. omega (arith, ok .identifierSome)))
+      ∙ if-false _ _ _ (ne-eqb (length (p .value)) 0 (λ e. omega (arith, ok .valueSome)))
       ∙ parts-back)
 
 -- what follows a pair that was read
@@ -163,10 +163,10 @@ module _ (strict strict′ : Bool) (ease : strict′ ≡ true → strict ≡ tru
   pairs-back (p ∷ ps) bytes q τ past zero some e f n b h = absurd (omega arith)
   pairs-back (p ∷ []) bytes q τ past (suc most) some e f n b h =
       let k = laid-cons strict p [] bytes e in
-      let r : k .rest ≡ [] = cc (k .rest-is) in
-      let g : s ≡ q ++ (pairBytes false p ++ (k .rest ++ τ)) = f ∙ ap (λ (w : List ℕ). q ++ (w ++ τ)) (k .bytes-are)
+      let r : k .rest ≡ [] = cc (k .restIs) in
+      let g : s ≡ q ++ (pairBytes false p ++ (k .rest ++ τ)) = f ∙ ap (λ (w : List ℕ). q ++ (w ++ τ)) (k .bytesAre)
       ∙ ap (λ (w : List ℕ). q ++ w) (append-assoc (pairBytes false p) (k .rest) τ) in
-      let l : length bytes ≡ suc (length ((p .identifier ++ p .value) ++ k .rest)) = ap length (k .bytes-are) in
+      let l : length bytes ≡ suc (length ((p .identifier ++ p .value) ++ k .rest)) = ap length (k .bytesAre) in
       let z : length (k .rest) ≡ 0 = ap length r in
       let m : length q + 1 + length (p .identifier) + length (p .value) ≡ length q + length bytes
       = omega (arith, length-append (p .identifier ++ p .value) (k .rest), length-append (p .identifier) (p .value)) in
@@ -174,7 +174,7 @@ module _ (strict strict′ : Bool) (ease : strict′ ≡ true → strict ≡ tru
   pairs-back (p ∷ p′ ∷ ps) bytes q τ past (suc most) some e f n b h =
       let k = laid-cons strict p (p′ ∷ ps) bytes e in
       let y : bytes ≡ pairBytes true p ++ k .rest
-      = k .bytes-are ∙ ap (λ (more : Bool). pairBytes more p ++ k .rest) (lt-ltb 0 (length (p′ ∷ ps)) (omega arith)) in
+      = k .bytesAre ∙ ap (λ (more : Bool). pairBytes more p ++ k .rest) (lt-ltb 0 (length (p′ ∷ ps)) (omega arith)) in
       let g : s ≡ q ++ (pairBytes true p ++ (k .rest ++ τ)) = f ∙ ap (λ (w : List ℕ). q ++ (w ++ τ)) y
       ∙ ap (λ (w : List ℕ). q ++ w) (append-assoc (pairBytes true p) (k .rest) τ) in
       let l : length bytes ≡ suc (length ((p .identifier ++ p .value) ++ k .rest)) = ap length y in
@@ -187,7 +187,7 @@ module _ (strict strict′ : Bool) (ease : strict′ ≡ true → strict ≡ tru
       ∙ ap (λ (end : ℕ). map (λ (x : List Pair × ℕ). (p ∷ x .0, x .1)) (readPairs most strict′ s start end)) m
       ∙ ap
       (map (λ (x : List Pair × ℕ). (p ∷ x .0, x .1)))
-      (pairs-back (p′ ∷ ps) (k .rest) (q ++ pairBytes true p) τ (past + pairSize p) most (omega arith) (k .rest-is)
+      (pairs-back (p′ ∷ ps) (k .rest) (q ++ pairBytes true p) τ (past + pairSize p) most (omega arith) (k .restIs)
       (g ∙ sym (append-assoc q (pairBytes true p) (k .rest ++ τ)))
       (omega arith)
       (b .1)

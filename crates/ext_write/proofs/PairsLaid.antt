@@ -37,20 +37,20 @@ pairs-some strict (p ∷ ps) bytes e = omega arith
 pub record Cons (strict : Bool) (p : Pair) (ps : List Pair) (bytes : List ℕ) : Type 0 where
   pub accepts : checkPair strict p ≡ gives tt
   pub rest : List ℕ
-  pub rest-is : laid strict ps ≡ gives rest
-  pub bytes-are : bytes ≡ pairBytes (ltb 0 (length ps)) p ++ rest
+  pub restIs : laid strict ps ≡ gives rest
+  pub bytesAre : bytes ≡ pairBytes (ltb 0 (length ps)) p ++ rest
 
 pub laid-cons : (strict : Bool) (p : Pair) (ps : List Pair) (bytes : List ℕ) → laid strict (p ∷ ps) ≡ gives bytes → Cons strict p ps bytes
 laid-cons strict p ps bytes e =
     let b = bind-gives (checkPair strict p) _ bytes e in
     let m = map-gives (λ (rest : List ℕ). pairBytes (ltb 0 (length ps)) p ++ rest) (laid strict ps) bytes (b .2) in
-    record { accepts = b .1; rest = m .0; rest-is = m .1; bytes-are = sym (m .2) }
+    record { accepts = b .1; rest = m .0; restIs = m .1; bytesAre = sym (m .2) }
 
 -- each pair has bytes of its own
 pub laid-count : (strict : Bool) (ps : List Pair) (bytes : List ℕ) → laid strict ps ≡ gives bytes → length ps ≤ length bytes
 laid-count strict [] bytes e = omega arith
 laid-count strict (p ∷ ps) bytes e =
     let k = laid-cons strict p ps bytes e in
-    let c = laid-count strict ps (k .rest) (k .rest-is) in
-    let l : length bytes ≡ suc (length ((p .identifier ++ p .value) ++ k .rest)) = ap length (k .bytes-are) in
+    let c = laid-count strict ps (k .rest) (k .restIs) in
+    let l : length bytes ≡ suc (length ((p .identifier ++ p .value) ++ k .rest)) = ap length (k .bytesAre) in
     omega (arith, length-append (p .identifier ++ p .value) (k .rest))

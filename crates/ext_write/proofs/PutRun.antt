@@ -29,10 +29,10 @@ module _ (strict : Bool) (text : List ℕ) (at i v : ℕ) (a : checkPair strict 
   value-length = length-part v (at + i) text t
 
   pub short-identifier : i ≤ 7
-  short-identifier = omega (arith, pair-passed strict (lentPair text at i v) a .identifier-most, identifier-length)
+  short-identifier = omega (arith, pair-passed strict (lentPair text at i v) a .identifierMost, identifier-length)
 
   pub short-value : v ≤ 15
-  short-value = omega (arith, pair-passed strict (lentPair text at i v) a .value-most, value-length)
+  short-value = omega (arith, pair-passed strict (lentPair text at i v) a .valueMost, value-length)
 
   pub pair-length : (more : Bool) → length (pairBytes more (lentPair text at i v)) ≡ 1 + i + v
   pair-length more =
@@ -68,19 +68,19 @@ module _ (strict : Bool) (text : List ℕ) where
   put-all (i ∷ []) out s bytes e t r =
       let p : Pair = record { identifier = take i (drop (s .at) text); value = [] } in
       let k = laid-cons strict p [] bytes e in
-      absurd (omega (arith, pair-passed strict p (k .accepts) .value-some))
+      absurd (omega (arith, pair-passed strict p (k .accepts) .valueSome))
   put-all (i ∷ v ∷ ls) out s bytes e t r =
       let p : Pair = lentPair text (s .at) i v in
       let ps = cutPairs ls (drop (s .at + i + v) text) in
       let k = laid-cons strict p ps bytes (ap (laid strict) (sym (cut-cons text ls (s .at) i v)) ∙ e) in
       let more = ltb 0 (length ls) in
-      let b : bytes ≡ pairBytes more p ++ k .rest = k .bytes-are
+      let b : bytes ≡ pairBytes more p ++ k .rest = k .bytesAre
       ∙ ap (λ (m : Bool). pairBytes m p ++ k .rest) (cut-more ls (drop (s .at + i + v) text)) in
       let l : s .at + i + v ≤ length text = omega arith in
       let n : s .to + (1 + i + v) + length (k .rest) ≤ length out
       = omega (arith, ap length b, length-append (pairBytes more p) (k .rest), pair-length strict text (s .at) i v (k .accepts) l more) in
       put-one strict text out s i v ls (k .rest) (k .accepts) l n more
-      ∙ put-all ls (sets out (s .to) (pairBytes more p)) (record { at = s .at + i + v; to = s .to + 1 + i + v }) (k .rest) (k .rest-is)
+      ∙ put-all ls (sets out (s .to) (pairBytes more p)) (record { at = s .at + i + v; to = s .to + 1 + i + v }) (k .rest) (k .restIs)
       (omega arith)
       (omega (arith, length-sets out (s .to) (pairBytes more p)))
       ∙ put-joined strict text out s i v ls (k .rest) (k .accepts) l n more

@@ -58,11 +58,11 @@ unfolding cutPairs
 laid-even strict [] text bytes e = refl
 laid-even strict (i ∷ []) text bytes e =
     let p : Pair = record { identifier = take i text; value = [] } in
-    absurd (omega (arith, pair-passed strict p (laid-cons strict p [] bytes e .accepts) .value-some))
+    absurd (omega (arith, pair-passed strict p (laid-cons strict p [] bytes e .accepts) .valueSome))
 laid-even strict (i ∷ v ∷ ls) text bytes e =
     let p : Pair = record { identifier = take i text; value = take v (drop i text) } in
     let k = laid-cons strict p (cutPairs ls (drop (i + v) text)) bytes e in
-    let r = laid-even strict ls (drop (i + v) text) (k .rest) (k .rest-is) in
+    let r = laid-even strict ls (drop (i + v) text) (k .rest) (k .restIs) in
     let g : length (i ∷ v ∷ ls) ≡ suc (suc (length ls)) = refl in
     omega arith
 

@@ -2,7 +2,6 @@
 use crate::NewParameter;
 use crate::Parameter;
 use error::Checked;
-use error::WbmpError;
 use ext::identifier_in_class;
 use ext::value_in_class;
 ghost use mathlib.Core.Path.{_≡_};
@@ -15,22 +14,22 @@ pub fn check_parameter(identifier: &[u8], value: &[u8], strict: bool) -> Checked
     ensures { λ r. ⌜ checked r ≡ checkPair strict (record { identifier = now (identifier .entry); value = now (value .entry) }) ⌝ }
 {
     if identifier.len() < 1 {
-        return refused(error::IDENTIFIER_LENGTH);
+        return Checked::refused(error::IDENTIFIER_LENGTH);
     }
     if 7 < identifier.len() {
-        return refused(error::IDENTIFIER_LENGTH);
+        return Checked::refused(error::IDENTIFIER_LENGTH);
     }
     if !identifier_in_class(identifier, strict) {
-        return refused(error::IDENTIFIER_CLASS);
+        return Checked::refused(error::IDENTIFIER_CLASS);
     }
     if value.len() < 1 {
-        return refused(error::VALUE_LENGTH);
+        return Checked::refused(error::VALUE_LENGTH);
     }
     if 15 < value.len() {
-        return refused(error::VALUE_LENGTH);
+        return Checked::refused(error::VALUE_LENGTH);
     }
     if !value_in_class(value, strict) {
-        return refused(error::VALUE_CLASS);
+        return Checked::refused(error::VALUE_CLASS);
     }
     Checked::Accepted
 }
@@ -55,10 +54,4 @@ impl Parameter {
             Checked::Refused(e) => NewParameter::Refused(e),
         }
     }
-}
-
-fn refused(code: u8) -> Checked
-    ensures { λ r. ⌜ r ≡ Checked.Refused (record { code = code; offset = 0 }) ⌝ }
-{
-    Checked::Refused(WbmpError { code, offset: 0 })
 }

@@ -5,7 +5,6 @@ use crate::pairs::check_pairs;
 use crate::pairs::pairs_length;
 use crate::pairs::put_pairs;
 use crate::pairs::refused;
-use error::WbmpError;
 use error::Written;
 use ext::ExtFieldType;
 ghost use Prim.Native.Nat.{_+_, _≤_, _<_};
@@ -87,15 +86,6 @@ fn put_octets(text: &[u8], out: &mut [u8])
     }
 }
 
-fn too_short() -> Written
-    ensures { λ r. ⌜ r ≡ Written.Refused (record { code = 25; offset = 0 }) ⌝ }
-{
-    Written::Refused(WbmpError {
-        code: error::OUTPUT_TOO_SHORT,
-        offset: 0,
-    })
-}
-
 // Kind 00.
 fn write_octets(text: &[u8], out: &mut [u8]) -> Written
     ensures { λ r. ⌜ Emits (octetsBytes (now (text .entry))) (written r) (now (out .entry)) (now (out .exit)) ⌝ }
@@ -103,7 +93,7 @@ fn write_octets(text: &[u8], out: &mut [u8]) -> Written
     match check_octets(text) {
         FieldsCheck::Length(len) => {
             if out.len() < len {
-                return too_short();
+                return Written::refused(error::OUTPUT_TOO_SHORT);
             }
             put_octets(text, out);
             Written::Bytes(len)
@@ -117,13 +107,10 @@ fn write_octet(text: &[u8], out: &mut [u8]) -> Written
     ensures { λ r. ⌜ Emits (octetBytes (now (text .entry))) (written r) (now (out .entry)) (now (out .exit)) ⌝ }
 {
     if text.len() == 0 {
-        return Written::Refused(WbmpError {
-            code: error::FIELDS_EMPTY,
-            offset: 0,
-        });
+        return Written::refused(error::FIELDS_EMPTY);
     }
     if out.len() == 0 {
-        return too_short();
+        return Written::refused(error::OUTPUT_TOO_SHORT);
     }
     out[0] = text[0];
     Written::Bytes(1)
@@ -138,7 +125,7 @@ fn begin_pairs(found: FieldsCheck, end: usize) -> PairsBegun
             if end < len {
                 return PairsBegun {
                     to: end,
-                    answer: too_short(),
+                    answer: Written::refused(error::OUTPUT_TOO_SHORT),
                 };
             }
             PairsBegun {

@@ -1,7 +1,6 @@
 // Headers to be written into a lent output.
 use crate::ExtPresence;
 use error::OUTPUT_TOO_SHORT;
-use error::WbmpError;
 use error::Written;
 use error::ZERO_DIMENSION;
 use ext::ExtFieldType;
@@ -46,36 +45,18 @@ fn put_sizes(width: u32, height: u32, out: &mut [u8], at: usize)
     put_integer(height, out, next);
 }
 
-fn too_short() -> Written
-    ensures { λ r. ⌜ r ≡ Written.Refused (record { code = 25; offset = 0 }) ⌝ }
-{
-    Written::Refused(WbmpError {
-        code: OUTPUT_TOO_SHORT,
-        offset: 0,
-    })
-}
-
 // A header without fields; sizes of 0 are written.
 pub fn write_header(width: u32, height: u32, out: &mut [u8]) -> Written
     ensures { λ r. ⌜ Emits (plainHeader width height) (written r) (now (out .entry)) (now (out .exit)) ⌝ }
 {
     let total = 2 + sizes_len(width, height);
     if out.len() < total {
-        return too_short();
+        return Written::refused(OUTPUT_TOO_SHORT);
     }
     out[0] = 0;
     out[1] = 0;
     put_sizes(width, height, out, 2);
     Written::Bytes(total)
-}
-
-fn zero_dimension() -> Written
-    ensures { λ r. ⌜ r ≡ Written.Refused (record { code = 8; offset = 0 }) ⌝ }
-{
-    Written::Refused(WbmpError {
-        code: ZERO_DIMENSION,
-        offset: 0,
-    })
 }
 
 // The FixHeader byte of fields: bit 7 says that they follow, bits 6-5 their kind.
@@ -112,10 +93,10 @@ fn begin_fields_header(
         FieldsCheck::Length(len) => {
             let around = 2 + sizes_len(width, height);
             if out.len() < around {
-                return none_begun(out.len(), too_short());
+                return none_begun(out.len(), Written::refused(OUTPUT_TOO_SHORT));
             }
             if out.len() - around < len {
-                return none_begun(out.len(), too_short());
+                return none_begun(out.len(), Written::refused(OUTPUT_TOO_SHORT));
             }
             out[0] = 0;
             out[1] = fix_byte(ext_type);
@@ -142,10 +123,10 @@ pub fn begin_header(
     ensures { λ r. ⌜ BeginsHeader width height ext (now (text .entry)) found (now (out .entry)) (now (out .exit)) r ⌝ }
 {
     if width == 0 {
-        return none_begun(out.len(), zero_dimension());
+        return none_begun(out.len(), Written::refused(ZERO_DIMENSION));
     }
     if height == 0 {
-        return none_begun(out.len(), zero_dimension());
+        return none_begun(out.len(), Written::refused(ZERO_DIMENSION));
     }
     match ext {
         ExtPresence::Absent => {

@@ -21,10 +21,10 @@ use Rattle.ext.proofs.Continuation.{fields-in}
 use Rattle.header.specs.Settings.{Settings}
 use Rattle.header_reader.specs.Internal.Machine.{State, inType, atFix, inOctets, atOctet, atPair, inIdentifier, inValue, inWidth}
 use Rattle.header_reader.specs.Internal.Machine.{inHeight, start, Step, more, done, refused, onByte, stepOf, steps}
-use Rattle.header_reader.specs.Internal.Represents.{Sound}
+use Rattle.header_reader.specs.Internal.Represents.{Reachable}
 use Rattle.header_reader.specs.Internal.Pieces.{onward}
 use Rattle.header_reader.proofs.Machine.{steps-cons}
-use Rattle.header_reader.proofs.StepSound.{SoundStep, sound-step, value-kept}
+use Rattle.header_reader.proofs.StepReachable.{ReachableStep, reachable-step, value-kept}
 use Rattle.header_pieces.specs.Extension.{fieldsEnd, fieldBytesAt, afterType, fieldBytes}
 use Rattle.header_pieces.proofs.Zones.{Zone, before, inside, behind, zone}
 
@@ -167,7 +167,7 @@ module _ (o : Settings) (s τ : List ℕ) where
   fault from code place e = rw e
 
   -- the one-step law
-  pub rest-step : (st : State) (b : ℕ) → Sound st → rest o s st (b ∷ τ) ≡ after o s (zone st) (stepOf o st b) τ
+  pub rest-step : (st : State) (b : ℕ) → Reachable st → rest o s st (b ∷ τ) ≡ after o s (zone st) (stepOf o st b) τ
   unfolding rest stepOf integer octets octet pairsFrom fieldsFrom
   rest-step (inType at v n) b h =
       number before (readByte (o .shortest) at v n b) _ _ _ _ (λ w. refl) (λ w. choose before (eqb w 0) _ _ _ _ refl refl) (λ place. refl)
@@ -197,14 +197,14 @@ module _ (o : Settings) (s τ : List ℕ) where
 
 module _ (o : Settings) (s : List ℕ) where
   -- bytes that a reading takes and goes on behind
-  pub rest-steps : (σ τ : List ℕ) (st st′ : State) → Sound st → steps o st σ ≡ more st′ → rest o s st (σ ++ τ) ≡ rest o s st′ τ
+  pub rest-steps : (σ τ : List ℕ) (st st′ : State) → Reachable st → steps o st σ ≡ more st′ → rest o s st (σ ++ τ) ≡ rest o s st′ τ
   unfolding steps
   rest-steps [] τ st st′ h e = let f : st ≡ st′ = cc in ap (λ (x : State). rest o s x τ) f
   rest-steps (b ∷ σ) τ st st′ h e =
       rest-step o s (σ ++ τ) st b h
-      ∙ go (stepOf o st b) (sound-step o st b h) (λ x. rest-steps σ τ x st′) (sym (steps-cons o st b σ) ∙ e)
+      ∙ go (stepOf o st b) (reachable-step o st b h) (λ x. rest-steps σ τ x st′) (sym (steps-cons o st b σ) ∙ e)
     where
-      go : (x : Step) → SoundStep x → ((t : State) → Sound t → steps o t σ ≡ more st′ → rest o s t (σ ++ τ) ≡ rest o s st′ τ)
+      go : (x : Step) → ReachableStep x → ((t : State) → Reachable t → steps o t σ ≡ more st′ → rest o s t (σ ++ τ) ≡ rest o s st′ τ)
           → onward o x σ ≡ more st′ → after o s (zone st) x (σ ++ τ) ≡ rest o s st′ τ
       go (more t) k ih q = ih t k q
       go (done y) k ih q = zero-one (cc)

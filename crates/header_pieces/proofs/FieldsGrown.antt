@@ -16,10 +16,10 @@ use Rattle.ext.specs.Kinds.{Span, absent, span}
 use Rattle.ext.specs.Read.{readFields, readPairs, readPair}
 use Rattle.header.specs.Settings.{Settings, extInner}
 use Rattle.header_reader.specs.Internal.Machine.{State, start, inFields, Step, more, done, refused, stepOf, steps, atPair, inIdentifier}
-use Rattle.header_reader.specs.Internal.Represents.{Sound}
+use Rattle.header_reader.specs.Internal.Represents.{Reachable}
 use Rattle.header_reader.specs.Internal.Pieces.{onward}
 use Rattle.header_reader.proofs.Machine.{steps-cons}
-use Rattle.header_reader.proofs.StepSound.{SoundStep, sound-step, sound-steps, sound-start}
+use Rattle.header_reader.proofs.StepReachable.{ReachableStep, reachable-step, reachable-steps, reachable-start}
 use Rattle.header_reader.proofs.BytesTaken.{taken, Moves, moves-step, taken-steps}
 use Rattle.header_pieces.specs.Extension.{fieldBytes}
 use Rattle.header_pieces.proofs.Zones.{Zone, before, inside, behind, zone, isInside, inside-is, Next, early, enters, skips, runs}
@@ -46,16 +46,16 @@ fits-next at z z′ (runs p q) h = omega arith
 fits-next at z z′ (leaves p q) h = omega arith
 fits-next at z z′ (late {f = f}) h = spanFits at f h
 
-fits-steps : (o : Settings) (σ : List ℕ) (st st′ : State) → Sound st → Fits (taken st) (zone st) → steps o st σ ≡ more st′
+fits-steps : (o : Settings) (σ : List ℕ) (st st′ : State) → Reachable st → Fits (taken st) (zone st) → steps o st σ ≡ more st′
     → Fits (taken st′) (zone st′)
 unfolding steps
 fits-steps o [] st st′ s h e = let f : st ≡ st′ = cc in subst (λ (x : State). Fits (taken x) (zone x)) f h
 fits-steps o (b ∷ σ) st st′ s h e =
-    go (stepOf o st b) (sound-step o st b s) (moves-step o st b) (zone-step o st b s) (λ x. fits-steps o σ x st′)
+    go (stepOf o st b) (reachable-step o st b s) (moves-step o st b) (zone-step o st b s) (λ x. fits-steps o σ x st′)
     (sym (steps-cons o st b σ) ∙ e)
   where
-    go : (x : Step) → SoundStep x → Moves (taken st) x → Moved (taken st) (zone st) x
-        → ((t : State) → Sound t → Fits (taken t) (zone t) → steps o t σ ≡ more st′ → Fits (taken st′) (zone st′))
+    go : (x : Step) → ReachableStep x → Moves (taken st) x → Moved (taken st) (zone st) x
+        → ((t : State) → Reachable t → Fits (taken t) (zone t) → steps o t σ ≡ more st′ → Fits (taken st′) (zone st′))
         → onward o x σ ≡ more st′ → Fits (taken st′) (zone st′)
     go (more t) k m n ih q = ih t k (subst⁻¹ (λ (a : ℕ). Fits a (zone t)) m (fits-next (taken st) (zone st) (zone t) n h)) q
     go (done y) k m n ih q = zero-one (cc)
@@ -137,29 +137,29 @@ pub record Grown (o : Settings) (σ : List ℕ) (b : ℕ) (τ : List ℕ) (w : B
   pub room : w ≡ true → length (fieldBytes o σ) < 4118
 
 module _ (o : Settings) (σ : List ℕ) (st : State) (e : steps o start σ ≡ more st) where
-  sound-so : Sound st
-  sound-so = subst SoundStep e (sound-steps o σ start sound-start)
+  reachable-so : Reachable st
+  reachable-so = subst ReachableStep e (reachable-steps o σ start reachable-start)
 
   pub taken-so : taken st ≡ length σ
   taken-so = omega (arith, taken-steps o σ start st e)
 
   fits-so : Fits (length σ) (zone st)
-  fits-so = subst (λ (n : ℕ). Fits n (zone st)) taken-so (fits-steps o σ start st sound-start tt e)
+  fits-so = subst (λ (n : ℕ). Fits n (zone st)) taken-so (fits-steps o σ start st reachable-start tt e)
 
   -- they are what the state says
   pub bytes-so : fieldBytes o σ ≡ zoneBytes (zone st) σ
   bytes-so =
-      rest-start o σ ∙ ap (rest o σ start) (sym (append-nil σ)) ∙ rest-steps o σ σ [] start st sound-start e ∙ rest-end o σ st
+      rest-start o σ ∙ ap (rest o σ start) (sym (append-nil σ)) ∙ rest-steps o σ σ [] start st reachable-start e ∙ rest-end o σ st
 
   bytes-step : (b : ℕ) (τ : List ℕ) → fieldBytes o (σ ++ b ∷ τ) ≡ after o (σ ++ b ∷ τ) (zone st) (stepOf o st b) τ
   bytes-step b τ =
-      rest-start o (σ ++ b ∷ τ) ∙ rest-steps o (σ ++ b ∷ τ) σ (b ∷ τ) start st sound-start e ∙ rest-step o (σ ++ b ∷ τ) τ st b sound-so
+      rest-start o (σ ++ b ∷ τ) ∙ rest-steps o (σ ++ b ∷ τ) σ (b ∷ τ) start st reachable-start e ∙ rest-step o (σ ++ b ∷ τ) τ st b reachable-so
 
   -- the one-byte law
   pub grown : (b : ℕ) (τ : List ℕ) (x : Step) → stepOf o st b ≡ x → Follow x τ → Grown o σ b τ (stores st (length σ) x)
   grown b τ x q f =
       go x f (subst (Moved (length σ) (zone st)) q
-      (subst (λ (n : ℕ). Moved n (zone st) (stepOf o st b)) taken-so (zone-step o st b sound-so)))
+      (subst (λ (n : ℕ). Moved n (zone st) (stepOf o st b)) taken-so (zone-step o st b reachable-so)))
       (bytes-step b τ ∙ ap (λ (y : Step). after o (σ ++ b ∷ τ) (zone st) y τ) q)
     where
       go : (x : Step) → Follow x τ → Moved (length σ) (zone st) x → fieldBytes o (σ ++ b ∷ τ) ≡ after o (σ ++ b ∷ τ) (zone st) x τ

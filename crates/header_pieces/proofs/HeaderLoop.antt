@@ -20,7 +20,7 @@ use Rattle.header_reader.specs.declared.reader.HeaderReader.{HeaderReader}
 use Rattle.header_reader.specs.declared.reader.HeaderStep.{HeaderStep}
 use Rattle.header_reader.proofs.Machine.{one-step, steps-cons, steps-law, steps-append}
 use Rattle.header_reader.proofs.Direct.{direct}
-use Rattle.header_reader.proofs.StepSound.{SoundStep, sound-step}
+use Rattle.header_reader.proofs.StepReachable.{ReachableStep, reachable-step}
 use Rattle.header_reader.proofs.BytesTaken.{Moves, taken, moves-step}
 use Rattle.header_pieces.specs.Extension.{fieldBytes}
 use Rattle.header_pieces.specs.Internal.Head.{Reached, Ends, Heads, isKept, Keeps}
@@ -149,9 +149,9 @@ module _ (o : Settings) (bytes piece ext₀ : List ℕ) (at kept i : ℕ) (r : H
       → Headed o bytes piece ext₀ at kept (record { taken = i + 1; kept = count′; end = HeadEnd.Refused f }) ext′
   turn-refused f e =
       go (stepOf o st b) refl (subst (λ (k : HeaderStep). Answers o k (stepOf o st b)) e answers)
-      (sound-step o st b (g .reached .represents .sound))
+      (reachable-step o st b (g .reached .represents .reachable))
     where
-      go : (y : Step) → stepOf o st b ≡ y → Answers o (HeaderStep.Refused f) y → SoundStep y
+      go : (y : Step) → stepOf o st b ≡ y → Answers o (HeaderStep.Refused f) y → ReachableStep y
           → Headed o bytes piece ext₀ at kept (record { taken = i + 1; kept = count′; end = HeadEnd.Refused f }) ext′
       go (more s) q a m = absurd a
       go (done y) q a m = absurd a

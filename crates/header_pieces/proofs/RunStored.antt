@@ -13,7 +13,7 @@ use Rattle.laws.proofs.Runs.{sets-append}
 use Rattle.header.specs.Settings.{Settings}
 use Rattle.header_reader.specs.Internal.Machine.{State, start, inType, atFix, inOctets, atOctet, atPair}
 use Rattle.header_reader.specs.Internal.Machine.{inIdentifier, inValue, inWidth, inHeight, inFields, Step, more, steps}
-use Rattle.header_reader.specs.Internal.Represents.{Sound}
+use Rattle.header_reader.specs.Internal.Represents.{Reachable}
 use Rattle.header_reader.specs.Internal.Pieces.{onward}
 use Rattle.header_reader.specs.Internal.Run.{fieldsStart, Inside, RunReached, ReaderRuns}
 use Rattle.header_reader.specs.declared.reader.HeaderReader.{HeaderReader}
@@ -81,7 +81,7 @@ in-zone (inValue fix from at pairs begun left again fault) e = refl
 in-zone (inWidth fix f at v n) e = zero-one (cc)
 in-zone (inHeight fix f w at v n) e = zero-one (cc)
 
-in-bounds : (st : State) → inFields st ≡ true → Sound st → (fieldsStart st ≤ taken st) × (taken st ≤ fieldsStart st + 4118)
+in-bounds : (st : State) → inFields st ≡ true → Reachable st → (fieldsStart st ≤ taken st) × (taken st ≤ fieldsStart st + 4118)
 in-bounds (inType at v n) e s = zero-one (cc)
 in-bounds (atFix at) e s = zero-one (cc)
 in-bounds (inOctets fix from at) e s = (s .2, omega arith)
@@ -109,7 +109,7 @@ runs-on r₀ kept i piece ext x count ext′ h a k =
     }
 
 module _ (o : Settings) (σ ρ : List ℕ) (st next : State) (e : steps o start σ ≡ more st) (f : steps o start (σ ++ ρ) ≡ more next)
-    (sound : Sound st) (later : Sound next) (i : Inside st next) where
+    (reachable : Reachable st) (later : Reachable next) (i : Inside st next) where
   from-there : fieldBytes o (σ ++ ρ) ≡ drop (fieldsStart st) (σ ++ ρ)
   from-there =
       bytes-so o (σ ++ ρ) next f
@@ -117,7 +117,7 @@ module _ (o : Settings) (σ ρ : List ℕ) (st next : State) (e : steps o start 
 
   pub inside-bytes : fieldBytes o (σ ++ ρ) ≡ fieldBytes o σ ++ ρ
   inside-bytes =
-      let n : fieldsStart st ≤ length σ = omega (arith, in-bounds st (i .here) sound .0, taken-so o σ st e) in
+      let n : fieldsStart st ≤ length σ = omega (arith, in-bounds st (i .here) reachable .0, taken-so o σ st e) in
       from-there ∙ drop-append-le (fieldsStart st) σ ρ n
       ∙ ap (λ (l : List ℕ). l ++ ρ) (sym (bytes-so o σ st e ∙ ap (λ (z : Zone). zoneBytes z σ) (in-zone st (i .here))))
 
@@ -164,10 +164,10 @@ module _ (o : Settings) (bytes piece ext₀ : List ℕ) (at kept i : ℕ) (r : H
       )
   stores (inr n) =
       let b =
-      inside-bytes o σ ρ (g .reached .state) (ran .next) (g .reached .reached) there (g .reached .represents .sound)
-      (ran .represents .sound) n in
+      inside-bytes o σ ρ (g .reached .state) (ran .next) (g .reached .reached) there (g .reached .represents .reachable)
+      (ran .represents .reachable) n in
       let m =
-      inside-room o σ ρ (g .reached .state) (ran .next) (g .reached .reached) there (g .reached .represents .sound) (ran .represents .sound)
+      inside-room o σ ρ (g .reached .state) (ran .next) (g .reached .reached) there (g .reached .represents .reachable) (ran .represents .reachable)
       n in
       let s : length (fieldBytes o (σ ++ ρ)) ≡ length (fieldBytes o σ) + length ρ = ap length b ∙ length-append (fieldBytes o σ) ρ in
       (b, a .keeps .stored (omega (arith, g .reached .keptIs)))

@@ -13,7 +13,7 @@ use Rattle.ext.specs.Internal.Bytewise.{valueFault}
 use Rattle.header.specs.Settings.{Settings}
 use Rattle.header_reader.specs.Internal.Machine.{State, inType, atFix, inOctets, atOctet, atPair, inIdentifier, inValue}
 use Rattle.header_reader.specs.Internal.Machine.{inWidth, inHeight, inFields, Step, more, done, refused, onByte, stepOf}
-use Rattle.header_reader.specs.Internal.Represents.{Sound}
+use Rattle.header_reader.specs.Internal.Represents.{Reachable}
 use Rattle.header_reader.proofs.BytesTaken.{taken}
 
 -- before the fields, in those that start at an offset, or behind those with a span
@@ -80,7 +80,7 @@ number at z (ends w) g l p q x = q w
 number at z (wrong code place) g l p q x = x code place
 
 module _ (o : Settings) where
-  pub zone-step : (st : State) (b : ℕ) → Sound st → Moved (taken st) (zone st) (stepOf o st b)
+  pub zone-step : (st : State) (b : ℕ) → Reachable st → Moved (taken st) (zone st) (stepOf o st b)
   unfolding stepOf
   zone-step (inType at v n) b s =
       number at before (readByte (o .shortest) at v n b) _ _ (λ w. early) (λ w. pick at before (eqb w 0) _ _ (λ e. early) (λ e. tt))

@@ -85,39 +85,39 @@ module _ (o : Settings) (s : List ℕ) where
 
 module _ (o : Settings) where
   -- an answer that a step leaves as it is, where the bytes τ are left; behind a refusal nothing is said
-  abbrev Left : Answer Span → Step → List ℕ → Type 0
-  Left a (more st) τ = a ≡ spanFrom o st τ
-  Left a (done h) τ = a ≡ gives (h .fields)
-  Left a (refused code place) τ = Unit {0}
+  abbrev SpanLeft : Answer Span → Step → List ℕ → Type 0
+  SpanLeft a (more st) τ = a ≡ spanFrom o st τ
+  SpanLeft a (done h) τ = a ≡ gives (h .fields)
+  SpanLeft a (refused code place) τ = Unit {0}
 
   module _ (τ : List ℕ) where
-    pick : (t : Bool) (a c : Answer Span) (x y : Step) → Left a x τ → Left c y τ
-        → Left (elim t as (λ q. Answer Span) [ true ↦ a | false ↦ c ]) (if t x y) τ
+    pick : (t : Bool) (a c : Answer Span) (x y : Step) → SpanLeft a x τ → SpanLeft c y τ
+        → SpanLeft (elim t as (λ q. Answer Span) [ true ↦ a | false ↦ c ]) (if t x y) τ
     pick true a c x y p q = p
     pick false a c x y p q = q
 
-    choose : (t : Bool) (a c : Answer Span) (x y : Step) → Left a x τ → Left c y τ → Left (if t a c) (if t x y) τ
+    choose : (t : Bool) (a c : Answer Span) (x y : Step) → SpanLeft a x τ → SpanLeft c y τ → SpanLeft (if t a c) (if t x y) τ
     choose true a c x y p q = p
     choose false a c x y p q = q
 
-    both : (t : Bool) (a : Answer Span) (x y : Step) → Left a x τ → Left a y τ → Left a (if t x y) τ
+    both : (t : Bool) (a : Answer Span) (x y : Step) → SpanLeft a x τ → SpanLeft a y τ → SpanLeft a (if t x y) τ
     both true a x y p q = p
     both false a x y p q = q
 
     number : (r : ByteRead) (g l : ℕ → Answer Span) (g′ l′ : ℕ → Step)
-        → ((w : ℕ) → Left (g w) (g′ w) τ) → ((w : ℕ) → Left (l w) (l′ w) τ) → Left (upon r g l) (onByte r g′ l′) τ
+        → ((w : ℕ) → SpanLeft (g w) (g′ w) τ) → ((w : ℕ) → SpanLeft (l w) (l′ w) τ) → SpanLeft (upon r g l) (onByte r g′ l′) τ
     number (goes w) g l g′ l′ p q = p w
     number (ends w) g l g′ l′ p q = q w
     number (wrong code place) g l g′ l′ p q = tt
 
     sizes : (r : ByteRead) (a : Answer Span) (g l : ℕ → Step)
-        → ((w : ℕ) → Left a (g w) τ) → ((w : ℕ) → Left a (l w) τ) → Left a (onByte r g l) τ
+        → ((w : ℕ) → SpanLeft a (g w) τ) → ((w : ℕ) → SpanLeft a (l w) τ) → SpanLeft a (onByte r g l) τ
     sizes (goes w) a g l p q = p w
     sizes (ends w) a g l p q = q w
     sizes (wrong code place) a g l p q = tt
 
     -- the one-step law
-    span-step : (st : State) (b : ℕ) → Left (spanFrom o st (b ∷ τ)) (stepOf o st b) τ
+    span-step : (st : State) (b : ℕ) → SpanLeft (spanFrom o st (b ∷ τ)) (stepOf o st b) τ
     unfolding spanFrom stepOf integer octets octet pairsFrom fieldsFrom
     span-step (inType at v n) b =
         number (readByte (o .shortest) at v n b) _ _ _ _ (λ w. refl) (λ w. choose (eqb w 0) _ _ _ _ refl tt)
@@ -139,16 +139,16 @@ module _ (o : Settings) where
     span-step (inHeight fix f w at v n) b =
         sizes (readByte (o .shortest) at v n b) _ _ _ (λ h. refl) (λ h. both (eqb w 0 || eqb h 0) _ _ _ tt refl)
 
-  span-steps : (σ : List ℕ) (st : State) → Left (spanFrom o st σ) (steps o st σ) []
+  span-steps : (σ : List ℕ) (st : State) → SpanLeft (spanFrom o st σ) (steps o st σ) []
   unfolding steps
   span-steps [] st = refl
   span-steps (b ∷ σ) st =
-      subst (λ (x : Step). Left (spanFrom o st (b ∷ σ)) x []) (sym (steps-cons o st b σ))
+      subst (λ (x : Step). SpanLeft (spanFrom o st (b ∷ σ)) x []) (sym (steps-cons o st b σ))
       (go (stepOf o st b) (span-step σ st b) (λ s. span-steps σ s))
     where
-      go : (x : Step) → Left (spanFrom o st (b ∷ σ)) x σ → ((s : State) → Left (spanFrom o s σ) (steps o s σ) [])
-          → Left (spanFrom o st (b ∷ σ)) (onward o x σ) []
-      go (more s) p ih = subst (λ (a : Answer Span). Left a (steps o s σ) []) (sym p) (ih s)
+      go : (x : Step) → SpanLeft (spanFrom o st (b ∷ σ)) x σ → ((s : State) → SpanLeft (spanFrom o s σ) (steps o s σ) [])
+          → SpanLeft (spanFrom o st (b ∷ σ)) (onward o x σ) []
+      go (more s) p ih = subst (λ (a : Answer Span). SpanLeft a (steps o s σ) []) (sym p) (ih s)
       go (done h) p ih = p
       go (refused code place) p ih = tt
 
@@ -167,10 +167,10 @@ module _ (o : Settings) where
 
   module _ (s : List ℕ) where
     -- what the steps over all the bytes come to
-    spanned : (x : Step) → steps o start s ≡ x → Left (readSpan o s) x []
+    spanned : (x : Step) → steps o start s ≡ x → SpanLeft (readSpan o s) x []
     spanned x e =
-        subst (λ (a : Answer Span). Left a x []) (sym (span-direct o s))
-        (subst (λ (y : Step). Left (spanFrom o start s) y []) e (span-steps s start))
+        subst (λ (a : Answer Span). SpanLeft a x []) (sym (span-direct o s))
+        (subst (λ (y : Step). SpanLeft (spanFrom o start s) y []) e (span-steps s start))
 
     -- a reading that goes on
     pub known-so : (st : State) → steps o start s ≡ more st → fieldsKnown o s ≡ knownIn st

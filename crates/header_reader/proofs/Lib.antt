@@ -1,7 +1,8 @@
 pub mod Machine
 pub mod RunSteps
 pub mod IntegerByte
-pub mod StepSound
+pub mod PairByte
+pub mod StepReachable
 pub mod BytesTaken
 pub mod EndRefusal
 pub mod RefusalMet

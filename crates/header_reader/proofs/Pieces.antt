@@ -21,7 +21,7 @@ use Rattle.header_reader.specs.declared.phase.PhaseStep.{PhaseStep}
 use Rattle.header_reader.specs.declared.reader.HeaderReader.{HeaderReader}
 use Rattle.header_reader.specs.declared.reader.HeaderStep.{HeaderStep}
 use Rattle.header_reader.proofs.Machine.{steps-cons, steps-law}
-use Rattle.header_reader.proofs.StepSound.{sound-start}
+use Rattle.header_reader.proofs.StepReachable.{reachable-start}
 use Rattle.header_reader.proofs.ReaderPromises.{asReader, stepped}
 use Rattle.header_reader.proofs.Direct.{direct}
 
@@ -113,7 +113,7 @@ unfolding stepOf readByte
 height = takes (Phase.InHeight 0 HeaderFields.Absent 9 (begun 3)) 2 (PhaseStep.Done sized) refl
 
 opened : Represents (reader (Phase.InType (begun 0))) (settings lenient) start
-opened = record { mode-is = refl; phase-is = refl; sound = sound-start }
+opened = record { modeIs = refl; phaseIs = refl; reachable = reachable-start }
 
 cut : Run (reader (Phase.InType (begun 0))) ((0 ∷ []) ∷ [] ∷ (0 ∷ 9 ∷ []) ∷ (2 ∷ []) ∷ []) (gives (parsed sized))
 cut = piece (byte type nothing) (piece nothing (piece (byte fix (byte width nothing)) (whole (last height))))

@@ -9,7 +9,7 @@ use Rattle.error.specs.declared.WbmpError.{WbmpError}
 use Rattle.laws.proofs.Tests.{zero-one}
 use Rattle.header.specs.Settings.{Settings, settings}
 use Rattle.header_reader.specs.Internal.Machine.{State, inType, atFix, inOctets, atOctet, atPair, inIdentifier, inValue, inWidth, inHeight, Step, inFields, stepOf, resume}
-use Rattle.header_reader.specs.Internal.Represents.{fieldsState, state, Sound, Answers, ReaderStepped, ReaderEnded}
+use Rattle.header_reader.specs.Internal.Represents.{fieldsState, state, Reachable, Answers, ReaderStepped, ReaderEnded}
 use Rattle.header_reader.specs.Known.{unknown, knownIn}
 use Rattle.header_reader.specs.Internal.Phase.{moved, Bounded, Decides}
 use Rattle.header.specs.declared.HeaderMode.{HeaderMode}
@@ -17,10 +17,10 @@ use Rattle.header_reader.specs.declared.phase.FieldsPhase.{FieldsPhase}
 use Rattle.header_reader.specs.declared.phase.PhaseStep.{PhaseStep}
 use Rattle.header_reader.specs.declared.reader.HeaderReader.{HeaderReader}
 use Rattle.header_reader.specs.declared.reader.HeaderStep.{HeaderStep}
-use Rattle.header_reader.proofs.StepSound.{SoundStep, sound-step}
+use Rattle.header_reader.proofs.StepReachable.{ReachableStep, reachable-step}
 
 -- wherever a reading can stand, the sums of a step stay in range
-pub bounded : (st : State) → Sound st → Bounded st
+pub bounded : (st : State) → Reachable st → Bounded st
 bounded (inType at v n) s = omega arith
 bounded (atFix at) s = omega arith
 bounded (inOctets fix from at) s = omega arith
@@ -52,9 +52,9 @@ asReader mode (PhaseStep.More p) = HeaderStep.More (record { mode = mode; phase 
 asReader mode (PhaseStep.Done h) = HeaderStep.Done h
 asReader mode (PhaseStep.Refused e) = HeaderStep.Refused e
 
-answers : (mode : HeaderMode) (o : Settings) (x : PhaseStep) → settings mode ≡ o → SoundStep (moved x)
+answers : (mode : HeaderMode) (o : Settings) (x : PhaseStep) → settings mode ≡ o → ReachableStep (moved x)
     → Answers o (asReader mode x) (moved x)
-answers mode o (PhaseStep.More p) m s = record { mode-is = m; phase-is = refl; sound = s }
+answers mode o (PhaseStep.More p) m s = record { modeIs = m; phaseIs = refl; reachable = s }
 answers mode o (PhaseStep.Done h) m s = refl
 answers mode o (PhaseStep.Refused e) m s = (refl, refl)
 
@@ -66,10 +66,10 @@ module _ (r : HeaderReader) (b : ℕ) where
       record {
         does = λ o st h.
             let q : moved x ≡ stepOf o st b =
-            sym (ap moved c) ∙ e ∙ ap (λ (k : Settings). stepOf k (state (r .phase)) b) (h .mode-is)
-            ∙ ap (λ (k : State). stepOf o k b) (h .phase-is) in
+            sym (ap moved c) ∙ e ∙ ap (λ (k : Settings). stepOf k (state (r .phase)) b) (h .modeIs)
+            ∙ ap (λ (k : State). stepOf o k b) (h .phaseIs) in
             subst (λ (k : Step). Answers o (asReader (r .mode) x) k) q
-            (answers (r .mode) o x (h .mode-is) (subst⁻¹ SoundStep q (sound-step o st b (h .sound))));
+            (answers (r .mode) o x (h .modeIs) (subst⁻¹ ReachableStep q (reachable-step o st b (h .reachable))));
       }
 
   -- a reader that is out of range stands for nothing
@@ -77,9 +77,9 @@ module _ (r : HeaderReader) (b : ℕ) where
   lost t x w e =
       record {
         does = λ o st h.
-            let y = w .yes (bounded (state (r .phase)) (subst⁻¹ Sound (h .phase-is) (h .sound))) in
+            let y = w .yes (bounded (state (r .phase)) (subst⁻¹ Reachable (h .phaseIs) (h .reachable))) in
             zero-one (cc);
       }
 
 pub ended-at : (r : HeaderReader) (e : WbmpError) → ((o : Settings) → refusal e ≡ resume o (state (r .phase)) []) → ReaderEnded r e
-ended-at r e p = record { does = λ o st h. p o ∙ ap (λ (k : State). resume o k []) (h .phase-is) }
+ended-at r e p = record { does = λ o st h. p o ∙ ap (λ (k : State). resume o k []) (h .phaseIs) }

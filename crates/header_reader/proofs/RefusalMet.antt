@@ -11,7 +11,7 @@ use Rattle.header.specs.Settings.{Settings, inner}
 use Rattle.header.specs.Read.{Outline}
 use Rattle.header_reader.specs.Internal.Machine.{State, start, Step, more, done, refused, fixFrom, resume, steps, after}
 use Rattle.header_reader.proofs.Machine.{steps-law, steps-all}
-use Rattle.header_reader.proofs.StepSound.{SoundStep, sound-steps, sound-start}
+use Rattle.header_reader.proofs.StepReachable.{ReachableStep, reachable-steps, reachable-start}
 use Rattle.header_reader.proofs.EndRefusal.{end-is, end-short}
 
 module _ (o : Settings) (st : State) (σ : List ℕ) where
@@ -41,7 +41,7 @@ module _ (o : Settings) (st : State) (σ : List ℕ) where
 
 -- what is met from the start is no end
 pub met-code : (o : Settings) (σ : List ℕ) (code offset : ℕ) → steps o start σ ≡ refused code offset → isEnd code ≡ false
-met-code o σ code offset e = subst SoundStep e (sound-steps o σ start sound-start)
+met-code o σ code offset e = subst ReachableStep e (reachable-steps o σ start reachable-start)
 
 -- a card whose type is 5: the refusal is met with its one byte, whatever comes after it
 five : steps (inner false) start (5 ∷ []) ≡ refused 5 1

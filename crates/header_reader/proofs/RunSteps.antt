@@ -22,7 +22,7 @@ use Rattle.header_reader.specs.declared.run.PairsRun.{PairsRun}
 use Rattle.header_reader.specs.declared.run.FieldsRun.{FieldsRun}
 use Rattle.header_reader.specs.declared.reader.HeaderReader.{HeaderReader}
 use Rattle.header_reader.proofs.Machine.{steps-cons, steps-append}
-use Rattle.header_reader.proofs.StepSound.{SoundStep, sound-steps}
+use Rattle.header_reader.proofs.StepReachable.{ReachableStep, reachable-steps}
 
 -- ---- octets
 
@@ -211,16 +211,16 @@ module _ (r : HeaderReader) (piece : List ℕ) where
       record {
         within = a .within;
         does = λ o st h.
-            let is : fieldsState p ≡ st = sym (ap state e) ∙ h .phase-is in
+            let is : fieldsState p ≡ st = sym (ap state e) ∙ h .phaseIs in
             let run : FieldsRuns o st piece x =
-            subst (λ (k : State). FieldsRuns o k piece x) is (subst (λ (k : Settings). FieldsRuns k (fieldsState p) piece x) (h .mode-is) a) in
+            subst (λ (k : State). FieldsRuns o k piece x) is (subst (λ (k : Settings). FieldsRuns k (fieldsState p) piece x) (h .modeIs) a) in
             record {
               next = fieldsState (x .phase);
               represents =
                   record {
-                    mode-is = h .mode-is;
-                    phase-is = refl;
-                    sound = subst SoundStep (run .reached) (sound-steps o (take (x .taken) piece) st (h .sound));
+                    modeIs = h .modeIs;
+                    phaseIs = refl;
+                    reachable = subst ReachableStep (run .reached) (reachable-steps o (take (x .taken) piece) st (h .reachable));
                   };
               reached = run .reached;
               inside = none-or o st (run .inside);

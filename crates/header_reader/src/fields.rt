@@ -16,6 +16,7 @@ use ext::ExtFieldType;
 use ext::ExtFields;
 use ext::FixHeaderField;
 use ext::MAX_EXT_FIELD_BYTES;
+use ext::PairHeader;
 use header::HeaderFields;
 use header::HeaderMode;
 ghost use mathlib.Core.Path.{_≡_};
@@ -137,21 +138,21 @@ pub(crate) fn at_pair(chain: PairChain, byte: u8) -> PhaseStep
         return refuse(EXT_TOO_LONG, chain.at);
     }
     let begun = chain.at + 1;
-    let left = byte / 16 % 8;
-    if left == 0 {
+    let header = PairHeader::from_byte(byte);
+    if header.identifier_len == 0 {
         return refuse(IDENTIFIER_LENGTH, begun);
     }
-    let size = byte % 16;
-    if size == 0 {
+    if header.value_len == 0 {
         return refuse(VALUE_LENGTH, begun);
     }
     let part = PairPart {
         begun,
-        left,
-        more: 128 <= byte,
+        left: header.identifier_len,
+        more: header.more,
         fault: 0,
     };
     let chain = chain.grown();
+    let size = header.value_len;
     PhaseStep::More(Phase::InFields(FieldsPhase::InIdentifier { chain, part, size }))
 }
 

@@ -2,6 +2,7 @@
 use crate::phase::FieldsPhase;
 use crate::phase::PairChain;
 use ext::MAX_EXT_FIELD_BYTES;
+use ext::PairHeader;
 use header::HeaderMode;
 ghost use mathlib.Core.Path.{_≡_};
 ghost use mathlib.Core.Bool.{false};
@@ -51,18 +52,17 @@ fn octets_ahead(most: usize, piece: &[u8]) -> usize
 fn pair_size(byte: u8) -> usize
     ensures { λ r. ⌜ (r ≡ 0) ⊎ Continued byte r ⌝ }
 {
-    if byte < 128 {
+    let header = PairHeader::from_byte(byte);
+    if !header.more {
         return 0;
     }
-    let identifier = byte / 16 % 8;
-    let value = byte % 16;
-    if identifier == 0 {
+    if header.identifier_len == 0 {
         return 0;
     }
-    if value == 0 {
+    if header.value_len == 0 {
         return 0;
     }
-    1 + identifier as usize + value as usize
+    1 + header.identifier_len as usize + header.value_len as usize
 }
 
 // The whole pairs at the front of a piece behind which others come, each of which starts before byte `most`.

@@ -9,7 +9,6 @@ use crate::rows::invert;
 use crate::rows::invert_from;
 use crate::rows::mask_last;
 use error::OUTPUT_TOO_SHORT;
-use error::WbmpError;
 use error::Written;
 ghost use mathlib.Core.Path.{_≡_};
 ghost use lib.ListN.{length};
@@ -124,10 +123,7 @@ pub fn into_format(
 {
     let n = plane.len();
     if out.len() < n {
-        return Written::Refused(WbmpError {
-            code: OUTPUT_TOO_SHORT,
-            offset: 0,
-        });
+        return Written::refused(OUTPUT_TOO_SHORT);
     }
     convert_from(plane, width, height, from, to, &mut out[..n]);
     Written::Bytes(n)
@@ -139,10 +135,7 @@ pub fn invert_into(bytes: &[u8], out: &mut [u8]) -> Written
 {
     let n = bytes.len();
     if out.len() < n {
-        return Written::Refused(WbmpError {
-            code: OUTPUT_TOO_SHORT,
-            offset: 0,
-        });
+        return Written::refused(OUTPUT_TOO_SHORT);
     }
     invert_from(bytes, &mut out[..n]);
     Written::Bytes(n)

@@ -4,12 +4,11 @@ use error::Checked;
 use error::PLANE_OVERFLOW;
 use error::PLANE_TOO_SHORT;
 use error::STRIDE_TOO_SMALL;
-use error::WbmpError;
 use error::ZERO_DIMENSION;
 ghost use mathlib.Core.Path.{_≡_};
 ghost use Prim.Native.Nat.{_+_, _*_};
 ghost use lib.Dec.{leb};
-ghost use Rattle.error.specs.Answer.{checked, refuses};
+ghost use Rattle.error.specs.Answer.{checked};
 ghost use Rattle.image.specs.Geometry.{rowBytes, paddingMask, checkGeometry};
 ghost use Rattle.image.specs.Internal.Parts.{rowStart};
 
@@ -48,32 +47,26 @@ pub(crate) fn row_start(bytes: usize, stride: usize, y: usize, count: usize) -> 
     RowStart::Missing
 }
 
-fn refused(code: u8) -> Checked
-    ensures { λ r. ⌜ checked r ≡ refuses code 0 ⌝ }
-{
-    Checked::Refused(WbmpError { code, offset: 0 })
-}
-
 // Whether a plane of so many bytes holds an image of this size.
 pub fn check_geometry(width: u32, height: u32, stride: usize, bytes: usize) -> Checked
     ensures { λ r. ⌜ checked r ≡ checkGeometry width height stride bytes ⌝ }
 {
     if width == 0 {
-        return refused(ZERO_DIMENSION);
+        return Checked::refused(ZERO_DIMENSION);
     }
     if height == 0 {
-        return refused(ZERO_DIMENSION);
+        return Checked::refused(ZERO_DIMENSION);
     }
     let row = row_stride(width);
     if stride < row {
-        return refused(STRIDE_TOO_SMALL);
+        return Checked::refused(STRIDE_TOO_SMALL);
     }
     let steps = (height - 1) as usize;
     if !product_within(stride, steps, usize::MAX - row) {
-        return refused(PLANE_OVERFLOW);
+        return Checked::refused(PLANE_OVERFLOW);
     }
     if bytes < stride * steps + row {
-        return refused(PLANE_TOO_SHORT);
+        return Checked::refused(PLANE_TOO_SHORT);
     }
     Checked::Accepted
 }

@@ -10,7 +10,6 @@ use crate::rows::invert_from;
 use crate::rows::mask_last;
 use crate::rows::zero;
 use error::OUTPUT_TOO_SHORT;
-use error::WbmpError;
 use error::Written;
 ghost use mathlib.Core.Path.{_≡_};
 ghost use mathlib.Core.List.{_++_};
@@ -120,10 +119,7 @@ pub fn wire_bits(
     let row = layout.stride;
     let total = layout.total_bytes;
     if out.len() < total {
-        return Written::Refused(WbmpError {
-            code: OUTPUT_TOO_SHORT,
-            offset: 0,
-        });
+        return Written::refused(OUTPUT_TOO_SHORT);
     }
     if stride == row {
         if total <= plane.len() {

@@ -1,13 +1,18 @@
 -- Tests and choices.
-use Prim.Native.Nat.{ℕ}
+use Prim.Native.Nat.{ℕ, _≤_, _<_}
 use mathlib.Core.Path.{_≡_, refl, ap}
 use mathlib.Core.Bool.{Bool, true, false, _&&_, _||_}
+use mathlib.Core.Logic.{_⊎_, inl, inr}
 use native.Mathlib.Omega.{arith}
+use native.Mathlib.Decide.{decLt}
 use Rattle.error.specs.Choice.{if}
 
 -- two numbers that cannot be equal prove anything: `zero-one (cc)` where two constructors would be equal
 pub zero-one : {X : Type 0} → _≡_ {A = ℕ} 0 1 → X
 zero-one z = let f : ⊥ = omega arith in absurd f
+
+pub lt-or-le : (a b : ℕ) → (a < b) ⊎ (b ≤ a)
+lt-or-le a b = elim (decLt a b) [ yes h ↦ inl h | no h ↦ inr (omega arith) ]
 
 pub if-true : {A : Type 0} (t : Bool) (x y : A) → t ≡ true → if t x y ≡ x
 if-true t x y e = ap (λ (b : Bool). if b x y) e

@@ -20,16 +20,16 @@ few n h = omega (arith, count-le 4 (n / 128) (omega arith))
 
 module _ {A : Type 0} (strict : Bool) (next : ℕ → ℕ → List ℕ → Answer A) where
   -- the groups of a number, most significant first, leave the reader with that number
-  abbrev Left : ℕ → Type 0
-  Left n =
+  abbrev GroupsLeave : ℕ → Type 0
+  GroupsLeave n =
       (at : ℕ) (τ : List ℕ) → n < 4294967296 → integer strict (above n τ) at 0 0 next ≡ integer strict τ (at + count n) n (count n) next
 
-  left-zero : Left 0
+  leave-zero : GroupsLeave 0
   unfolding groups
-  left-zero at τ h = rw add-zero
+  leave-zero at τ h = rw add-zero
 
-  left-group : (n : ℕ) → 0 < n → Left (n / 128) → Left n
-  left-group n p ih at τ h =
+  leave-group : (n : ℕ) → 0 < n → GroupsLeave (n / 128) → GroupsLeave n
+  leave-group n p ih at τ h =
       let c : count n ≡ count (n / 128) + 1 = count-group n p in
       let e : n / 128 * 128 + (128 + n % 128) % 128 ≡ n = omega arith in
       let f : at + count (n / 128) + 1 ≡ at + count n = omega arith in
@@ -40,13 +40,13 @@ module _ {A : Type 0} (strict : Bool) (next : ℕ → ℕ → List ℕ → Answe
       (goes-by strict (n / 128) (count (n / 128)) (128 + n % 128) (at + count (n / 128)) free (omega arith) (few n h) (omega arith))
       ∙ rw (e, f, ← c)
 
-  left : (most n : ℕ) → n ≤ most → Left n
-  left zero n p = subst Left (omega arith) left-zero
-  left (suc most) n p = go n p (left most)
+  leave : (most n : ℕ) → n ≤ most → GroupsLeave n
+  leave zero n p = subst GroupsLeave (omega arith) leave-zero
+  leave (suc most) n p = go n p (leave most)
     where
-      go : (n : ℕ) → n ≤ suc most → ((k : ℕ) → k ≤ most → Left k) → Left n
-      go zero p ih = left-zero
-      go (suc n) p ih = left-group (suc n) (omega arith) (ih (suc n / 128) (omega arith))
+      go : (n : ℕ) → n ≤ suc most → ((k : ℕ) → k ≤ most → GroupsLeave k) → GroupsLeave n
+      go zero p ih = leave-zero
+      go (suc n) p ih = leave-group (suc n) (omega arith) (ih (suc n / 128) (omega arith))
 
   -- an integer and what follows it
   pub read-bytes : (n at : ℕ) (τ : List ℕ) → n < 4294967296
@@ -55,7 +55,7 @@ module _ {A : Type 0} (strict : Bool) (next : ℕ → ℕ → List ℕ → Answe
       let e : n / 128 * 128 + n % 128 % 128 ≡ n = omega arith in
       let f : at + count (n / 128) + 1 ≡ at + length (mbiBytes n) = omega (arith, length-bytes n) in
       ap (λ (l : List ℕ). integer strict l at 0 0 next) (bytes-append n τ)
-      ∙ left (n / 128) (n / 128) (omega arith) at (n % 128 ∷ τ) (omega arith)
+      ∙ leave (n / 128) (n / 128) (omega arith) at (n % 128 ∷ τ) (omega arith)
       ∙ integer-ends strict (n % 128) τ (at + count (n / 128)) (n / 128) (count (n / 128)) _ next
       (ends-by strict (n / 128) (count (n / 128)) (n % 128) (at + count (n / 128)) (λ z o. omega arith) (omega arith) (few n h)
       (omega arith))

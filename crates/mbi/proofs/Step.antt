@@ -12,7 +12,7 @@ use Rattle.mbi.specs.Read.{ByteRead, goes, ends, wrong, readByte}
 use Rattle.mbi.specs.Internal.Step.{inWord}
 
 -- a byte b that was taken after n others, the value going from v to w
-pub record Taken (strict : Bool) (v n b w : ℕ) : Type 0 where
+pub record ByteTaken (strict : Bool) (v n b w : ℕ) : Type 0 where
   pub value : w ≡ v * 128 + b % 128
   pub small : w ≤ 4294967295
   pub few : n < 7
@@ -21,8 +21,8 @@ pub record Taken (strict : Bool) (v n b w : ℕ) : Type 0 where
 module _ (strict : Bool) (v n b : ℕ) where
   -- what is known from what a byte did: it is refused with 2, 3 or 4, and with 3 only after seven others
   abbrev pub Known : ByteRead → Type 0
-  Known (goes w) = Taken strict v n b w × (128 ≤ b)
-  Known (ends w) = Taken strict v n b w × (b < 128)
+  Known (goes w) = ByteTaken strict v n b w × (128 ≤ b)
+  Known (ends w) = ByteTaken strict v n b w × (b < 128)
   Known (wrong code p) = (isEnd code ≡ false) × (code ≡ 3 → 7 ≤ n)
 
   abbrev leads : Bool
@@ -32,7 +32,7 @@ module _ (strict : Bool) (v n b : ℕ) where
   more = v * 128 + b % 128
 
   -- a byte that passed the three tests
-  taken : leads ≡ false → ltb 4294967295 more ≡ false → ltb 7 (n + 1) ≡ false → Taken strict v n b more
+  taken : leads ≡ false → ltb 4294967295 more ≡ false → ltb 7 (n + 1) ≡ false → ByteTaken strict v n b more
   taken p q r =
       record {
         value = refl;

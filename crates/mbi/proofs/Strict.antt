@@ -17,7 +17,7 @@ use Rattle.mbi.specs.Read.{ByteRead, goes, ends, wrong, readByte, readRe
 use Rattle.mbi.proofs.Groups.{above, count, above-zero, count-zero}
 use Rattle.mbi.proofs.Groups.{above-group, count-group, length-above, groups-append, bytes-above}
 use Rattle.mbi.proofs.Length.{count-le}
-use Rattle.mbi.proofs.Step.{Taken, known}
+use Rattle.mbi.proofs.Step.{ByteTaken, known}
 use Rattle.mbi.proofs.Continuation.{found, rest-cons, rest-integer}
 use Rattle.mbi.proofs.RoundTrip.{read-bytes}
 
@@ -28,7 +28,7 @@ module _ (at v n b w : ℕ) (c : n ≡ count v) where
     positive : 0 < w
     positive = go w (known true v n b at (goes w) e)
       where
-        go : (w : ℕ) → Taken true v n b w × (128 ≤ b) → 0 < w
+        go : (w : ℕ) → ByteTaken true v n b w × (128 ≤ b) → 0 < w
         go zero t = absurd (t .0 .free refl (c ∙ count-zero v (omega (arith, t .0 .value))) (omega (arith, t .0 .value)))
         go (suc w) t = omega arith
 

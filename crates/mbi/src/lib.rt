@@ -14,7 +14,7 @@ ghost use Rattle.error.specs.Answer.{gives, written};
 ghost use Rattle.error.specs.Emits.{Emits};
 ghost use Rattle.mbi.specs.Bytes.{mbiBytes};
 ghost use Rattle.mbi.specs.Read.{readMbi, meaning};
-ghost use Rattle.mbi.specs.Internal.Step.{Stepped};
+ghost use Rattle.mbi.specs.Internal.Step.{MbiStepped};
 
 // An integer that was read, with the offset after it, or a refusal.
 pub enum MbiRead {
@@ -45,27 +45,18 @@ fn leading(strict: bool, count: u8, byte: u8) -> bool
 
 // The byte at an offset, where `count` bytes before it have given `value`. `after` wraps only at the last `usize`, where no byte stands.
 pub fn mbi_step(strict: bool, at: usize, value: u32, count: u8, byte: u8) -> MbiStep
-    ensures { λ r. ⌜ Stepped strict at value count byte r ⌝ }
+    ensures { λ r. ⌜ MbiStepped strict at value count byte r ⌝ }
 {
     if leading(strict, count, byte) {
-        return MbiStep::Refused(WbmpError {
-            code: MBI_NOT_SHORTEST,
-            offset: at,
-        });
+        return MbiStep::Refused(WbmpError::new(MBI_NOT_SHORTEST, at));
     }
     let after = std::num::wrapping_add_usize(at, 1);
     let v = (value as u64) * 128 + (byte as u64) % 128;
     if v > 4294967295 {
-        return MbiStep::Refused(WbmpError {
-            code: MBI_OVERFLOW,
-            offset: after,
-        });
+        return MbiStep::Refused(WbmpError::new(MBI_OVERFLOW, after));
     }
     if count >= MAX_MBI_BYTES {
-        return MbiStep::Refused(WbmpError {
-            code: MBI_TOO_LONG,
-            offset: after,
-        });
+        return MbiStep::Refused(WbmpError::new(MBI_TOO_LONG, after));
     }
     if byte < 128 {
         return MbiStep::Ends(v as u32);
@@ -98,10 +89,7 @@ fn read_mbi(strict: bool, bytes: &[u8], offset: usize) -> MbiRead
         at += 1;
         count += 1;
     }
-    MbiRead::Refused(WbmpError {
-        code: MBI_TRUNCATED,
-        offset: at,
-    })
+    MbiRead::Refused(WbmpError::new(MBI_TRUNCATED, at))
 }
 
 // An integer of at most 7 bytes; leading 0x80s are accepted.
@@ -137,10 +125,7 @@ pub fn write_mbi_u32(value: u32, out: &mut [u8]) -> Written
 {
     let n = mbi_u32_len(value);
     if out.len() < n {
-        return Written::Refused(WbmpError {
-            code: OUTPUT_TOO_SHORT,
-            offset: 0,
-        });
+        return Written::refused(OUTPUT_TOO_SHORT);
     }
     let mut k = n - 1;
     let mut v = value / 128;

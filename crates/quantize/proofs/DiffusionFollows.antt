@@ -14,7 +14,7 @@ use lib.Seq.{getD-set-same, getD-set-other}
 use Rattle.rules.specs.Diffusion.{Scan, Direction, toRight, toLeft, value, residual, onLeft, onRight, before, after, above, valueAt, residualAt}
 use Rattle.rules.specs.Internal.Carry.{Carry, clamp, leftOf, cornerOf, overOf, valueOf, diffused}
 use Rattle.quantize.specs.Internal.Engine.{Diffusion}
-use Rattle.rules.proofs.Differences.{lt-or-le}
+use Rattle.laws.proofs.Tests.{lt-or-le}
 use Rattle.rules.proofs.HeldRange.{Held, within, held, clamp-same, clamp-held, residual-held}
 use Rattle.rules.proofs.CarryRead.{over-in, over-past, over-top}
 use Rattle.rules.proofs.DotCauses.{above-ext, residual-is, value-is, above-top}

@@ -15,7 +15,7 @@ use Rattle.rules.specs.Ordered.{bound, cell}
 use Rattle.rules.specs.Rule.{Rule, threshold, dither, ordered, rightwards, dot}
 use Rattle.quantize.specs.Finished.{Setting, begunBytes, Bytewise, count, frame, dotOf}
 use Rattle.rules.specs.Packed.{paddedBit, byteAt}
-use Rattle.rules.proofs.Differences.{lt-or-le}
+use Rattle.laws.proofs.Tests.{lt-or-le}
 use Rattle.rules.proofs.DigitsAppended.{appended-ext}
 use Rattle.rules.proofs.DotCauses.{valueAt-ext, residual-is}
 use Rattle.rules.proofs.PlaneBytes.{div-at, mod-at, bit-in, bit-past}

@@ -11,7 +11,7 @@ use borrow.Author.Tests.{le-leb, lt-leb}
 use lib.Dec.{leb}
 use lib.ListN.{length, getD, drop, length-append}
 use lib.Seq.{getD-drop}
-use Rattle.laws.proofs.Tests.{if-true, if-false}
+use Rattle.laws.proofs.Tests.{lt-or-le, if-true, if-false}
 use Rattle.rules.specs.Bits.{bit, appended}
 use Rattle.rules.specs.Rule.{Rule, threshold, dither, ordered}
 use Rattle.quantize.specs.Finished.{Setting, Bytewise, count}
@@ -19,7 +19,6 @@ use Rattle.rules.specs.Internal.Carry.{Carry, machineDot, next}
 use Rattle.quantize.specs.Internal.Machine.{State, Step, lastOf, byteStep, stepOf, carried, emitted}
 use Rattle.quantize.specs.Internal.Place.{At}
 use Rattle.rules.specs.Internal.Kernels.{rowCarry, rowBit}
-use Rattle.rules.proofs.Differences.{lt-or-le}
 use Rattle.quantize.proofs.Places.{bytewise, count-last, count-open, column-is, frame-row-is, at-inside}
 use Rattle.rules.proofs.RowKept.{next-long}
 

@@ -22,7 +22,7 @@ use Rattle.rules.specs.Rule.{rightwards, dot}
 use Rattle.quantize.specs.Finished.{Setting, count, frame, dotOf, finished, setting}
 use Rattle.quantize.specs.Whole.{refusedBy, Quantizes}
 use Rattle.rules.specs.Packed.{paddedBit, byteAt}
-use Rattle.rules.proofs.Differences.{lt-or-le}
+use Rattle.laws.proofs.Tests.{lt-or-le}
 use Rattle.rules.proofs.DigitsAppended.{appended-ext}
 use Rattle.rules.proofs.UptoList.{upto-ext}
 use Rattle.rules.proofs.PlaneBytes.{bit-in, bit-past}

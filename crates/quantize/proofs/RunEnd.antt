@@ -10,7 +10,7 @@ use native.Mathlib.Omega.{arith}
 use lib.IntN.{ℤ}
 use lib.ListN.{length, getD, take, drop, length-append, take-append-drop}
 use lib.Seq.{length-take-le, drop-append-seam}
-use Rattle.laws.proofs.Tests.{if-true, if-false}
+use Rattle.laws.proofs.Tests.{lt-or-le, if-true, if-false}
 use Rattle.options.specs.declared.Quantize.{Quantize}
 use Rattle.quantize.specs.declared.engine.Quantizer.{Quantizer}
 use Rattle.quantize.specs.declared.engine.Ran.{Ran}
@@ -20,7 +20,6 @@ use Rattle.quantize.specs.Finished.{Setting, Bytewise, count, finished, 
 use Rattle.quantize.specs.Internal.Machine.{State, carried, emitted}
 use Rattle.quantize.specs.Internal.Turn.{stateOf, ruleOf, Sound, Shares, Served}
 use Rattle.quantize.specs.Internal.Engine.{Stands, Keeps, Holds, Counts, Machines, Defined, Ready, Runs, ranTo}
-use Rattle.rules.proofs.Differences.{lt-or-le}
 use Rattle.rules.proofs.HeldRange.{Held}
 use Rattle.quantize.proofs.DotsByRule.{roomy-same}
 use Rattle.quantize.proofs.TakenMost.{takes-all, next-byte}

@@ -11,7 +11,7 @@ use lib.Dec.{leb}
 use Rattle.options.specs.declared.Quantize.{Quantize}
 use Rattle.rules.specs.Rule.{meaning, knownRule, roomy}
 use Rattle.quantize.specs.Internal.Turn.{Served, Sound, Able}
-use Rattle.rules.proofs.Differences.{lt-or-le}
+use Rattle.laws.proofs.Tests.{lt-or-le}
 use Rattle.rules.proofs.Signed.{never}
 
 -- w numbers twice

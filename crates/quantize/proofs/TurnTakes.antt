@@ -14,7 +14,7 @@ use Rattle.quantize.specs.declared.turn.Advanced.{Advanced}
 use Rattle.quantize.specs.declared.turn.Place.{Place}
 use Rattle.quantize.specs.Finished.{Bytewise}
 use Rattle.quantize.specs.Internal.Turn.{ruleOf, Shares, Advances, Taking, Takes}
-use Rattle.rules.proofs.Differences.{lt-or-le}
+use Rattle.laws.proofs.Tests.{lt-or-le}
 use Rattle.rules.proofs.ListPiece.{piece, piece-at, piece-length}
 use Rattle.quantize.proofs.TurnMoves.{turn-on, turn-byte}
 use Rattle.quantize.proofs.RunLoop.{Loop, begun-small, loop-on, loop-byte}

@@ -17,7 +17,7 @@ use Rattle.rules.specs.Rule.{dither}
 use Rattle.rules.specs.Internal.Carry.{leftOf, cornerOf, overOf}
 use Rattle.rules.specs.Internal.Kernels.{Biased, Dots, thresholdFrom, thresholdBytes}
 use Rattle.rules.specs.Internal.Row.{Near, Calm, Bytes}
-use Rattle.rules.proofs.Differences.{lt-or-le}
+use Rattle.laws.proofs.Tests.{lt-or-le}
 use Rattle.rules.proofs.ListPiece.{piece, piece-length, piece-at}
 use Rattle.rules.proofs.CarryRead.{left-at, over-in}
 use Rattle.rules.proofs.DitherDotsLoop.{Inv, biased-zero, corner-on, inv-start, inv-calm, inv-end}

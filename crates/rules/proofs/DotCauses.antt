@@ -10,7 +10,7 @@ use lib.Dec.{ltb}
 use lib.IntN.{ℤ, pos}
 use Rattle.error.specs.Choice.{if}
 use Rattle.rules.specs.Diffusion.{Scan, Direction, toRight, toLeft, value, residual, onLeft, onRight, before, after, visited, valueFrom, handed, rowValue, above, valueAt, residualAt}
-use Rattle.rules.proofs.Differences.{lt-or-le}
+use Rattle.laws.proofs.Tests.{lt-or-le}
 
 -- ---- the order of visiting
 

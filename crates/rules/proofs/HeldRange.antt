@@ -9,7 +9,8 @@ use lib.IntN.{ℤ, pos, negsuc, subℕ, natAbs}
 use Rattle.rules.specs.Diffusion.{value, residual}
 use Rattle.rules.specs.Internal.Carry.{clamp}
 use Rattle.rules.specs.Internal.Kernels.{Biased, Parted}
-use Rattle.rules.proofs.Differences.{lt-or-le, sub-neg, sub-pos, part-pos, part-neg, value-is, stepped-white, stepped-black}
+use Rattle.laws.proofs.Tests.{lt-or-le}
+use Rattle.rules.proofs.Differences.{sub-neg, sub-pos, part-pos, part-neg, value-is, stepped-white, stepped-black}
 
 -- some number holds z
 pub record Held (z : ℤ) : Type 0 where

@@ -15,7 +15,7 @@ use borrow.Author.Tests.{eqb-true, le-leb, lt-leb}
 use Rattle.rules.specs.Bits.{upto}
 use Rattle.rules.specs.Ordered.{quarter, number, numbers, bound, cell, knownSide}
 use Rattle.rules.specs.Internal.Kernels.{Cell}
-use Rattle.rules.proofs.Differences.{lt-or-le}
+use Rattle.laws.proofs.Tests.{lt-or-le}
 use Rattle.rules.proofs.Signed.{never}
 
 -- ---- the quarters

@@ -10,7 +10,7 @@ use native.Mathlib.Omega.{arith}
 use lib.Bits.{bitAnd}
 use lib.Dec.{leb}
 use lib.ListN.{length, getD, drop, set}
-use Rattle.laws.proofs.Tests.{zero-one}
+use Rattle.laws.proofs.Tests.{zero-one, lt-or-le}
 use Rattle.image.specs.Geometry.{rowBytes}
 use Rattle.rules.specs.Bits.{upto, bit}
 use Rattle.rules.specs.Packed.{paddedBit, byteAt}
@@ -18,7 +18,6 @@ use Rattle.rules.specs.Internal.Kernels.{thresholdBit}
 use Rattle.rules.specs.Internal.Planes.{PlainRow, rowSample}
 use Rattle.rules.specs.Internal.Row.{Plain}
 use Rattle.rules.specs.Internal.Words.{bytes, Below, TellsPlain, Gathers}
-use Rattle.rules.proofs.Differences.{lt-or-le}
 use Rattle.rules.proofs.DigitsAppended.{appended-ext}
 use Rattle.rules.proofs.PlaneBytes.{bit-in, bit-past, byte-at}
 use Rattle.rules.proofs.UptoOverlaid.{overlaid, overlaid-none, overlaid-length, overlaid-beyond, overlaid-next}

@@ -13,7 +13,8 @@ use borrow.Author.Tests.{ltb-true, ltb-false}
 use Rattle.rules.specs.Internal.Carry.{clamp}
 use Rattle.rules.specs.Internal.Kernels.{Biased}
 use mathlib.Core.Logic.{⊎-elim}
-use Rattle.rules.proofs.Differences.{sub-neg, sub-pos, lt-or-le}
+use Rattle.laws.proofs.Tests.{lt-or-le}
+use Rattle.rules.proofs.Differences.{sub-neg, sub-pos}
 
 pub never : {X : Type 0} → false ≡ true → X
 never e = absurd (subst T (sym e) tt)

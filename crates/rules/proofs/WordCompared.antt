@@ -11,7 +11,7 @@ use lib.Pow.{split}
 use borrow.Author.Tests.{le-leb, lt-leb}
 use Rattle.rules.specs.Bits.{bit}
 use Rattle.rules.specs.Internal.Words.{bytes, Below}
-use Rattle.rules.proofs.Differences.{lt-or-le}
+use Rattle.laws.proofs.Tests.{lt-or-le}
 use Rattle.rules.proofs.Words.{bytes-ext, bytes-add, bytes-times, bytes-and, bytes-or}
 
 -- the highest bit of each byte, and the lowest

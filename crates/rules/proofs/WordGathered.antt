@@ -7,11 +7,10 @@ use mathlib.Core.Logic.{⊎-elim}
 use native.Mathlib.Omega.{arith}
 use lib.Dec.{eqb}
 use borrow.Author.Tests.{eqb-true}
-use Rattle.laws.proofs.Tests.{both-true}
+use Rattle.laws.proofs.Tests.{lt-or-le, both-true}
 use Rattle.rules.specs.Bits.{appended, digits}
 use Rattle.rules.specs.Internal.Words.{bytes, Below}
 use Rattle.rules.proofs.DigitsAppended.{appended-lt}
-use Rattle.rules.proofs.Differences.{lt-or-le}
 
 -- what `gathered` computes
 abbrev gather : ℕ → ℕ

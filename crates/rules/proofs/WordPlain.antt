@@ -14,7 +14,7 @@ use borrow.Author.Tests.{eqb-true, eq-eqb, lt-ltb, le-ltb}
 use Rattle.rules.specs.Bits.{bit, digits}
 use Rattle.rules.specs.Internal.Planes.{rowSample}
 use Rattle.rules.specs.Internal.Words.{bytes, Below, samplesFrom, TellsPlain}
-use Rattle.rules.proofs.Differences.{lt-or-le}
+use Rattle.laws.proofs.Tests.{lt-or-le}
 use Rattle.rules.proofs.DigitsAppended.{bit-yes, bit-no}
 use Rattle.rules.proofs.WordCompared.{ones}
 use Rattle.rules.proofs.Words.{bytes-ext, bytes-same, bytes-times, bytes-and, bytes-lt, bytes-split, bytes-high, bytes-none}

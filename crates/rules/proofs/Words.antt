@@ -9,7 +9,7 @@ use native.Mathlib.Omega.{arith}
 use lib.Bits.{bitAnd, bitOr, and-block, or-block, or-shifted}
 use lib.Pow.{pow-add, shl-lt, shl-exact, high}
 use Rattle.rules.specs.Internal.Words.{bytes, Below}
-use Rattle.rules.proofs.Differences.{lt-or-le}
+use Rattle.laws.proofs.Tests.{lt-or-le}
 
 pub bytes-ext : (f g : ℕ → ℕ) (n : ℕ) → ((i : ℕ) → i < n → f i ≡ g i) → bytes f n ≡ bytes g n
 unfolding bytes

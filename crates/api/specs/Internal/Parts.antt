@@ -48,9 +48,9 @@ pub record Sized (width height start size : ℕ) : Type 0 where
   pub within : start ≤ size
 
 -- an integer that was told is the one at the offset
-abbrev pub Reads : List ℕ → ℕ → Short → Type 0
-Reads s at (Value value next) = readMbi true s at ≡ gives (value, next)
-Reads s at Longer = Unit {0}
+abbrev pub ShortReads : List ℕ → ℕ → Short → Type 0
+ShortReads s at (Value value next) = readMbi true s at ≡ gives (value, next)
+ShortReads s at Longer = Unit {0}
 
 -- the header without fields
 abbrev pub plain : ℕ → ℕ → ℕ → Outline

@@ -7,7 +7,7 @@ use lib.Dec.{ltb, leb, eqb}
 use lib.ListN.{length, take, drop, getD}
 use lib.Seq.{sets}
 use Rattle.error.specs.Choice.{if}
-use Rattle.error.specs.Answer.{Answer, gives, refuses, refusal}
+use Rattle.error.specs.Answer.{Answer, gives, refuses, codeOf, refusal}
 use Rattle.ext.specs.Kinds.{Pair}
 use Rattle.ext_write.specs.Write.{checkPair, pairBytes}
 use Rattle.ext_write.specs.declared.PairsCheck.{PairsCheck}
@@ -26,11 +26,6 @@ refusedWith code = FieldsCheck.Refused (record { code = code; offset = 0 })
 -- the pair whose identifier of i bytes starts at an offset of the text, before its value of v bytes
 abbrev pub lentPair : List ℕ → ℕ → ℕ → ℕ → Pair
 lentPair text at i v = record { identifier = take i (drop at text); value = take v (drop (at + i) text) }
-
--- the number of a refusal, 0 for none
-abbrev pub codeOf : Answer (Unit {0}) → ℕ
-codeOf (gives u) = 0
-codeOf (refuses code offset) = code
 
 -- Where the next pair starts, past the first one, behind a pair of i and v bytes: counted as long as a ceiling of 4,096 can ask.
 abbrev pub startAfter : ℕ → ℕ → ℕ → ℕ

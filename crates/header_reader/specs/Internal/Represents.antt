@@ -30,23 +30,23 @@ state (Phase.InHeight fix f w i) = inHeight fix (extSpan f) w (i .at) (i .value)
 
 -- How far a reading can have come: an integer has at most 7 bytes that are accepted, the FixHeader byte is one, and fields are at most
 -- 4,118 bytes, so the width starts at 4,128 or before and the height 8 bytes later or before. A waiting fault is no end of input.
-abbrev pub Sound : State → Type 0
-Sound (inType at v n) = (at ≤ n) × (n ≤ 7)
-Sound (atFix at) = at ≤ 8
-Sound (inOctets fix start at) = (start ≤ 9) × (at ≤ start + 4096) × (start ≤ at)
-Sound (atOctet fix at) = at ≤ 9
-Sound (atPair fix start at pairs) = (start ≤ 9) × (at ≤ start + 4118) × (pairs ≤ at) × (start ≤ at)
-Sound (inIdentifier fix start at pairs begun left size again fault) =
+abbrev pub Reachable : State → Type 0
+Reachable (inType at v n) = (at ≤ n) × (n ≤ 7)
+Reachable (atFix at) = at ≤ 8
+Reachable (inOctets fix start at) = (start ≤ 9) × (at ≤ start + 4096) × (start ≤ at)
+Reachable (atOctet fix at) = at ≤ 9
+Reachable (atPair fix start at pairs) = (start ≤ 9) × (at ≤ start + 4118) × (pairs ≤ at) × (start ≤ at)
+Reachable (inIdentifier fix start at pairs begun left size again fault) =
     (start ≤ 9) × (at + left + size ≤ start + 4118) × (pairs < at) × (1 ≤ left) × (1 ≤ size) × (start ≤ at) × (isEnd fault ≡ false)
-Sound (inValue fix start at pairs begun left again fault) =
+Reachable (inValue fix start at pairs begun left again fault) =
     (start ≤ 9) × (at + left ≤ start + 4118) × (pairs < at) × (1 ≤ left) × (start ≤ at) × (isEnd fault ≡ false)
-Sound (inWidth fix f at v n) = (at ≤ 4128 + n) × (n ≤ 7)
-Sound (inHeight fix f w at v n) = (at ≤ 4136 + n) × (n ≤ 7)
+Reachable (inWidth fix f at v n) = (at ≤ 4128 + n) × (n ≤ 7)
+Reachable (inHeight fix f w at v n) = (at ≤ 4136 + n) × (n ≤ 7)
 
 pub record Represents (r : HeaderReader) (o : Settings) (st : State) : Type 0 where
-  pub mode-is : settings (r .mode) ≡ o
-  pub phase-is : state (r .phase) ≡ st
-  pub sound : Sound st
+  pub modeIs : settings (r .mode) ≡ o
+  pub phaseIs : state (r .phase) ≡ st
+  pub reachable : Reachable st
 
 -- the code's step answers as a step of the definitions
 abbrev pub Answers : Settings → HeaderStep → Step → Type 0

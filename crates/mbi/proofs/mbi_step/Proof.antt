@@ -29,11 +29,15 @@ free c = sym (c .before .leading .ensures) ∙ c .if1 .left
 leading-requires : tie.Need-leading-requires
 leading-requires c κs = search needs
 
+new-requires : tie.Need-new-requires
+new-requires c κs = search needs
+
 returns : tie.Need-returns
 unfolding readByte
 returns c =
-    let s = c .before .before in
-    record { does = simp (sym (c .before .leading .ensures) ∙ c .if1 .taken, small (s .args .at) (s .fits .at .fits)) }
+    let t = c .before in
+    let s = t .before .before in
+    record { does = simp (c .new .ensures, sym (t .before .leading .ensures) ∙ t .if1 .taken, small (s .args .at) (s .fits .at .fits)) }
 
 wrapping-add-usize-requires : tie.Need-wrapping-add-usize-requires
 wrapping-add-usize-requires c κs = search needs
@@ -44,20 +48,30 @@ mul-v c = search needs
 add-v : tie.Need-add-v
 add-v c = search needs
 
+new-requires-2 : tie.Need-new-requires-2
+new-requires-2 c κs = search needs
+
 returns-2 : tie.Need-returns-2
 unfolding readByte
-returns-2 c = record { does = simp (c .before .wrapping-add-usize .ensures, free (c .before .before), lt-ltb _ _ (c .if2 .taken)) }
+returns-2 c =
+    let d = c .before in
+    record { does = simp (c .new2 .ensures, d .before .wrapping-add-usize .ensures, free (d .before .before), lt-ltb _ _ (d .if2 .taken)) }
+
+new-requires-3 : tie.Need-new-requires-3
+new-requires-3 c κs = search needs
 
 returns-3 : tie.Need-returns-3
 unfolding readByte
 returns-3 c =
+    let d = c .before in
+    let e = d .before in
     record {
       does = simp (
-        c .before .before .wrapping-add-usize .ensures,
-        free (c .before .before .before),
-        le-ltb _ _ (c .before .if2 .left),
-        eighth _
-            (c .if3 .taken),
+        c .new3 .ensures,
+        e .before .wrapping-add-usize .ensures,
+        free (e .before .before),
+        le-ltb _ _ (e .if2 .left),
+        eighth _ (d .if3 .taken),
       );
     }
 
@@ -90,11 +104,14 @@ mbi-step-spec =
     tie.close
     (tie.spec
     leading-requires
+    new-requires
     returns
     wrapping-add-usize-requires
     mul-v
     add-v
+    new-requires-2
     returns-2
+    new-requires-3
     returns-3
     cast-t17
     returns-4

@@ -86,11 +86,15 @@ loop-less c = search needs
 loop-again : tie.Need-loop-again Inv-loop μ-loop
 loop-again c = turned (c .before .before .before) _ (c .before .v .given .1)
 
+new-requires : tie.Need-new-requires Inv-loop μ-loop
+new-requires c κs = search needs
+
 returns-3 : tie.Need-returns-3 Inv-loop μ-loop
 returns-3 c =
-    let a = c .before .before .before .args in
-    let l = c .before .loop in
-    sym (l .inv ∙ rest-end (a .strict) (now (a .bytes)) (l .at) (l .value) (l .count) (c .loop-test .left))
+    let d = c .before in
+    let a = d .before .before .before .args in
+    let l = d .before .loop in
+    rw (c .new .ensures) (sym (l .inv ∙ rest-end (a .strict) (now (a .bytes)) (l .at) (l .value) (l .count) (d .loop-test .left)))
 
 pub read-mbi-spec : {M : Type 1} → statement M
 read-mbi-spec =
@@ -111,4 +115,5 @@ read-mbi-spec =
     add-count
     loop-less
     loop-again
+    new-requires
     returns-3)

@@ -19,10 +19,14 @@ abbrev μ-loop : tie.MeasureT-loop
 mbi-u32-len-requires : tie.Need-mbi-u32-len-requires Inv-loop μ-loop
 mbi-u32-len-requires c κs = search needs
 
+refused-requires : tie.Need-refused-requires Inv-loop μ-loop
+refused-requires c κs = search needs
+
 returns : tie.Need-returns Inv-loop μ-loop
 returns c =
-    let a = c .before .before .before .args in
-    emits-none (mbiBytes (a .value)) (now (a .out)) (omega (arith, c .before .mbi-u32-len .ensures))
+    let d = c .before in
+    let a = d .before .before .before .args in
+    rw (c .refused .ensures) (emits-none (mbiBytes (a .value)) (now (a .out)) (omega (arith, d .before .mbi-u32-len .ensures)))
 
 sub-k : tie.Need-sub-k Inv-loop μ-loop
 sub-k c = omega (arith, bytes-one (c .before .before .before .args .value))
@@ -75,6 +79,7 @@ write-mbi-u32-spec =
     Inv-loop
     μ-loop
     mbi-u32-len-requires
+    refused-requires
     returns
     sub-k
     cast-out

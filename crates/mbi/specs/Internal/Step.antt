@@ -11,5 +11,5 @@ inWord (goes v) = goes v
 inWord (ends v) = ends v
 inWord (wrong code offset) = wrong code (offset % 18446744073709551616)
 
-pub record Stepped (strict : Bool) (at value count byte : ℕ) (r : MbiStep) : Type 0 where
+pub record MbiStepped (strict : Bool) (at value count byte : ℕ) (r : MbiStep) : Type 0 where
   pub does : stepMeaning r ≡ inWord (readByte strict at value count byte)

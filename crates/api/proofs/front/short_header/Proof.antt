@@ -1,6 +1,6 @@
 use mathlib.Core.Path.{subst}
 use denote.Ref.{now}
-use Rattle.api.specs.Internal.Parts.{Reads}
+use Rattle.api.specs.Internal.Parts.{ShortReads}
 use Rattle.api.proofs.ShortHeaders.{front-on}
 use borrow.Author.Needs.{needs}
 use Rattle.api.proofs.front.short_header.Statement.{statement}
@@ -42,7 +42,7 @@ returns-4 c =
     let x = y .before .before in
     let s = now (x .before .before .args .bytes) in
     front-on s (x .if1 .left) (y .if2 .left) (z .if3 .left) (c .short-height .result) _ _
-    (subst (Reads s 2) (v .value .given .1) (k .short-integer .ensures)) (c .short-height .ensures)
+    (subst (ShortReads s 2) (v .value .given .1) (k .short-integer .ensures)) (c .short-height .ensures)
 
 returns-5 : tie.Need-returns-5
 returns-5 c = search needs

@@ -1,6 +1,6 @@
 use mathlib.Core.Path.{subst}
 use denote.Ref.{now}
-use Rattle.api.specs.Internal.Parts.{Reads}
+use Rattle.api.specs.Internal.Parts.{ShortReads}
 use Rattle.api.proofs.ShortHeaders.{sizes-read}
 use borrow.Author.Needs.{needs}
 use Rattle.api.proofs.front.short_height.Statement.{statement}
@@ -28,7 +28,7 @@ returns-3 c =
     let e = k .before in
     let a = e .before .before .args in
     sizes-read (now (a .bytes)) (a .width) (a .at) _ _ (e .if1 .left) (c .if2 .left)
-    (subst (Reads (now (a .bytes)) (a .at)) (v .value .given .1) (k .short-integer .ensures))
+    (subst (ShortReads (now (a .bytes)) (a .at)) (v .value .given .1) (k .short-integer .ensures))
 
 returns-4 : tie.Need-returns-4
 returns-4 c = search needs

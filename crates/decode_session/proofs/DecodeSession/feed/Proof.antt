@@ -4,20 +4,20 @@ use borrow.Author.Needs.{needs}
 use Rattle.decode_session.proofs.DecodeSession.feed.Statement.{statement}
 use Rattle.decode_session.proofs.DecodeSession.feed.Tie as tie
 
-refusal-requires : tie.Need-refusal-requires
-refusal-requires c κs = search needs
+new-requires : tie.Need-new-requires
+new-requires c κs = search needs
 
 unaltered-requires : tie.Need-unaltered-requires
 unaltered-requires c κs = search needs
 
 returns : tie.Need-returns
-returns c = feed-closed _ _ _ _ _ _ (c .unaltered .ensures) (not-true _ (c .before .before .if1 .taken)) (c .before .refusal .ensures)
+returns c = feed-closed _ _ _ _ _ _ (c .unaltered .ensures) (not-true _ (c .before .before .if1 .taken)) (c .before .new .ensures)
 
 enum-known-stage : tie.Need-enum-known-stage
 enum-known-stage c = search needs
 
-refusal-requires-2 : tie.Need-refusal-requires-2
-refusal-requires-2 c κs = search needs
+new-requires-2 : tie.Need-new-requires-2
+new-requires-2 c κs = search needs
 
 unaltered-requires-2 : tie.Need-unaltered-requires-2
 unaltered-requires-2 c κs = search needs
@@ -26,7 +26,7 @@ returns-2 : tie.Need-returns-2
 returns-2 c =
     let t = c .before .before .before .before in
     short-in-header _ _ _ _ _ _ (c .unaltered2 .ensures) (not-false _ (t .before .before .if1 .left)) _ _ _ (t .stage .given .1)
-    (c .before .refusal2 .ensures)
+    (c .before .new2 .ensures)
     (c .before .before .if2 .taken)
 
 feed-head-requires : tie.Need-feed-head-requires
@@ -35,8 +35,8 @@ feed-head-requires c κs = search needs
 enum-known-stage-2 : tie.Need-enum-known-stage-2
 enum-known-stage-2 c = search needs
 
-refusal-requires-3 : tie.Need-refusal-requires-3
-refusal-requires-3 c κs = search needs
+new-requires-3 : tie.Need-new-requires-3
+new-requires-3 c κs = search needs
 
 unaltered-requires-3 : tie.Need-unaltered-requires-3
 unaltered-requires-3 c κs = search needs
@@ -45,7 +45,7 @@ returns-3 : tie.Need-returns-3
 returns-3 c =
     let t = c .before .before .before .before in
     short-in-body _ _ _ _ _ _ (c .unaltered3 .ensures) (not-false _ (t .before .before .if1 .left)) _ _ _ (t .stage2 .given .1)
-    (c .before .refusal3 .ensures)
+    (c .before .new3 .ensures)
     (c .before .before .if3 .taken)
 
 feed-planes-requires : tie.Need-feed-planes-requires
@@ -88,16 +88,16 @@ pub feed-spec : {M : Type 1} → statement M
 feed-spec =
     tie.close
     (tie.spec
-    refusal-requires
+    new-requires
     unaltered-requires
     returns
     enum-known-stage
-    refusal-requires-2
+    new-requires-2
     unaltered-requires-2
     returns-2
     feed-head-requires
     enum-known-stage-2
-    refusal-requires-3
+    new-requires-3
     unaltered-requires-3
     returns-3
     feed-planes-requires

@@ -9,17 +9,17 @@ image-mode-requires c κs = search needs
 new-requires : tie.Need-new-requires
 new-requires c κs = search needs
 
-refusal-requires : tie.Need-refusal-requires
-refusal-requires c κs = search needs
+new-requires-2 : tie.Need-new-requires-2
+new-requires-2 c κs = search needs
 
 returns : tie.Need-returns
 returns c =
     opens-not _ _ _ _ (c .before .before .new .ensures) (c .before .before .before .image-mode .ensures) (c .before .if1 .taken) _
-    (c .refusal .ensures)
+    (c .new2 .ensures)
 
 returns-2 : tie.Need-returns-2
 returns-2 c = opens _ _ _ _ (c .before .new .ensures) (c .before .before .image-mode .ensures) (c .if1 .left)
 
 pub open-spec : {M : Type 1} → statement M
 open-spec =
-    tie.close (tie.spec image-mode-requires new-requires refusal-requires returns returns-2)
+    tie.close (tie.spec image-mode-requires new-requires new-requires-2 returns returns-2)

@@ -12,8 +12,13 @@ ended-requires c κs = search needs
 enum-known-stage-2 : tie.Need-enum-known-stage-2
 enum-known-stage-2 c = search needs
 
+new-requires : tie.Need-new-requires
+new-requires c κs = search needs
+
 returns : tie.Need-returns
-returns c = finish-short _ _ _ _ (c .before .before .stage2 .given .1) (c .if1 .taken)
+returns c =
+    let t = c .before in
+    rw (c .new .ensures) (finish-short _ _ _ _ (t .before .before .stage2 .given .1) (t .if1 .taken))
 
 least-requires : tie.Need-least-requires
 least-requires c κs = search needs
@@ -42,6 +47,7 @@ finish-spec =
     enum-known-stage
     ended-requires
     enum-known-stage-2
+    new-requires
     returns
     least-requires
     cast-t11

@@ -59,14 +59,19 @@ mul-need c =
     (inside c) in
     omega (arith, p, s .good)
 
+new-requires-2 : tie.Need-new-requires-2
+new-requires-2 c κs = search needs
+
 returns : tie.Need-returns
 returns c =
-    let k = c .before in
+    let d = c .before in
+    let k = d .before in
     let s = k .before .before .before .before in
     let a = s .args in
-    too-short (a .most) (a .format) (now (a .bytes)) (parsed (a .h)) (1 + k .animated-frame-count .result) (now (a .out)) (count-is k)
+    rw (c .new2 .ensures)
+    (too-short (a .most) (a .format) (now (a .bytes)) (parsed (a .h)) (1 + k .animated-frame-count .result) (now (a .out)) (count-is k)
     (s .pre .1)
-    (subst (λ (n : ℕ). length (now (a .out)) < (1 + k .animated-frame-count .result) * n) (plane-is k) (c .if1 .taken))
+    (subst (λ (n : ℕ). length (now (a .out)) < (1 + k .animated-frame-count .result) * n) (plane-is k) (d .if1 .taken)))
 
 room : (c : tie.Else1)
     → let k = c .before in
@@ -105,6 +110,7 @@ write-frames-spec =
     animated-frame-count-requires
     add-frames
     mul-need
+    new-requires-2
     returns
     write-planes-requires
     cast-t19

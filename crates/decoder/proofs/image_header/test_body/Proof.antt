@@ -35,15 +35,20 @@ returns c = sym (limits-tested (c .before .before .before) _ (c .before .e .give
 saturating-sub-requires : tie.Need-saturating-sub-requires
 saturating-sub-requires c κs = search needs
 
+new-requires-2 : tie.Need-new-requires-2
+new-requires-2 c κs = search needs
+
 returns-2 : tie.Need-returns-2
 returns-2 c =
-    let t = c .before .before in
+    let d = c .before in
+    let t = d .before .before in
     let k = t .before .before in
     let a = k .before .before .args in
-    sym
+    rw (c .new2 .ensures)
+    (sym
     (limits-tested k _ (t .enum-told .given .1)
-    ∙ short (a .size) (a .h) (k .before .new .result) (c .before .saturating-sub .result) (k .before .new .ensures)
-    (c .before .saturating-sub .ensures) (c .if1 .taken))
+    ∙ short (a .size) (a .h) (k .before .new .result) (d .before .saturating-sub .result) (k .before .new .ensures)
+    (d .before .saturating-sub .ensures) (d .if1 .taken)))
 
 returns-3 : tie.Need-returns-3
 returns-3 c =
@@ -65,5 +70,6 @@ test-body-spec =
     enum-known-e
     returns
     saturating-sub-requires
+    new-requires-2
     returns-2
     returns-3)

@@ -51,7 +51,7 @@ returns-2 c =
     let k = c .before .before in
     let t = k .before in
     let a = t .before .before .before .args in
-    c .refused .ensures
+    ap checked (c .refused .ensures)
     ∙ sym (not-known 16 (a .rule) (a .width) (a .height) (a .count) (a .gray) (a .work) (sized t)
     (sym (k .known-rule .ensures) ∙ not-true _ (c .before .if1 .taken)))
 
@@ -67,7 +67,7 @@ returns-3 c =
     let k = r .before in
     let t = k .before .before in
     let a = t .before .before .before .args in
-    c .refused2 .ensures
+    ap checked (c .refused2 .ensures)
     ∙ sym (not-roomy 16 (a .rule) (a .width) (a .height) (a .count) (a .gray) (a .work) (sized t) (known k)
     (sym (r .roomy .ensures) ∙ not-true _ (c .before .if2 .taken)))
 
@@ -92,7 +92,7 @@ returns-4 c =
     let k = g .before .before in
     let t = k .before .before in
     let a = t .before .before .before .args in
-    c .refused3 .ensures
+    ap checked (c .refused3 .ensures)
     ∙ sym (too-short 16 (a .rule) (a .width) (a .height) (a .count) (a .gray) (a .work) (sized t) (known k) (served g)
     (c .before .if3 .taken))
 

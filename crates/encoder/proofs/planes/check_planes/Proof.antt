@@ -90,7 +90,7 @@ returns-3 c =
     let n = c .before .before in
     let t = n .before in
     let a = t .before .before .before .before .before .before .args in
-    c .refused .ensures
+    ap checked (c .refused .ensures)
     ∙ sym
     (geometry-tested (t .before .before) _ (t .enum-told2 .given .1)
     ∙ short (a .width) (a .height) (a .count) (a .stride) (a .bytes) (frames t .some)

@@ -21,17 +21,17 @@ whole c =
     behind-whole (now (a .bytes)) (a .identifier) (a .header) (a .strict) (o .before .if1 .left) (o .if2 .left) (c .if4 .left)
 
 -- what the tests of the classes say
-identifier-is : (c : tie.After-identifier-in-class) → let a = c .before .before .before .before .before .before .before .args in
+identifierIs : (c : tie.After-identifier-in-class) → let a = c .before .before .before .before .before .before .before .args in
     inClass (a .strict) isChar (wholeBehind (now (a .bytes)) (a .identifier) (a .header) .pair .identifier) ≡ c .identifier-in-class .result
-identifier-is c =
+identifierIs c =
     let a = c .before .before .before .before .before .before .before .args in
     sym (c .identifier-in-class .ensures
     ∙ ap (inClass (a .strict) isChar) (lent-part (a .identifier) (a .header .«identifier_len») (now (a .bytes))))
 
-value-is : (c : tie.After-value-in-class) → let a =
+valueIs : (c : tie.After-value-in-class) → let a =
     c .before .before .before .before .before .before .before .before .before .before .args in
     inClass (a .strict) isAlphaDigit (wholeBehind (now (a .bytes)) (a .identifier) (a .header) .pair .value) ≡ c .value-in-class .result
-value-is c =
+valueIs c =
     let a = c .before .before .before .before .before .before .before .before .before .before .args in
     let h = a .header in
     sym (c .value-in-class .ensures
@@ -105,7 +105,7 @@ pair-refused-requires-5 c κs = search needs
 returns-5 : tie.Need-returns-5
 returns-5 c =
     let i = c .before .before in
-    c .pair-refused5 .ensures ∙ rw (whole (i .before .before), identifier-is i ∙ not-true _ (c .before .if5 .taken))
+    c .pair-refused5 .ensures ∙ rw (whole (i .before .before), identifierIs i ∙ not-true _ (c .before .if5 .taken))
 
 sub-value-in-class : tie.Need-sub-value-in-class
 sub-value-in-class c = search needs
@@ -129,8 +129,8 @@ returns-6 c =
     c .pair-refused6 .ensures
     ∙ rw (
       whole (i .before .before),
-      identifier-is i ∙ not-false _ (v .before .before .if5 .left),
-      value-is v
+      identifierIs i ∙ not-false _ (v .before .before .if5 .left),
+      valueIs v
           ∙ not-true _ (c .before .if6 .taken),
     )
 
@@ -138,7 +138,7 @@ returns-7 : tie.Need-returns-7
 returns-7 c =
     let v = c .before in
     let i = v .before .before .before in
-    rw (whole (i .before .before), identifier-is i ∙ not-false _ (v .before .before .if5 .left), value-is v ∙ not-false _ (c .if6 .left))
+    rw (whole (i .before .before), identifierIs i ∙ not-false _ (v .before .before .if5 .left), valueIs v ∙ not-false _ (c .if6 .left))
 
 pub parse-parts-spec : {M : Type 1} → statement M
 parse-parts-spec =

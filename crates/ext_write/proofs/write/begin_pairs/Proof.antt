@@ -10,13 +10,13 @@ use Rattle.ext_write.proofs.write.begin_pairs.Tie as tie
 enum-known-found : tie.Need-enum-known-found
 enum-known-found c = search needs
 
-too-short-requires : tie.Need-too-short-requires
-too-short-requires c κs = search needs
+refused-requires : tie.Need-refused-requires
+refused-requires c κs = search needs
 
 returns : tie.Need-returns
 returns c = (
   omega arith,
-  λ strict text lengths old h e. pairs-short strict text lengths old _ _ _ h refl (ap written (c .too-short .ensures))
+  λ strict text lengths old h e. pairs-short strict text lengths old _ _ _ h refl (ap written (c .refused .ensures))
       (ap fieldsLength (sym (c .before .before .before .found .given .1)) ∙ e) (c .before .if1 .taken),
 )
 
@@ -40,4 +40,4 @@ returns-3 c = (
 pub begin-pairs-spec : {M : Type 1} → statement M
 begin-pairs-spec =
     tie.close
-    (tie.spec enum-known-found too-short-requires returns enum-known-found-2 returns-2 returns-3)
+    (tie.spec enum-known-found refused-requires returns enum-known-found-2 returns-2 returns-3)

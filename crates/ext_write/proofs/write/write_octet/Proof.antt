@@ -6,15 +6,20 @@ use borrow.Author.Needs.{needs}
 use Rattle.ext_write.proofs.write.write_octet.Statement.{statement}
 use Rattle.ext_write.proofs.write.write_octet.Tie as tie
 
-returns : tie.Need-returns
-returns c = octet-refused (now (c .before .before .before .args .text)) _ (c .if1 .taken)
+refused-requires : tie.Need-refused-requires
+refused-requires c κs = search needs
 
-too-short-requires : tie.Need-too-short-requires
-too-short-requires c κs = search needs
+returns : tie.Need-returns
+returns c =
+    let t = c .before in
+    rw (c .refused .ensures) (octet-refused (now (t .before .before .before .args .text)) _ (t .if1 .taken))
+
+refused-requires-2 : tie.Need-refused-requires-2
+refused-requires-2 c κs = search needs
 
 returns-2 : tie.Need-returns-2
 returns-2 c = octet-short (now (c .before .before .before .before .before .args .text))
-    (now (c .before .before .before .before .before .args .out)) _ (ap written (c .too-short .ensures)) (c .before .before .if1 .left)
+    (now (c .before .before .before .before .before .args .out)) _ (ap written (c .refused2 .ensures)) (c .before .before .if1 .left)
     (c .before .if2 .taken)
 
 shared-slice-read-out : tie.Need-shared-slice-read-out
@@ -34,8 +39,9 @@ pub write-octet-spec : {M : Type 1} → statement M
 write-octet-spec =
     tie.close
     (tie.spec
+    refused-requires
     returns
-    too-short-requires
+    refused-requires-2
     returns-2
     shared-slice-read-out
     slice-write-out

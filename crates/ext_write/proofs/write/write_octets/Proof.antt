@@ -14,13 +14,13 @@ check-octets-requires c κs = search needs
 enum-known-len : tie.Need-enum-known-len
 enum-known-len c = search needs
 
-too-short-requires : tie.Need-too-short-requires
-too-short-requires c κs = search needs
+refused-requires : tie.Need-refused-requires
+refused-requires c κs = search needs
 
 returns : tie.Need-returns
 returns c =
     let l = c .before .before .before in
-    short-emitted _ _ _ _ (ap written (c .too-short .ensures))
+    short-emitted _ _ _ _ (ap written (c .refused .ensures))
     (ap fieldsLength (sym (l .len .given .1)) ∙ l .before .before .check-octets .ensures) (c .before .if1 .taken)
 
 put-octets-requires : tie.Need-put-octets-requires
@@ -54,7 +54,7 @@ write-octets-spec =
     (tie.spec
     check-octets-requires
     enum-known-len
-    too-short-requires
+    refused-requires
     returns
     put-octets-requires
     enum-known-e

@@ -42,8 +42,8 @@ add-around c =
     let s = c .before .before .before .before .before .before .before in
     omega (arith, c .sizes-len .ensures, sizes-ten (s .args .width) (s .args .height) (s .fits .width .fits) (s .fits .height .fits))
 
-too-short-requires : tie.Need-too-short-requires
-too-short-requires c κs = search needs
+refused-requires : tie.Need-refused-requires
+refused-requires c κs = search needs
 
 none-begun-requires : tie.Need-none-begun-requires
 none-begun-requires c κs = search needs
@@ -52,16 +52,16 @@ returns : tie.Need-returns
 returns c =
     let z = c .before .before .before in
     let a = z .before .before .before .before .before .before .before .args in (
-      none-within (now (a .out)) _ _ _ _ (c .none-begun .ensures) (c .before .too-short .ensures),
-      λ strict lengths h. lent-short strict (a .width) (a .height) _ _ lengths (now (a .out)) _ _ _ (c .none-begun .ensures) (c .before .too-short .ensures) (checked z strict lengths h)
+      none-within (now (a .out)) _ _ _ _ (c .none-begun .ensures) (c .before .refused .ensures),
+      λ strict lengths h. lent-short strict (a .width) (a .height) _ _ lengths (now (a .out)) _ _ _ (c .none-begun .ensures) (c .before .refused .ensures) (checked z strict lengths h)
           (omega (arith, c .before .before .if1 .taken, z .sizes-len .ensures)),
     )
 
 sub-if2 : tie.Need-sub-if2
 sub-if2 c = search needs
 
-too-short-requires-2 : tie.Need-too-short-requires-2
-too-short-requires-2 c κs = search needs
+refused-requires-2 : tie.Need-refused-requires-2
+refused-requires-2 c κs = search needs
 
 none-begun-requires-2 : tie.Need-none-begun-requires-2
 none-begun-requires-2 c κs = search needs
@@ -70,8 +70,8 @@ returns-2 : tie.Need-returns-2
 returns-2 c =
     let z = c .before .before .before .before in
     let a = z .before .before .before .before .before .before .before .args in (
-      none-within (now (a .out)) _ _ _ _ (c .none-begun2 .ensures) (c .before .too-short2 .ensures),
-      λ strict lengths h. lent-short strict (a .width) (a .height) _ _ lengths (now (a .out)) _ _ _ (c .none-begun2 .ensures) (c .before .too-short2 .ensures) (checked z strict lengths h)
+      none-within (now (a .out)) _ _ _ _ (c .none-begun2 .ensures) (c .before .refused2 .ensures),
+      λ strict lengths h. lent-short strict (a .width) (a .height) _ _ lengths (now (a .out)) _ _ _ (c .none-begun2 .ensures) (c .before .refused2 .ensures) (checked z strict lengths h)
           (omega (arith, c .before .before .if2 .taken, c .before .before .before .if1 .left, z .sizes-len .ensures)),
     )
 
@@ -166,11 +166,11 @@ begin-fields-header-spec =
     enum-known-len
     sizes-len-requires
     add-around
-    too-short-requires
+    refused-requires
     none-begun-requires
     returns
     sub-if2
-    too-short-requires-2
+    refused-requires-2
     none-begun-requires-2
     returns-2
     slice-write-out

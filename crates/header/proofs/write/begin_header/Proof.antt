@@ -8,8 +8,8 @@ use borrow.Author.Needs.{needs}
 use Rattle.header.proofs.write.begin_header.Statement.{statement}
 use Rattle.header.proofs.write.begin_header.Tie as tie
 
-zero-dimension-requires : tie.Need-zero-dimension-requires
-zero-dimension-requires c κs = search needs
+refused-requires : tie.Need-refused-requires
+refused-requires c κs = search needs
 
 none-begun-requires : tie.Need-none-begun-requires
 none-begun-requires c κs = search needs
@@ -18,12 +18,12 @@ returns : tie.Need-returns
 returns c =
     let a = c .before .before .before .before .before .args in
     let t : (eqb (a .width) 0 || eqb (a .height) 0) ≡ true = simp (eq-eqb _ _ (c .before .before .if1 .taken)) in (
-      none-within (now (a .out)) _ _ _ _ (c .none-begun .ensures) (c .before .zero-dimension .ensures),
-      λ strict lengths h. zero-left strict _ lengths (now (a .out)) _ _ _ _ (c .none-begun .ensures) (c .before .zero-dimension .ensures) t,
+      none-within (now (a .out)) _ _ _ _ (c .none-begun .ensures) (c .before .refused .ensures),
+      λ strict lengths h. zero-left strict _ lengths (now (a .out)) _ _ _ _ (c .none-begun .ensures) (c .before .refused .ensures) t,
     )
 
-zero-dimension-requires-2 : tie.Need-zero-dimension-requires-2
-zero-dimension-requires-2 c κs = search needs
+refused-requires-2 : tie.Need-refused-requires-2
+refused-requires-2 c κs = search needs
 
 none-begun-requires-2 : tie.Need-none-begun-requires-2
 none-begun-requires-2 c κs = search needs
@@ -32,8 +32,8 @@ returns-2 : tie.Need-returns-2
 returns-2 c =
     let a = c .before .before .before .before .before .before .args in
     let t : (eqb (a .width) 0 || eqb (a .height) 0) ≡ true = simp (ne-eqb _ _ (c .before .before .before .if1 .left), eq-eqb _ _ (c .before .before .if2 .taken)) in (
-      none-within (now (a .out)) _ _ _ _ (c .none-begun2 .ensures) (c .before .zero-dimension2 .ensures),
-      λ strict lengths h. zero-left strict _ lengths (now (a .out)) _ _ _ _ (c .none-begun2 .ensures) (c .before .zero-dimension2 .ensures) t,
+      none-within (now (a .out)) _ _ _ _ (c .none-begun2 .ensures) (c .before .refused2 .ensures),
+      λ strict lengths h. zero-left strict _ lengths (now (a .out)) _ _ _ _ (c .none-begun2 .ensures) (c .before .refused2 .ensures) t,
     )
 
 enum-told : tie.Need-enum-told
@@ -84,10 +84,10 @@ pub begin-header-spec : {M : Type 1} → statement M
 begin-header-spec =
     tie.close
     (tie.spec
-    zero-dimension-requires
+    refused-requires
     none-begun-requires
     returns
-    zero-dimension-requires-2
+    refused-requires-2
     none-begun-requires-2
     returns-2
     enum-told

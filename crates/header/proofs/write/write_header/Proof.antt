@@ -18,13 +18,13 @@ add-total c =
     let s = c .before .before in
     omega (arith, c .sizes-len .ensures, sizes-ten (s .args .width) (s .args .height) (s .fits .width .fits) (s .fits .height .fits))
 
-too-short-requires : tie.Need-too-short-requires
-too-short-requires c κs = search needs
+refused-requires : tie.Need-refused-requires
+refused-requires c κs = search needs
 
 returns : tie.Need-returns
 returns c =
     let s = c .before .before .before .before in
-    rw (c .too-short .ensures)
+    rw (c .refused .ensures)
     (emits-none (headerBytes 0 [] (s .args .width) (s .args .height)) (now (s .args .out))
     (omega (arith, c .before .if1 .taken, c .before .before .sizes-len .ensures, header-length 0 [] (s .args .width) (s .args .height))))
 
@@ -54,7 +54,7 @@ write-header-spec =
     (tie.spec
     sizes-len-requires
     add-total
-    too-short-requires
+    refused-requires
     returns
     slice-write-out
     slice-write-out-2

@@ -19,10 +19,14 @@ whole c = let a = c .args in convertFormat (a .from) (a .to) (a .width) (a .heig
 long : (c : tie.Start) → length (whole c) ≡ length (now (c .args .plane))
 long c = let a = c .args in format-length (a .from) (a .to) (a .width) (a .height) (rowBytes (a .width)) (now (a .plane))
 
+refused-requires : tie.Need-refused-requires
+refused-requires c κs = search needs
+
 returns : tie.Need-returns
 returns c =
-    let a = c .before .before .before .args in
-    emits-none (whole (c .before .before .before)) (now (a .out)) (omega (arith, long (c .before .before .before), c .if1 .taken))
+    let t = c .before in
+    let s = t .before .before .before in
+    rw (c .refused .ensures) (emits-none (whole s) (now (s .args .out)) (omega (arith, long s, t .if1 .taken)))
 
 slice-relend-prefix-convert-from : tie.Need-slice-relend-prefix-convert-from
 slice-relend-prefix-convert-from c = search needs
@@ -51,6 +55,7 @@ pub into-format-spec : {M : Type 1} → statement M
 into-format-spec =
     tie.close
     (tie.spec
+    refused-requires
     returns
     slice-relend-prefix-convert-from
     slice-aggregate-convert-from

@@ -18,10 +18,14 @@ whole c = invert (now (c .args .bytes))
 long : (c : tie.Start) → length (whole c) ≡ length (now (c .args .bytes))
 long c = invert-length (now (c .args .bytes))
 
+refused-requires : tie.Need-refused-requires
+refused-requires c κs = search needs
+
 returns : tie.Need-returns
 returns c =
-    let s = c .before .before .before in
-    emits-none (whole s) (now (s .args .out)) (omega (arith, long s, c .if1 .taken))
+    let t = c .before in
+    let s = t .before .before .before in
+    rw (c .refused .ensures) (emits-none (whole s) (now (s .args .out)) (omega (arith, long s, t .if1 .taken)))
 
 slice-relend-prefix-invert-from : tie.Need-slice-relend-prefix-invert-from
 slice-relend-prefix-invert-from c = search needs
@@ -50,6 +54,7 @@ pub invert-into-spec : {M : Type 1} → statement M
 invert-into-spec =
     tie.close
     (tie.spec
+    refused-requires
     returns
     slice-relend-prefix-invert-from
     slice-aggregate-invert-from

@@ -1,8 +1,9 @@
 use Prim.Native.Nat.{_-_, _*_, _≤_, _<_}
-use mathlib.Core.Path.{sym, _∙_}
+use mathlib.Core.Path.{sym, ap, _∙_}
 use native.Mathlib.Omega.{arith}
 use borrow.Author.Needs.{needs}
 use borrow.Author.Tests.{leb-true, leb-false, not-true, not-false}
+use Rattle.error.specs.Answer.{checked}
 use Rattle.image.proofs.GeometryTests.{no-width, no-height, narrow, large, short, accepted}
 use Rattle.image.proofs.geometry.check_geometry.Statement.{statement}
 use Rattle.image.proofs.geometry.check_geometry.Tie as tie
@@ -13,7 +14,7 @@ refused-requires c κs = search needs
 returns : tie.Need-returns
 returns c =
     let a = c .before .before .args in
-    c .refused .ensures ∙ sym (no-width (a .width) (a .height) (a .stride) (a .bytes) (omega arith))
+    ap checked (c .refused .ensures) ∙ sym (no-width (a .width) (a .height) (a .stride) (a .bytes) (omega arith))
 
 refused-requires-2 : tie.Need-refused-requires-2
 refused-requires-2 c κs = search needs
@@ -21,7 +22,7 @@ refused-requires-2 c κs = search needs
 returns-2 : tie.Need-returns-2
 returns-2 c =
     let a = c .before .before .before .args in
-    c .refused2 .ensures ∙ sym (no-height (a .width) (a .height) (a .stride) (a .bytes) (omega arith) (omega arith))
+    ap checked (c .refused2 .ensures) ∙ sym (no-height (a .width) (a .height) (a .stride) (a .bytes) (omega arith) (omega arith))
 
 row-stride-requires : tie.Need-row-stride-requires
 row-stride-requires c κs = search needs
@@ -32,7 +33,7 @@ refused-requires-3 c κs = search needs
 returns-3 : tie.Need-returns-3
 returns-3 c =
     let a = c .before .before .before .before .before .args in
-    c .refused3 .ensures ∙ sym (narrow (a .width) (a .height) (a .stride) (a .bytes) (omega arith) (omega arith) (omega arith))
+    ap checked (c .refused3 .ensures) ∙ sym (narrow (a .width) (a .height) (a .stride) (a .bytes) (omega arith) (omega arith) (omega arith))
 
 sub-steps : tie.Need-sub-steps
 sub-steps c = search needs
@@ -54,7 +55,7 @@ returns-4 c =
     let a = c .before .before .before .before .before .before .before .args in
     let p : 18446744073709551615 - c .before .before .before .before .row-stride .result < a .stride * (a .height - 1) =
     leb-false _ _ (sym (c .before .before .product-within .ensures) ∙ not-true _ (c .before .if4 .taken)) in
-    c .refused4 .ensures
+    ap checked (c .refused4 .ensures)
     ∙ sym (large (a .width) (a .height) (a .stride) (a .bytes) (omega arith) (omega arith) (omega arith) (omega arith))
 
 -- the bytes needed fit 64 bits
@@ -76,7 +77,7 @@ returns-5 : tie.Need-returns-5
 returns-5 c =
     let a = c .before .before .before .before .before .before .before .before .args in
     let p = sized (c .before .before) in
-    c .refused5 .ensures
+    ap checked (c .refused5 .ensures)
     ∙ sym (short (a .width) (a .height) (a .stride) (a .bytes) (omega arith) (omega arith) (omega arith) (omega arith) (omega arith))
 
 returns-6 : tie.Need-returns-6

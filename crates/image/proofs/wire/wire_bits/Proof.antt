@@ -41,10 +41,15 @@ done c h e =
 new-requires : tie.Need-new-requires
 new-requires c κs = search needs
 
+refused-requires : tie.Need-refused-requires
+refused-requires c κs = search needs
+
 returns : tie.Need-returns
 returns c =
-    let n = c .before in
-    emits-none (whole n) (now (start n .args .out)) (omega (arith, long n, total-is (n .new .ensures), c .if1 .taken))
+    let t = c .before in
+    let n = t .before in
+    rw (c .refused .ensures)
+    (emits-none (whole n) (now (start n .args .out)) (omega (arith, long n, total-is (n .new .ensures), t .if1 .taken)))
 
 slice-aggregate-wire-packed : tie.Need-slice-aggregate-wire-packed
 slice-aggregate-wire-packed c = sym (length-take-le _ _ (c .before .if3 .taken))
@@ -105,6 +110,7 @@ wire-bits-spec =
     tie.close
     (tie.spec
     new-requires
+    refused-requires
     returns
     slice-aggregate-wire-packed
     slice-relend-prefix-wire-packed

@@ -8,7 +8,7 @@ fields-requires : tie.Need-fields-requires
 fields-requires c κs = search needs
 
 returns : tie.Need-returns
-returns c = record { does = λ o st h. c .fields .ensures ∙ ap knownIn (h .phase-is) }
+returns c = record { does = λ o st h. c .fields .ensures ∙ ap knownIn (h .phaseIs) }
 
 pub fields-spec : {M : Type 1} → statement M
 fields-spec = tie.close (tie.spec fields-requires returns)

@@ -8,7 +8,7 @@ in-fields-requires : tie.Need-in-fields-requires
 in-fields-requires c κs = search needs
 
 returns : tie.Need-returns
-returns c = λ o st h. c .in-fields .ensures ∙ ap inFields (h .phase-is)
+returns c = λ o st h. c .in-fields .ensures ∙ ap inFields (h .phaseIs)
 
 pub in-fields-spec : {M : Type 1} → statement M
 in-fields-spec = tie.close (tie.spec in-fields-requires returns)

@@ -1,4 +1,4 @@
--- A step keeps a reading sound, and its refusal is no end of the input.
+-- A step keeps a reading reachable, and its refusal is no end of the input.
 use Prim.Native.Nat.{ℕ, _+_, _/_, _%_, _<_}
 use mathlib.Core.Path.{_≡_, refl, subst⁻¹}
 use mathlib.Core.Bool.{Bool, true, false, _&&_, _||_}
@@ -15,7 +15,7 @@ use Rattle.ext.specs.Kinds.{fieldsFollow, kindBits}
 use Rattle.ext.specs.Internal.Bytewise.{identifierFault, valueFault}
 use Rattle.header.specs.Settings.{Settings}
 use Rattle.header_reader.specs.Internal.Machine.{State, inType, atFix, inOctets, atOctet, atPair, inIdentifier, inValue, inWidth, inHeight, start, Step, more, done, refused, onByte, stepOf, steps}
-use Rattle.header_reader.specs.Internal.Represents.{Sound}
+use Rattle.header_reader.specs.Internal.Represents.{Reachable}
 use Rattle.header_reader.specs.Internal.Pieces.{onward}
 use Rattle.header_reader.proofs.Machine.{steps-cons}
 
@@ -38,64 +38,64 @@ value-kept strict fault b h = go (strict && eqb fault 0) (isAlphaDigit b)
     go true false = refl
     go false t = h
 
-abbrev pub SoundStep : Step → Type 0
-SoundStep (more st) = Sound st
-SoundStep (done h) = Unit {0}
-SoundStep (refused code offset) = isEnd code ≡ false
+abbrev pub ReachableStep : Step → Type 0
+ReachableStep (more st) = Reachable st
+ReachableStep (done h) = Unit {0}
+ReachableStep (refused code offset) = isEnd code ≡ false
 
-pick : (t : Bool) (x y : Step) → (t ≡ true → SoundStep x) → (t ≡ false → SoundStep y) → SoundStep (if t x y)
+pick : (t : Bool) (x y : Step) → (t ≡ true → ReachableStep x) → (t ≡ false → ReachableStep y) → ReachableStep (if t x y)
 pick true x y p q = p refl
 pick false x y p q = q refl
 
 module _ (o : Settings) where
   number : (at v n b : ℕ) (r : ByteRead) (g l : ℕ → Step) → readByte (o .shortest) at v n b ≡ r
-      → ((w : ℕ) → n < 7 → SoundStep (g w)) → ((w : ℕ) → SoundStep (l w)) → SoundStep (onByte r g l)
+      → ((w : ℕ) → n < 7 → ReachableStep (g w)) → ((w : ℕ) → ReachableStep (l w)) → ReachableStep (onByte r g l)
   number at v n b (goes w) g l e p q = let k = known (o .shortest) v n b at (goes w) e in p w (k .0 .few)
   number at v n b (ends w) g l e p q = q w
   number at v n b (wrong code offset) g l e p q = let k = known (o .shortest) v n b at (wrong code offset) e in k .0
 
-  pub sound-step : (st : State) (b : ℕ) → Sound st → SoundStep (stepOf o st b)
+  pub reachable-step : (st : State) (b : ℕ) → Reachable st → ReachableStep (stepOf o st b)
   unfolding stepOf
-  sound-step (inType at v n) b s =
+  reachable-step (inType at v n) b s =
       number at v n b _ _ _ refl (λ w h. omega arith) (λ w. pick (eqb w 0) _ _ (λ e. omega arith) (λ e. refl))
-  sound-step (atFix at) b s =
+  reachable-step (atFix at) b s =
       pick (o .fixZero && ltb 0 b) _ _ (λ e. refl)
       (λ e. pick (o .honoured && fieldsFollow b) _ _
       (λ e. pick (eqb (kindBits b) 0) _ _ (λ e. omega arith)
       (λ e. pick (eqb (kindBits b) 3) _ _ (λ e. omega arith) (λ e. omega arith)))
       (λ e. omega arith))
-  sound-step (inOctets fix from at) b s =
+  reachable-step (inOctets fix from at) b s =
       pick (leb (from + 4096) at) _ _ (λ e. refl)
       (λ e. let h = leb-false (from + 4096) at e in pick (ltb b 128) _ _ (λ e. omega arith) (λ e. omega arith))
-  sound-step (atOctet fix at) b s = omega arith
-  sound-step (atPair fix from at pairs) b s =
+  reachable-step (atOctet fix at) b s = omega arith
+  reachable-step (atPair fix from at pairs) b s =
       pick (leb (from + 4096) at) _ _ (λ e. refl)
       (λ e. let h = leb-false (from + 4096) at e in pick (eqb (b / 16 % 8) 0) _ _ (λ e. refl)
       (λ e. let i = eqb-false (b / 16 % 8) 0 e in pick (eqb (b % 16) 0) _ _ (λ e. refl)
       (λ e. let j = eqb-false (b % 16) 0 e in (omega arith, omega arith, omega arith, omega arith, omega arith, omega arith, refl))))
-  sound-step (inIdentifier fix from at pairs begun left size again fault) b s =
+  reachable-step (inIdentifier fix from at pairs begun left size again fault) b s =
       let k = identifier-kept (o .classes) fault b (s .6) in
       pick (ltb 1 left) _ _
       (λ e. let h = ltb-true 1 left e in (omega arith, omega arith, omega arith, omega arith, omega arith, omega arith, k))
       (λ e. (omega arith, omega arith, omega arith, omega arith, omega arith, k))
-  sound-step (inValue fix from at pairs begun left again fault) b s =
+  reachable-step (inValue fix from at pairs begun left again fault) b s =
       let k = value-kept (o .classes) fault b (s .5) in
       pick (ltb 1 left) _ _
       (λ e. let h = ltb-true 1 left e in (omega arith, omega arith, omega arith, omega arith, omega arith, k))
       (λ e. pick (eqb (valueFault (o .classes) fault b) 0) _ _ (λ e. pick again _ _ (λ e. omega arith) (λ e. omega arith)) (λ e. k))
-  sound-step (inWidth fix f at v n) b s = number at v n b _ _ _ refl (λ w h. omega arith) (λ w. omega arith)
-  sound-step (inHeight fix f w at v n) b s =
+  reachable-step (inWidth fix f at v n) b s = number at v n b _ _ _ refl (λ w h. omega arith) (λ w. omega arith)
+  reachable-step (inHeight fix f w at v n) b s =
       number at v n b _ _ _ refl (λ h l. omega arith) (λ h. pick (eqb w 0 || eqb h 0) _ _ (λ e. refl) (λ e. tt))
 
-  pub sound-steps : (σ : List ℕ) (st : State) → Sound st → SoundStep (steps o st σ)
+  pub reachable-steps : (σ : List ℕ) (st : State) → Reachable st → ReachableStep (steps o st σ)
   unfolding steps
-  sound-steps [] st s = s
-  sound-steps (b ∷ σ) st s = subst⁻¹ SoundStep (steps-cons o st b σ) (go (stepOf o st b) (sound-step st b s) (λ t. sound-steps σ t))
+  reachable-steps [] st s = s
+  reachable-steps (b ∷ σ) st s = subst⁻¹ ReachableStep (steps-cons o st b σ) (go (stepOf o st b) (reachable-step st b s) (λ t. reachable-steps σ t))
     where
-      go : (x : Step) → SoundStep x → ((t : State) → Sound t → SoundStep (steps o t σ)) → SoundStep (onward o x σ)
+      go : (x : Step) → ReachableStep x → ((t : State) → Reachable t → ReachableStep (steps o t σ)) → ReachableStep (onward o x σ)
       go (more t) h ih = ih t h
       go (done h) k ih = tt
       go (refused code offset) h ih = h
 
-pub sound-start : Sound start
-sound-start = omega arith
+pub reachable-start : Reachable start
+reachable-start = omega arith
