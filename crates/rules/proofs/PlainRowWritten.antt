@@ -33,7 +33,11 @@ pub record PlainTo (w : ℕ) (gray out₀ out : List ℕ) (k : ℕ) : Type 0 whe
 module _ (w : ℕ) (gray out₀ : List ℕ) where
   pub plain-none : PlainTo w gray out₀ out₀ 0
   plain-none =
-      record { within = omega arith; plain = λ i l m. let z : ⊥ = omega arith in absurd z; outIs = overlaid-none (byteAt w (thresholdBit 128 gray)) out₀ }
+      record {
+        within = omega arith;
+        plain = λ i l m. let z : ⊥ = omega arith in absurd z;
+        outIs = overlaid-none (byteAt w (thresholdBit 128 gray)) out₀;
+      }
 
   pub row-missing : (w ≤ length gray → rowBytes w ≤ length out₀ → ⊥) → PlainRow w gray out₀ false out₀
   row-missing n =

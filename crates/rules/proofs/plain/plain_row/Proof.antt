@@ -84,8 +84,8 @@ returns-3 c =
     let w = p .before in
     let i = w .before in
     let l = i .before in
-    row-stopped (room l) (l .loop .inv .1) (w .word .result) (samplesFrom (gray l) (8 * l .loop .k)) (w .word .ensures .1) (w .word .ensures .0)
-    (held i) (p .plain-word .result) (p .plain-word .ensures) (not-true _ (c .if3 .taken))
+    row-stopped (room l) (l .loop .inv .1) (w .word .result) (samplesFrom (gray l) (8 * l .loop .k)) (w .word .ensures .1)
+    (w .word .ensures .0) (held i) (p .plain-word .result) (p .plain-word .ensures) (not-true _ (c .if3 .taken))
 
 gathered-requires : tie.Need-gathered-requires Inv-loop μ-loop
 gathered-requires c κs = search needs
@@ -109,8 +109,9 @@ loop-again c =
     let i = w .before in
     let l = i .before in (
       omega arith,
-      row-goes-on (room l) (l .loop .inv .1) (w .word .result) (samplesFrom (gray l) (8 * l .loop .k)) (w .word .ensures .1) (w .word .ensures .0)
-          (held i) (p .plain-word .result) (p .plain-word .ensures) (not-false _ (q .if3 .left)) (c .gathered .result) (c .gathered .ensures) (omega arith),
+      row-goes-on (room l) (l .loop .inv .1) (w .word .result) (samplesFrom (gray l) (8 * l .loop .k)) (w .word .ensures .1)
+          (w .word .ensures .0) (held i) (p .plain-word .result) (p .plain-word .ensures) (not-false _ (q .if3 .left))
+          (c .gathered .result) (c .gathered .ensures) (omega arith),
     )
 
 same-length-2 : tie.Need-same-length-2 Inv-loop μ-loop
@@ -143,7 +144,8 @@ returns-5 c =
     let a = w .before .before in
     let l = a .before in
     row-stopped (room l) (ended a) (w .ending-word .result) (λ i. rowSample (width l) (gray l) (8 * (width l / 8) + i))
-    (w .ending-word .ensures .1) (w .ending-word .ensures .0) (λ i _. refl) (p .plain-word2 .result) (p .plain-word2 .ensures) (not-true _ (c .if5 .taken))
+    (w .ending-word .ensures .1) (w .ending-word .ensures .0) (λ i _. refl) (p .plain-word2 .result) (p .plain-word2 .ensures)
+    (not-true _ (c .if5 .taken))
 
 gathered-requires-2 : tie.Need-gathered-requires-2 Inv-loop μ-loop
 gathered-requires-2 c κs = search needs
@@ -169,8 +171,8 @@ returns-6 c =
     let l = a .before in
     row-done (room l)
     (row-goes-on (room l) (ended a) (w .ending-word .result) (λ i. rowSample (width l) (gray l) (8 * (width l / 8) + i))
-    (w .ending-word .ensures .1) (w .ending-word .ensures .0) (λ i _. refl) (p .plain-word2 .result) (p .plain-word2 .ensures) (not-false _ (q .if5 .left))
-    (c .gathered2 .result) (c .gathered2 .ensures) (omega (arith, w .before .if4 .left)))
+    (w .ending-word .ensures .1) (w .ending-word .ensures .0) (λ i _. refl) (p .plain-word2 .result) (p .plain-word2 .ensures)
+    (not-false _ (q .if5 .left)) (c .gathered2 .result) (c .gathered2 .ensures) (omega (arith, w .before .if4 .left)))
     (there l) (omega arith)
 
 pub plain-row-spec : {M : Type 1} → statement M
