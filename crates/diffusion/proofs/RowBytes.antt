@@ -89,14 +89,14 @@ module _ (gray : List ℕ) (old : List ℤ) (n room : ℕ) (f : Flow) (out : Lis
     eight : 8 * n + 8 - 8 * n ≡ 8
     eight = omega arith
 
-    pub byte-small : r .digits < 256
-    byte-small =
+    pub digits-byte : r .digits < 256
+    digits-byte =
         subst (λ (m : ℕ). r .digits < 2 ^ m) eight
         (digits-small gray old (8 * n + 8) r work′ (d .at) (8 * n) (omega arith) (omega arith) (d .digitsIs))
 
     -- one byte more
-    pub byte-more : 8 * n + 8 ≤ length gray → n < room → BytesPassed gray old (n + 1) room r (set out n (r .digits)) work′
-    byte-more h k =
+    pub bytes-more : 8 * n + 8 ≤ length gray → n < room → BytesPassed gray old (n + 1) room r (set out n (r .digits)) work′
+    bytes-more h k =
         let e : 8 * n + 8 ≡ 8 * (n + 1) = omega arith in
         let f = dotBy gray (sumsOf old) in
         record {

@@ -77,11 +77,11 @@ module _ (gray : List ℕ) (old : List ℤ) (room : ℕ) (lent : RowLent gray ol
     last-small = digits-small gray old w r work′ (d .at) (8 * last) (omega arith) (omega arith) (d .digitsIs)
 
     -- the byte, in eight bits and in 32
-    pub byte-lt : r .digits * 2 ^ (8 - (length gray - 8 * last)) < 256
-    byte-lt = shifted-lt (r .digits) (w - 8 * last) (omega arith) last-small
+    pub shifted-small : r .digits * 2 ^ (8 - (length gray - 8 * last)) < 256
+    shifted-small = shifted-lt (r .digits) (w - 8 * last) (omega arith) last-small
 
-    pub byte-is : r .digits * 2 ^ (8 - (length gray - 8 * last)) % 4294967296 ≡ r .digits * 2 ^ (8 - (length gray - 8 * last))
-    byte-is = let l = byte-lt in mod-eq-of-lt (omega arith)
+    pub shifted-is : r .digits * 2 ^ (8 - (length gray - 8 * last)) % 4294967296 ≡ r .digits * 2 ^ (8 - (length gray - 8 * last))
+    shifted-is = let l = shifted-small in mod-eq-of-lt (omega arith)
 
     module _ (b : ℕ) (z : ℤ) (eb : b ≡ r .digits * 2 ^ (8 - (length gray - 8 * last))) (ez : z ≡ pos (r .down / 256 % 256 + 24)) where
       room-is : room ≡ last + 1

@@ -30,22 +30,22 @@ parts-still b h e =
     record { one = omega arith; three = omega arith; five = omega arith }
 
 -- the number that the dot at column x stores on its left, where there is a column
-pub record Stored (work : List ℤ) (x n : ℕ) (work′ : List ℤ) : Type 0 where
+pub record SumStored (work : List ℤ) (x n : ℕ) (work′ : List ℤ) : Type 0 where
   pub long : length work′ ≡ length work
   pub there : (k : ℕ) → k + 1 ≡ x → getD work′ k (pos 0) ≡ pos n
   pub else : (k : ℕ) → (k + 1 ≡ x → ⊥) → getD work′ k (pos 0) ≡ getD work k (pos 0)
 
-pub stored-none : (work : List ℤ) (x n : ℕ) (work′ : List ℤ) → x ≤ 0 → work′ ≡ work → Stored work x n work′
-stored-none work x n work′ h w =
+pub sum-none : (work : List ℤ) (x n : ℕ) (work′ : List ℤ) → x ≤ 0 → work′ ≡ work → SumStored work x n work′
+sum-none work x n work′ h w =
     record {
       long = ap length w;
       there = λ k e. let z : ⊥ = omega arith in absurd z;
       else = λ k e. ap (λ (l : List ℤ). getD l k (pos 0)) w;
     }
 
-pub stored-left : (work : List ℤ) (x n : ℕ) (z : ℤ) (work′ : List ℤ)
-    → 0 < x → x ≤ length work → z ≡ pos n → work′ ≡ set work (x - 1) z → Stored work x n work′
-stored-left work x n z work′ h l e w =
+pub sum-left : (work : List ℤ) (x n : ℕ) (z : ℤ) (work′ : List ℤ)
+    → 0 < x → x ≤ length work → z ≡ pos n → work′ ≡ set work (x - 1) z → SumStored work x n work′
+sum-left work x n z work′ h l e w =
     record {
       long = ap length w ∙ length-set work (x - 1) z;
       there = λ k o.
@@ -67,10 +67,10 @@ digits-lt f (suc m) h =
     rw (pow-suc 2 m) (omega arith)
 
 -- the flow at a byte's start
-pub begins : (gray : List ℕ) (old : List ℤ) (x : ℕ) (f : Flow) (work : List ℤ) → RowAt gray old x f work
+pub byte-begins : (gray : List ℕ) (old : List ℤ) (x : ℕ) (f : Flow) (work : List ℤ) → RowAt gray old x f work
     → DotsPassed gray old x x (record { right = f .right; down = f .down; stirred = f .stirred; digits = 0 }) work
 unfolding appended
-begins gray old x f work a =
+byte-begins gray old x f work a =
     let e : x - x ≡ 0 = omega arith in
     record {
       at = record {
@@ -187,7 +187,7 @@ module _ (gray : List ℕ) (old : List ℤ) (x : ℕ) (f : Flow) (work : List �
           (λ l. let o : k ≡ x = omega arith in rw o (parts-still (restOf (valueBy g s x)) (rest-le x more) (passed .calm e .1)))
           (lt-or-le k x)
 
-      module _ (work′ : List ℤ) (st : Stored work x (r .down % 256) work′) where
+      module _ (work′ : List ℤ) (st : SumStored work x (r .down % 256) work′) where
         pub row-more : RowAt gray old (x + 1) r work′
         unfolding restBefore
         row-more =
@@ -220,19 +220,19 @@ module _ (gray : List ℕ) (old : List ℤ) (x : ℕ) (f : Flow) (work : List �
             }
 
 -- the dots of the columns b to x, from a flow at b
-pub record Run (gray : List ℕ) (b end : ℕ) (f₀ : Flow) (work₀ : List ℤ) (x : ℕ) (f : Flow) (work : List ℤ) : Type 0 where
+pub record DotsRun (gray : List ℕ) (b end : ℕ) (f₀ : Flow) (work₀ : List ℤ) (x : ℕ) (f : Flow) (work : List ℤ) : Type 0 where
   pub from : b ≤ x
   pub to : x ≤ end
   pub passed : (old : List ℤ) → DotsPassed gray old b b f₀ work₀ → DotsPassed gray old b x f work
 
 module _ (gray : List ℕ) (b end : ℕ) (f₀ : Flow) (work₀ : List ℤ) where
-  pub run-start : b ≤ end → Run gray b end f₀ work₀ b f₀ work₀
+  pub run-start : b ≤ end → DotsRun gray b end f₀ work₀ b f₀ work₀
   run-start h = record { from = omega arith; to = h; passed = λ old p. p }
 
-  pub run-at : (x y : ℕ) (f : Flow) (work : List ℤ) → x ≡ y → Run gray b end f₀ work₀ x f work → Run gray b end f₀ work₀ y f work
-  run-at x y f work e run = subst (λ (n : ℕ). Run gray b end f₀ work₀ n f work) e run
+  pub run-at : (x y : ℕ) (f : Flow) (work : List ℤ) → x ≡ y → DotsRun gray b end f₀ work₀ x f work → DotsRun gray b end f₀ work₀ y f work
+  run-at x y f work e run = subst (λ (n : ℕ). DotsRun gray b end f₀ work₀ n f work) e run
 
-  module _ (x : ℕ) (f : Flow) (work : List ℤ) (run : Run gray b end f₀ work₀ x f work) where
+  module _ (x : ℕ) (f : Flow) (work : List ℤ) (run : DotsRun gray b end f₀ work₀ x f work) where
     -- a row in which these dots are
     module _ (old : List ℤ) (p : DotsPassed gray old b b f₀ work₀) where
       pub run-long : length work ≡ length work₀
@@ -249,8 +249,8 @@ module _ (gray : List ℕ) (b end : ℕ) (f₀ : Flow) (work₀ : List ℤ) wher
       run-lent z e h k = subst⁻¹ (λ (i : ℤ). DotLent f i) e (dot-lent gray old x f work (run .passed old p .at) h (digits-fit k))
 
     pub run-more : (z : ℤ) → z ≡ getD work x (pos 0) → (r : Flow) (work′ : List ℤ) → x < end → end ≤ length gray
-        → DotPassed f (grayOf gray x + natAbs z + f .right) r → Stored work x (r .down % 256) work′
-        → Run gray b end f₀ work₀ (x + 1) r work′
+        → DotPassed f (grayOf gray x + natAbs z + f .right) r → SumStored work x (r .down % 256) work′
+        → DotsRun gray b end f₀ work₀ (x + 1) r work′
     run-more z e r work′ h k t st =
         let l = run .from in
         let d = subst (λ (i : ℤ). DotPassed f (grayOf gray x + natAbs i + f .right) r) e t in

@@ -6,7 +6,7 @@ use native.Mathlib.Omega.{arith}
 use denote.Ref.{now}
 use lib.ListN.{length}
 use Rattle.diffusion.specs.Internal.Flow.{BytesPassed}
-use Rattle.diffusion.proofs.RowBytes.{firstFlow, BytesRun, bytes-start, byte-lent, byte-small, byte-more}
+use Rattle.diffusion.proofs.RowBytes.{firstFlow, BytesRun, bytes-start, byte-lent, digits-byte, bytes-more}
 use Rattle.diffusion.proofs.row.bytes.Statement.{statement}
 use Rattle.diffusion.proofs.row.bytes.Tie as tie
 
@@ -50,7 +50,7 @@ cast-out c =
     let d = c .before .before in
     let e = d .before .before in
     let p = none-made (e .before) 0 refl in
-    omega (arith, byte-small _ _ 0 _ _ _ _ p _ _ (d .dots .ensures _ (p .at)))
+    omega (arith, digits-byte _ _ 0 _ _ _ _ p _ _ (d .dots .ensures _ (p .at)))
 
 slice-write-out : tie.Need-slice-write-out Inv-loop μ-loop
 slice-write-out c =
@@ -72,7 +72,7 @@ made l =
     let s = begun (e .before) in
     let p = none-made (e .before) 0 refl in
     l .loop .inv .passed (now (s .args .work)) (length (now (s .args .out)))
-    (byte-more _ _ 0 _ _ _ _ p _ _ (d .dots .ensures _ (p .at)) (some e) (omega (arith, some e, s .pre .1 .1 .room)))
+    (bytes-more _ _ 0 _ _ _ _ p _ _ (d .dots .ensures _ (p .at)) (some e) (omega (arith, some e, s .pre .1 .1 .room)))
 
 -- there are the dots of a byte more
 there : (l : tie.At-loop Inv-loop μ-loop) →
@@ -94,7 +94,7 @@ cast-out-2 : tie.Need-cast-out-2 Inv-loop μ-loop
 cast-out-2 c =
     let d = c .before .before in
     let l = d .before .before .before in
-    omega (arith, byte-small _ _ _ _ _ _ _ (made l) _ _ (d .eight .ensures _ (made l .at)))
+    omega (arith, digits-byte _ _ _ _ _ _ _ (made l) _ _ (d .eight .ensures _ (made l .at)))
 
 -- there is room for a byte more
 fits : (l : tie.At-loop Inv-loop μ-loop) → l .loop .j < (length (now (start l .args .gray)) - 1) / 8 → l .loop .j < length (l .loop .out)
@@ -130,7 +130,7 @@ loop-again c =
       to = omega (arith, t);
       passed = λ old room p.
           let q = v .passed old room p in
-          byte-more _ _ _ _ _ _ _ q _ _ (d .eight .ensures old (q .at)) (there l t) (omega (arith, fits l t, q .outLong));
+          bytes-more _ _ _ _ _ _ _ q _ _ (d .eight .ensures old (q .at)) (there l t) (omega (arith, fits l t, q .outLong));
     }
 
 same-length : tie.Need-same-length Inv-loop μ-loop

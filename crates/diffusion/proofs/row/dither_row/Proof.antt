@@ -5,7 +5,7 @@ use borrow.Author.Tests.{eqb-true}
 use lib.ListN.{length-set}
 use mir.Syntax.{w16}
 use mir.ValLaws.{toZ-pos}
-use Rattle.diffusion.proofs.RowEnds.{last-lent, byte-lt, byte-is, row-dithered}
+use Rattle.diffusion.proofs.RowEnds.{last-lent, shifted-small, shifted-is, row-dithered}
 use Rattle.diffusion.proofs.row.dither_row.Statement.{statement}
 use Rattle.diffusion.proofs.row.dither_row.Tie as tie
 
@@ -49,7 +49,7 @@ cast-out c =
     let b = filled d in
     let p = b .bytes .ensures in
     let q = d .dots .ensures _ (p .at) in
-    rw (byte-is _ _ _ (start b .pre .1 .1) _ _ _ p _ _ q) (record { fits = byte-lt _ _ _ (start b .pre .1 .1) _ _ _ p _ _ q })
+    rw (shifted-is _ _ _ (start b .pre .1 .1) _ _ _ p _ _ q) (record { fits = shifted-small _ _ _ (start b .pre .1 .1) _ _ _ p _ _ q })
 
 slice-write-out : tie.Need-slice-write-out
 slice-write-out c =
@@ -91,7 +91,7 @@ returns c =
     let p = b .bytes .ensures in
     let q = d .dots .ensures _ (p .at) in
     let l = s .pre .1 .1 in
-    row-dithered _ _ _ l _ _ _ p _ _ q _ _ (byte-is _ _ _ l _ _ _ p _ _ q) (toZ-pos w16 _ (omega arith)) _ (eqb-true _ 0)
+    row-dithered _ _ _ l _ _ _ p _ _ q _ _ (shifted-is _ _ _ l _ _ _ p _ _ q) (toZ-pos w16 _ (omega arith)) _ (eqb-true _ 0)
 
 pub dither-row-spec : {M : Type 1} → statement M
 dither-row-spec =

@@ -10,7 +10,7 @@ use lib.ListN.{getD}
 use mir.Syntax.{w16}
 use mir.Val.{toZ, ofZ}
 use mir.ValLaws.{toZ-ofZ}
-use Rattle.diffusion.proofs.DotStep.{sum-fits, parts-lt, index-lt, dot-passed}
+use Rattle.diffusion.proofs.DotStep.{sum-fits, parts-lt, index-in, dot-passed}
 use Rattle.diffusion.proofs.SumsCorrect.{part-small, rest-small}
 use Rattle.diffusion.proofs.row.dot.Statement.{statement}
 use Rattle.diffusion.proofs.row.dot.Tie as tie
@@ -22,7 +22,7 @@ abbrev index : tie.Start → ℕ
 index s = s .args .gray + natAbs (toZ w16 (ofZ w16 (s .args .sum))) + s .args .f .right
 
 below : (s : tie.Start) → index s < 512
-below s = let a = s .args in index-lt (now (a .rights)) (now (a .downs)) (a .f) (a .gray) _ (a .sum) (same s) (s .pre .1 .1) (omega arith)
+below s = let a = s .args in index-in (now (a .rights)) (now (a .downs)) (a .f) (a .gray) _ (a .sum) (same s) (s .pre .1 .1) (omega arith)
 
 entry : (s : tie.Start) → getD (now (s .args .downs)) (index s) 0 < 1069105
 entry s = omega (arith, s .pre .1 .0 (index s) (below s), parts-lt (index s) (below s))

@@ -1,22 +1,21 @@
 -- `diffusion::row::eight` meets its contract.
 -- Assumes nothing.
-use Prim.Native.Nat.{ℕ, _+_, _-_, _%_, _<_}
+use Prim.Native.Nat.{_+_, _-_, _<_}
 use mathlib.Core.Path.{_≡_, refl}
 use native.Mathlib.Nat.{add-zero}
 use native.Mathlib.Omega.{arith}
 use denote.Ref.{now}
-use lib.IntN.{ℤ, pos, natAbs}
+use lib.IntN.{pos}
 use lib.ListN.{length, getD}
 use mir.Syntax.{w16}
 use mir.Val.{toZ, ofZ}
 use mir.ValLaws.{toZ-ofZ, toZ-pos}
-use Rattle.diffusion.specs.Internal.Flow.{DotLent, DotPassed, DotsPassed}
-use Rattle.diffusion.proofs.RowGrows.{Run, begins, run-start, run-at, run-long, run-lent, run-more, run-end, stored-left}
+use Rattle.diffusion.proofs.RowGrows.{DotsRun, byte-begins, run-start, run-at, run-long, run-lent, run-more, run-end, sum-left}
 use Rattle.diffusion.proofs.row.eight.Statement.{statement}
 use Rattle.diffusion.proofs.row.eight.Tie as tie
 
 abbrev Inv-loop : tie.InvT-loop
-Inv-loop rights downs gray x work₀ s₀ i₀ work s i = Run gray x (x + 8) s₀ work₀ (x + i) s work
+Inv-loop rights downs gray x work₀ s₀ i₀ work s i = DotsRun gray x (x + 8) s₀ work₀ (x + i) s work
 
 abbrev μ-loop : tie.MeasureT-loop
 μ-loop rights downs gray x work₀ s₀ i₀ work s i = 8 - i
@@ -28,7 +27,7 @@ start l = l .before .before
 long : (l : tie.At-loop Inv-loop μ-loop) → length (l .loop .work) ≡ length (now (start l .args .work))
 long l =
     let p = start l .pre .1 .1 .0 in
-    run-long _ _ _ _ _ _ _ _ (l .loop .inv) (p .old) (begins _ _ _ _ _ (p .at))
+    run-long _ _ _ _ _ _ _ _ (l .loop .inv) (p .old) (byte-begins _ _ _ _ _ (p .at))
 
 in-row : (l : tie.At-loop Inv-loop μ-loop) → l .loop .i < 8 → start l .args .x + l .loop .i < length (now (start l .args .gray))
 in-row l h = omega (arith, start l .pre .1 .1 .0 .inRow)
@@ -67,7 +66,7 @@ dot-requires c κs =
       s .pre .0,
       (
         s .pre .1 .0,
-        run-lent _ _ _ _ _ _ _ _ (l .loop .inv) (p .old) (begins _ _ _ _ _ (p .at)) _ (same-sum c) (in-row l t) (omega (arith, t)),
+        run-lent _ _ _ _ _ _ _ _ (l .loop .inv) (p .old) (byte-begins _ _ _ _ _ (p .at)) _ (same-sum c) (in-row l t) (omega (arith, t)),
       ),
     )
 
@@ -105,13 +104,13 @@ loop-again c =
     let e : a .x + l .loop .i + 1 ≡ a .x + (l .loop .i + 1) = omega arith in
     run-at _ _ _ _ _ _ _ _ _ e
     (run-more _ _ _ _ _ _ _ _ (l .loop .inv) _ (same-sum (d .before)) _ _ (omega (arith, t)) (s .pre .1 .1 .0 .inRow) (d .dot .ensures)
-    (stored-left _ _ _ _ _ (omega (arith, s .pre .1 .1 .1)) (omega (arith, in-work l t)) (toZ-pos w16 _ (omega arith)) refl))
+    (sum-left _ _ _ _ _ (omega (arith, s .pre .1 .1 .1)) (omega (arith, in-work l t)) (toZ-pos w16 _ (omega arith)) refl))
 
 same-length : tie.Need-same-length Inv-loop μ-loop
 same-length c = long (c .before)
 
 returns : tie.Need-returns Inv-loop μ-loop
-returns c = λ old a. run-end _ _ _ _ _ _ _ _ (c .before .loop .inv) (omega (arith, c .loop-test .left)) old (begins _ _ _ _ _ a)
+returns c = λ old a. run-end _ _ _ _ _ _ _ _ (c .before .loop .inv) (omega (arith, c .loop-test .left)) old (byte-begins _ _ _ _ _ a)
 
 pub eight-spec : {M : Type 1} → statement M
 eight-spec =
