@@ -41,18 +41,28 @@ module _ (w h : ℕ) (gray out : List ℕ) (work : List ℤ) where
       ∙ ap (λ (t : Bool). leb (w * h) (length gray) && t) (and-false (leb (h * rowBytes w) (length out)))
       ∙ and-false (leb (w * h) (length gray)))
 
-  pub plane-served : w * h ≤ length gray → h * rowBytes w ≤ length out → w ≤ length work → (out′ : List ℕ) (work′ : List ℤ)
-      → RowsWritten w h gray out h out′ → drop w work′ ≡ drop w work → DitherPlane w h gray out work out′ work′
-  plane-served a b k out′ work′ r e =
-      let t : is ≡ true = ap₂ _&&_ (le-leb (w * h) (length gray) a) (ap₂ _&&_ (le-leb (h * rowBytes w) (length out) b) (le-leb w (length work) k)) in
-      record {
-        written =
-            sym (take-append-drop (h * rowBytes w) out′)
-            ∙ ap₂ _++_ (r .rows) (r .behind)
-            ∙ sym (if-true is _ _ t);
-        beyond = e;
-        unserved = λ f. zero-one (cc);
-      }
+  module _ (there : w * h ≤ length gray) (room : h * rowBytes w ≤ length out) (kept : w ≤ length work) where
+    is-served : served w h (length gray) (length out) (length work) ≡ true
+    is-served =
+        ap₂ _&&_ (le-leb (w * h) (length gray) there)
+        (ap₂ _&&_ (le-leb (h * rowBytes w) (length out) room) (le-leb w (length work) kept))
+
+    pub plane-served : (out′ : List ℕ) (work′ : List ℤ) → RowsWritten w h gray out h out′ → drop w work′ ≡ drop w work
+        → DitherPlane w h gray out work out′ work′
+    plane-served out′ work′ r e =
+        let t = is-served in
+        record {
+          written =
+              sym (take-append-drop (h * rowBytes w) out′)
+              ∙ ap₂ _++_ (r .rows) (r .behind)
+              ∙ sym (if-true is _ _ t);
+          beyond = e;
+          unserved = λ f. zero-one (cc);
+        }
+
+    pub plane-dithered : (out′ : List ℕ) (work′ : List ℤ) → DitherPlane w h gray out work out′ work′
+        → out′ ≡ plane w h (ditherBit w gray) ++ drop (h * rowBytes w) out
+    plane-dithered out′ work′ d = d .written ∙ if-true is _ _ is-served
 
 -- a plane without columns
 pub no-columns : (w h : ℕ) (gray out : List ℕ) → w ≡ 0 → RowsWritten w h gray out h out

@@ -1,23 +1,25 @@
 -- One frame's bytes as a plane of dots, each by its sample's number: what a plane that is written at once has to hold.
 -- Assumes nothing.
 use Prim.Native.Nat.{ℕ, _+_, _*_, _/_, _%_, _≤_, _<_}
-use mathlib.Core.Path.{_≡_, refl, sym, ap, _∙_, fun-ext}
+use mathlib.Core.Path.{_≡_, refl, sym, ap, _∙_, fun-ext, subst}
 use mathlib.Core.Logic.{⊎-elim}
 use mathlib.Core.List.{List, _++_}
-use native.Mathlib.Nat.{div-lt-iff-lt-mul, div-eq-of-lt, mod-eq-of-lt}
+use native.Mathlib.Nat.{div-lt-iff-lt-mul, div-eq-of-lt, mod-eq-of-lt, mul-comm}
 use native.Mathlib.Omega.{arith}
+use borrow.Author.Tests.{leb-true}
 use lib.IntN.{ℤ}
 use lib.ListN.{length, getD, take, drop, take-append-drop}
 use lib.Seq.{length-take-le}
-use Rattle.error.specs.Answer.{gives}
+use Rattle.error.specs.Answer.{Answer, gives}
 use Rattle.laws.proofs.Products.{up-to}
+use Rattle.laws.proofs.Tests.{zero-one}
 use Rattle.image.specs.Geometry.{rowBytes}
 use Rattle.options.specs.declared.Quantize.{Quantize}
 use Rattle.options.specs.declared.Quantize.the-variants.{Threshold, Dither}
 use Rattle.rules.specs.Bits.{upto, bit}
 use Rattle.rules.specs.Diffusion.{white, valueAt}
 use Rattle.rules.specs.Internal.Kernels.{thresholdBit}
-use Rattle.rules.specs.Internal.Planes.{planeIn}
+use Rattle.rules.specs.Internal.Planes.{planeIn, ditherBit}
 use Rattle.rules.specs.Rule.{rightwards, dot}
 use Rattle.quantize.specs.Finished.{Setting, count, frame, dotOf, finished, setting}
 use Rattle.quantize.specs.Whole.{refusedBy, Quantizes}
@@ -26,6 +28,9 @@ use Rattle.laws.proofs.Tests.{lt-or-le}
 use Rattle.rules.proofs.DigitsAppended.{appended-ext}
 use Rattle.rules.proofs.UptoList.{upto-ext}
 use Rattle.rules.proofs.PlaneBytes.{bit-in, bit-past}
+use Rattle.rules.proofs.PlaneWritten.{plane-in}
+use Rattle.diffusion.specs.Internal.Rows.{DitherPlane}
+use Rattle.diffusion.proofs.PlaneServed.{plane-dithered}
 use Rattle.quantize.proofs.DotsDepend.{place-of, byte-counted}
 use Rattle.quantize.proofs.WholePlanes.{count-all, passed, quantizes-plane}
 
@@ -104,3 +109,23 @@ dither-plane w h gray wide high enough =
     (λ n l.
     let q : n / w < h = div-lt-iff-lt-mul wide .1 l in
     rw (div-eq-of-lt q, mod-eq-of-lt q, frame-first w h gray))
+
+pub quantizes-dither : (w h : ℕ) (gray out : List ℕ) (work : List ℤ) → 0 ≡ refusedBy Dither w h (length gray) (length work) → rowBytes w * h ≤ length out
+    → (out′ : List ℕ) (work′ : List ℤ) → DitherPlane w h gray out work out′ work′ → Quantizes Dither w h gray out work (gives (rowBytes w * h)) out′ work′
+quantizes-dither w h gray out work e l out′ work′ d =
+    let p = passed Dither w h (length gray) (length work) e in
+    let m = mul-comm (rowBytes w) h in
+    let k : 2 * w ≤ length work = leb-true (2 * w) (length work) (p .room) in
+    quantizes-plane Dither w h gray out work 0 e refl l (ditherBit w gray) out′ work′ (dither-plane w h gray (p .wide) (p .high) (p .enough))
+    (plane-dithered w h gray out work (p .enough) (omega arith) (omega arith) out′ work′ d
+    ∙ sym (plane-in w h (ditherBit w gray) (length gray) out (p .enough, omega arith)))
+    (d .beyond) (λ f. zero-one (cc))
+
+-- what is asked and promised of the rule by its name
+pub dither-accepted : (rule : Quantize) (w h gray work out : ℕ) → rule ≡ Dither → {code : ℕ} → code ≡ refusedBy rule w h gray work → code ≡ 0
+    → rowBytes w * h ≤ out → (0 ≡ refusedBy Dither w h gray work) × (rowBytes w * h ≤ out)
+dither-accepted rule w h gray work out r e z l = (subst (λ (q : Quantize). 0 ≡ refusedBy q w h gray work) r (sym z ∙ e), l)
+
+pub quantizes-as : (rule : Quantize) (w h : ℕ) (gray out : List ℕ) (work : List ℤ) (r : Answer ℕ) (out′ : List ℕ) (work′ : List ℤ) → rule ≡ Dither
+    → Quantizes Dither w h gray out work r out′ work′ → Quantizes rule w h gray out work r out′ work′
+quantizes-as rule w h gray out work r out′ work′ e q = subst (λ (d : Quantize). Quantizes d w h gray out work r out′ work′) (sym e) q

@@ -2,6 +2,7 @@
 use crate::asked::known_rule;
 use crate::asked::roomy;
 use crate::engine::Quantizer;
+use diffusion::dither_plane;
 use error::BUFFER_TOO_SHORT;
 use error::GRAY_TOO_SHORT;
 use error::OUTPUT_TOO_SHORT;
@@ -60,6 +61,37 @@ fn engine_plane(
     Written::Bytes(r.written)
 }
 
+// Whether there are few samples and a gray one among them: the engine dithers these before the tables of `dither_plane` are bound.
+fn few_grays(area: usize, gray: &[u8]) -> bool {
+    if 32 < area {
+        return false;
+    }
+    if gray.len() < area {
+        return false;
+    }
+    let mut i: usize = 0;
+    while i < area {
+        if gray[i] % 255 != 0 {
+            return true;
+        }
+        i += 1;
+    }
+    false
+}
+
+// The dithered plane, where nothing is refused and there is room for it.
+fn dithered_plane(width: u32, height: u32, gray: &[u8], work: &mut [i16], out: &mut [u8]) -> Written
+    requires { ⌜ (0 ≡ refusedBy Dither width height (length (now gray)) (length (now work))) × (planeBytes width height ≤ length (now out)) ⌝ }
+    ensures { λ r. ⌜ Quantizes Dither width height (now (gray .entry)) (now (out .entry)) (now (work .entry)) (written r) (now (out .exit)) (now (work .exit)) ⌝ }
+{
+    let area = width as usize * height as usize;
+    if few_grays(area, gray) {
+        return engine_plane(width, height, gray, Quantize::Dither, work, out);
+    }
+    dither_plane(width, height, gray, work, out);
+    Written::Bytes((width as usize + 7) / 8 * height as usize)
+}
+
 // Packs width × height gray samples into the plane's rows, at the front of the lent output.
 pub fn quantize_gray8(
     width: u32,
@@ -87,7 +119,7 @@ pub fn quantize_gray8(
             threshold_plane(bound, width, height, gray, out);
             Written::Bytes(need)
         }
-        Quantize::Dither => engine_plane(width, height, gray, rule, work, out),
+        Quantize::Dither => dithered_plane(width, height, gray, work, out),
         Quantize::Ordered(_) => engine_plane(width, height, gray, rule, work, out),
     }
 }

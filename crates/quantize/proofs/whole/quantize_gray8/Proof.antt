@@ -2,8 +2,10 @@
 -- Assumes nothing.
 use Prim.Native.Nat.{_+_, _/_}
 use native.Mathlib.Omega.{arith}
+use denote.Ref.{now}
+use lib.ListN.{length}
 use Rattle.laws.proofs.Products.{product-below}
-use Rattle.quantize.proofs.PlaneFinished.{quantizes-threshold}
+use Rattle.quantize.proofs.PlaneFinished.{quantizes-threshold, dither-accepted, quantizes-as}
 use Rattle.quantize.proofs.WholePlanes.{quantizes-refused, quantizes-short}
 use borrow.Author.Needs.{needs}
 use Rattle.quantize.proofs.whole.quantize_gray8.Statement.{statement}
@@ -33,14 +35,20 @@ threshold-plane-requires c κs = search needs
 enum-told : tie.Need-enum-told
 enum-told c = search needs
 
-engine-plane-requires : tie.Need-engine-plane-requires
-engine-plane-requires c κs = search needs
+dithered-plane-requires : tie.Need-dithered-plane-requires
+dithered-plane-requires c κs =
+    let e = c .before .before in
+    let m = e .before .before in
+    let g = m .before in
+    let a = g .before .before .before .before .args in
+    dither-accepted (a .rule) (a .width) (a .height) (length (now (a .gray))) (length (now (a .work))) (length (now (a .out)))
+    (e .enum-told .given .1) (g .before .refused .ensures) (g .if1 .left) (m .if2 .left)
 
 enum-told-2 : tie.Need-enum-told-2
 enum-told-2 c = search needs
 
-engine-plane-requires-2 : tie.Need-engine-plane-requires-2
-engine-plane-requires-2 c κs = search needs
+engine-plane-requires : tie.Need-engine-plane-requires
+engine-plane-requires c κs = search needs
 
 same-length : tie.Need-same-length
 same-length c = search needs
@@ -60,7 +68,10 @@ same-length-3 : tie.Need-same-length-3
 same-length-3 c = search needs
 
 returns-4 : tie.Need-returns-4
-returns-4 c = search needs
+returns-4 c =
+    let p = c .before .before .before in
+    let e = p .before .before .before in
+    quantizes-as _ _ _ _ _ _ _ _ _ (e .enum-told .given .1) (p .dithered-plane .ensures)
 
 same-length-4 : tie.Need-same-length-4
 same-length-4 c = search needs
@@ -83,9 +94,9 @@ quantize-gray8-spec =
     enum-known-rule
     threshold-plane-requires
     enum-told
-    engine-plane-requires
+    dithered-plane-requires
     enum-told-2
-    engine-plane-requires-2
+    engine-plane-requires
     same-length
     returns-3
     same-length-2
