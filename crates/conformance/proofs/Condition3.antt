@@ -71,7 +71,7 @@ module _ {a : Making.Opening} {header : List ℕ} {cs : List Making.Call} {rs : 
       let p = tests in
       let rule = a .options .quantize in
       made-is 16 (a .options) (a .width) (a .height) k scans (a .text) (a .lengths) work header
-      (passes 16 rule (a .width) (a .height) k (length scans) work
+      (passes 16 (a .options) (a .width) (a .height) k (length scans) work
       (record {
         sized = record { wide = p .wide; high = p .high; some = some; few = most };
         known = p .known;

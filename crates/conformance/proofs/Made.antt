@@ -43,8 +43,8 @@ module _ (ceiling : ℕ) (o : EncodeOptions) (width height count : ℕ) (gray te
   pub passed : fileOfScans ceiling o width height count gray text lengths work ≡ gives bytes → Passed
   unfolding fileOfScans
   passed e =
-      let p = bind-gives (checkScans ceiling (o .quantize) width height count (length gray) work) _ bytes e in
-      record { tests = scans-passed ceiling (o .quantize) width height count (length gray) work (p .1); file = p .2 }
+      let p = bind-gives (checkScans ceiling o width height count (length gray) work) _ bytes e in
+      record { tests = scans-passed ceiling o width height count (length gray) work (p .1); file = p .2 }
 
 -- the planes of so many scans
 module _ (rule : Quantize) (width height : ℕ) (gray : List ℕ) (wide : 0 < width) (high : 0 < height) (count : ℕ)
@@ -81,7 +81,7 @@ module _ (rule : Quantize) (width height : ℕ) (gray : List ℕ) (wide : 0 < wi
 
 -- Making gives the header and the bytes that the samples of all scans finish.
 pub made-is : (ceiling : ℕ) (o : EncodeOptions) (width height count : ℕ) (gray text lengths : List ℕ) (work : ℕ) (header : List ℕ)
-    → checkScans ceiling (o .quantize) width height count (length gray) work ≡ gives tt
+    → checkScans ceiling o width height count (length gray) work ≡ gives tt
     → extHeader (o .strict) width height (o .ext) text lengths ≡ gives header
     → fileOfScans ceiling o width height count gray text lengths work
     ≡ gives (header ++ finished (setting (o .quantize) width height count) (take (count * (width * height)) gray))

@@ -222,13 +222,13 @@ planes-surplus : (w h stride : ℕ) (f : PixelFormat) (planes rest : List ℕ) (
 planes-surplus = Planes.surplus-ignored
 
 scans-surplus : (ceiling : ℕ) (o : EncodeOptions) (w h n : ℕ) (gray rest text lengths : List ℕ) (work : ℕ)
-    → checkScans ceiling (o .quantize) w h n (length gray) work ≡ gives tt
+    → checkScans ceiling o w h n (length gray) work ≡ gives tt
     → fileOfScans ceiling o w h n (gray ++ rest) text lengths work ≡ fileOfScans ceiling o w h n gray text lengths work
 scans-surplus = Scans.surplus-ignored
 
 -- Whole making gives the header and the bytes that the samples of all scans finish.
 made-whole : (ceiling : ℕ) (o : EncodeOptions) (w h n : ℕ) (gray text lengths : List ℕ) (work : ℕ) (header : List ℕ)
-    → checkScans ceiling (o .quantize) w h n (length gray) work ≡ gives tt → extHeader (o .strict) w h (o .ext) text lengths ≡ gives header
+    → checkScans ceiling o w h n (length gray) work ≡ gives tt → extHeader (o .strict) w h (o .ext) text lengths ≡ gives header
     → fileOfScans ceiling o w h n gray text lengths work
     ≡ gives (header ++ finished (setting (o .quantize) w h n) (take (n * (w * h)) gray))
 made-whole = made-is

@@ -51,7 +51,7 @@ module _ (a : Opening) (work : ℕ) where
   unfolding header
   header-is =
       ap (λ (r : Answer (List ℕ)). if (eqb (a .width) 0 || eqb (a .height) 0) (refuses 8 0) r)
-      (asked-if (a .options .quantize) (λ (rule : Rule). if (roomy rule (a .width) work) fields (refuses 28 0)))
+      (asked-if (a .options) (λ (rule : Rule). if (roomy rule (a .width) work) fields (refuses 28 0)))
 
   pub no-width : a .width ≡ 0 → header a work ≡ refuses 8 0
   unfolding header

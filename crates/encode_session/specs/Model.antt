@@ -36,7 +36,7 @@ serves a work = roomy (meaning (a .options .quantize)) (a .width) work
 unfoldable pub header : Opening → ℕ → Answer (List ℕ)
 header a work =
     if (eqb (a .width) 0 || eqb (a .height) 0) (refuses 8 0)
-    (bind (ruleAsked (a .options .quantize))
+    (bind (ruleAsked (a .options))
     (λ rule. if (roomy rule (a .width) work)
     (extHeader (a .options .strict) (a .width) (a .height) (a .options .ext) (a .text) (a .lengths))
     (refuses 28 0)))

@@ -120,7 +120,7 @@ planes-fit start body planes mid e h = rw (mid-len start (length mid) mid (omega
 -- what the tests refuse
 pub untested-left : (o : EncodeOptions) (w h n : ℕ) (gray text lengths : List ℕ) (work : List ℤ) (out : List ℕ) (b : PairsBegun)
     (x : WbmpError)
-    → b .to ≡ length out → b .answer ≡ Written.Refused x → checkScans 16 (o .quantize) w h n (length gray) (length work) ≡ refusal x
+    → b .to ≡ length out → b .answer ≡ Written.Refused x → checkScans 16 o w h n (length gray) (length work) ≡ refusal x
     → Left (o .strict) text lengths out b (λ out′. Makes 16 o w h n gray text lengths out work (written (b .answer)) out′ work)
 untested-left o w h n gray text lengths work out b x t f e =
     none-left t (subst (λ (r : Written). Makes 16 o w h n gray text lengths out work (written r) out work) (sym f)
@@ -165,7 +165,7 @@ module _ (o : EncodeOptions) (w h : ℕ) (text lengths out : List ℕ) (body : �
 
 -- Scans that passed the tests.
 module _ (o : EncodeOptions) (w h n : ℕ) (gray text lengths : List ℕ) (work : List ℤ)
-    (e : checkScans 16 (o .quantize) w h n (length gray) (length work) ≡ gives tt)
+    (e : checkScans 16 o w h n (length gray) (length work) ≡ gives tt)
     (out : List ℕ) (body : ℕ) (size : body ≡ n * planeBytes w h) (mid : List ℕ) (b b′ : PairsBegun) (t : b′ .to ≡ b .to) where
   pub made-left : (start : ℕ) (last : List ℕ) (work′ : List ℤ) → written (b .answer) ≡ gives start
       → written (b′ .answer) ≡ gives (start + body) → start ≤ length mid

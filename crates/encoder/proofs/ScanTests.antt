@@ -9,6 +9,7 @@ use lib.Dec.{ltb}
 use Rattle.error.specs.Choice.{if}
 use Rattle.error.specs.Answer.{Answer, gives, refuses, bind}
 use Rattle.laws.proofs.Tests.{zero-one}
+use Rattle.options.specs.declared.EncodeOptions.{EncodeOptions}
 use Rattle.options.specs.declared.Quantize.{Quantize}
 use Rattle.rules.specs.Rule.{Rule, meaning, roomy, knownRule, ruleAsked}
 use Rattle.rules.proofs.RuleAsked.{asked-if}
@@ -27,9 +28,12 @@ pub record Passed (ceiling : ℕ) (rule : Quantize) (w h n gray work : ℕ) : Ty
 abbrev tests : Bool → Bool → Bool → Answer (Unit {0})
 tests known room short = if known (if room (if short (refuses 22 0) (gives tt)) (refuses 28 0)) (refuses 29 0)
 
-module _ (ceiling : ℕ) (rule : Quantize) (w h n gray work : ℕ) where
+module _ (ceiling : ℕ) (o : EncodeOptions) (w h n gray work : ℕ) where
+  abbrev rule : Quantize
+  rule = o .quantize
+
   abbrev scans : Answer (Unit {0})
-  scans = checkScans ceiling rule w h n gray work
+  scans = checkScans ceiling o w h n gray work
 
   abbrev rest : Answer (Unit {0})
   rest = tests (knownRule rule) (roomy (meaning rule) w work) (ltb gray (n * (w * h)))
@@ -37,8 +41,8 @@ module _ (ceiling : ℕ) (rule : Quantize) (w h n gray work : ℕ) where
   by-count : (a : Answer (Unit {0})) → checkCount ceiling w h n ≡ a → scans ≡ bind a (λ _. rest)
   unfolding checkScans
   by-count a e =
-      ap (λ (a : Answer (Unit {0})). bind a (λ _. bind (ruleAsked rule) behind)) e
-      ∙ ap (λ (r : Answer (Unit {0})). bind a (λ _. r)) (asked-if rule behind)
+      ap (λ (a : Answer (Unit {0})). bind a (λ _. bind (ruleAsked o) behind)) e
+      ∙ ap (λ (r : Answer (Unit {0})). bind a (λ _. r)) (asked-if o behind)
     where
       behind : Rule → Answer (Unit {0})
       behind asked = if (roomy asked w work) (if (ltb gray (n * (w * h))) (refuses 22 0) (gives tt)) (refuses 28 0)

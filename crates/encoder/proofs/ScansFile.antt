@@ -21,7 +21,7 @@ use Rattle.encoder.proofs.ScanTests.{Passed, passed}
 
 module _ (o : EncodeOptions) (w h n : ℕ) (gray text lengths : List ℕ) (work : List ℤ) where
   abbrev tests : Answer (Unit {0})
-  tests = checkScans 16 (o .quantize) w h n (length gray) (length work)
+  tests = checkScans 16 o w h n (length gray) (length work)
 
   abbrev file : Answer (List ℕ)
   file = fileOfScans 16 o w h n gray text lengths (length work)
@@ -51,7 +51,7 @@ module _ (o : EncodeOptions) (w h n : ℕ) (gray text lengths : List ℕ) (work 
 
   module _ (e : tests ≡ gives tt) where
     abbrev p : Passed 16 (o .quantize) w h n (length gray) (length work)
-    p = passed 16 (o .quantize) w h n (length gray) (length work) e
+    p = passed 16 o w h n (length gray) (length work) e
 
     body-long : length bytes ≡ n * planeBytes w h
     body-long = scans-long (o .quantize) w h gray (p .sized .wide) (p .sized .high) n (p .enough)

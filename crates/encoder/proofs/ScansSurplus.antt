@@ -14,6 +14,7 @@ use Rattle.ext.specs.declared.ExtFieldType.the-variants.{Bitfield00}
 use Rattle.header.specs.Write.{extHeader}
 use Rattle.header.specs.declared.ExtPresence.the-variants.{Absent, Present}
 use Rattle.options.specs.declared.EncodeOptions.{EncodeOptions}
+use Rattle.options.specs.declared.Quantize.{Quantize}
 use Rattle.options.specs.declared.Quantize.the-variants.{Threshold, Dither, Ordered}
 use Rattle.rules.specs.Bits.{upto, appended}
 use Rattle.rules.specs.Diffusion.{part, value, white, residual, valueFrom, handed, rowValue, above, valueAt}
@@ -25,26 +26,30 @@ use Rattle.encoder.proofs.ScanTests.{passed, passes}
 
 -- "Surplus is ignored": samples behind the last scan change nothing
 pub surplus-ignored : (ceiling : ℕ) (o : EncodeOptions) (w h n : ℕ) (gray ρ text lengths : List ℕ) (work : ℕ)
-    → checkScans ceiling (o .quantize) w h n (length gray) work ≡ gives tt
+    → checkScans ceiling o w h n (length gray) work ≡ gives tt
     → fileOfScans ceiling o w h n (gray ++ ρ) text lengths work ≡ fileOfScans ceiling o w h n gray text lengths work
 unfolding fileOfScans
 surplus-ignored ceiling o w h n gray ρ text lengths work tests =
-    let p = passed ceiling (o .quantize) w h n (length gray) work tests in
+    let p = passed ceiling o w h n (length gray) work tests in
     let l = length-append gray ρ in
-    let more : checkScans ceiling (o .quantize) w h n (length (gray ++ ρ)) work ≡ gives tt =
-    passes ceiling (o .quantize) w h n (length (gray ++ ρ)) work
+    let more : checkScans ceiling o w h n (length (gray ++ ρ)) work ≡ gives tt =
+    passes ceiling o w h n (length (gray ++ ρ)) work
     (record { sized = p .sized; known = p .known; room = p .room; enough = omega (arith, p .enough) }) in
     rw (more, tests, take-append-le (n * (w * h)) gray ρ (p .enough))
 
 -- ---- two scans of two samples, P8's and a lighter one: the second starts clean
 
+-- a rule without fields
+abbrev ruled : Quantize → EncodeOptions
+ruled rule = record { quantize = rule; ext = Absent; strict = false }
+
 abbrev dithering : EncodeOptions
-dithering = record { quantize = Dither; ext = Absent; strict = false }
+dithering = ruled Dither
 
 abbrev scans : List ℕ
 scans = 127 ∷ 128 ∷ 128 ∷ 128 ∷ 255 ∷ []
 
-two-tested : checkScans 16 Dither 2 1 2 5 4 ≡ gives tt
+two-tested : checkScans 16 dithering 2 1 2 5 4 ≡ gives tt
 unfolding checkScans
 two-tested = refl
 
@@ -70,24 +75,24 @@ two-short old e = rw (two-made, e)
 
 -- ---- "Whole making: 8, 21, 29, 28, 22, fields", each before the next
 
-size-first : checkScans 16 (Ordered 3) 0 1 0 0 0 ≡ refuses 8 0
+size-first : checkScans 16 (ruled (Ordered 3)) 0 1 0 0 0 ≡ refuses 8 0
 unfolding checkScans
 size-first = refl
 
-then-count : checkScans 16 (Ordered 3) 1 1 17 0 0 ≡ refuses 21 0
+then-count : checkScans 16 (ruled (Ordered 3)) 1 1 17 0 0 ≡ refuses 21 0
 unfolding checkScans
 then-count = refl
 
-then-rule : checkScans 16 (Ordered 3) 1 1 16 0 0 ≡ refuses 29 0
+then-rule : checkScans 16 (ruled (Ordered 3)) 1 1 16 0 0 ≡ refuses 29 0
 unfolding checkScans
 then-rule = refl
 
-then-work : checkScans 16 Dither 2 1 16 0 3 ≡ refuses 28 0
+then-work : checkScans 16 dithering 2 1 16 0 3 ≡ refuses 28 0
 unfolding checkScans
 then-work = refl
 
 -- a total past 64 bits is too short
-then-gray : checkScans 16 (Threshold 0) (2 ^ 32 - 1) (2 ^ 32 - 1) 16 (2 ^ 64 - 1) 0 ≡ refuses 22 0
+then-gray : checkScans 16 (ruled (Threshold 0)) (2 ^ 32 - 1) (2 ^ 32 - 1) 16 (2 ^ 64 - 1) 0 ≡ refuses 22 0
 unfolding checkScans
 then-gray = refl
 

@@ -17,10 +17,10 @@ use Rattle.quantize.specs.Finished.{setting, finished}
 use Rattle.encoder.specs.File.{checkCount, fileOf}
 
 -- "Whole making: 8, 21, 29, 28, 22", of so many samples and numbers of work
-unfoldable pub checkScans : ℕ → Quantize → ℕ → ℕ → ℕ → ℕ → ℕ → Answer (Unit {0})
-checkScans ceiling rule width height count gray work =
+unfoldable pub checkScans : ℕ → EncodeOptions → ℕ → ℕ → ℕ → ℕ → ℕ → Answer (Unit {0})
+checkScans ceiling o width height count gray work =
     bind (checkCount ceiling width height count)
-    (λ _. bind (ruleAsked rule)
+    (λ _. bind (ruleAsked o)
     (λ asked. if (roomy asked width work)
     (if (ltb gray (count * (width * height))) (refuses 22 0) (gives tt))
     (refuses 28 0)))
@@ -32,7 +32,7 @@ scanBytes rule width height gray count = finished (setting rule width height cou
 -- the file of the lent scans
 unfoldable pub fileOfScans : ℕ → EncodeOptions → ℕ → ℕ → ℕ → List ℕ → List ℕ → List ℕ → ℕ → Answer (List ℕ)
 fileOfScans ceiling o width height count gray text lengths work =
-    bind (checkScans ceiling (o .quantize) width height count (length gray) work)
+    bind (checkScans ceiling o width height count (length gray) work)
     (λ _. fileOf o width height text lengths (scanBytes (o .quantize) width height gray count))
 
 -- the file or the refusal; a work buffer is altered by a rule that keeps carries alone, where nothing is refused, in its first `width`

@@ -11,7 +11,6 @@ use ext_write::PairsBegun;
 use ext_write::Parameter;
 use image::PlaneLayout;
 use options::EncodeOptions;
-use options::Quantize;
 ghost use Rattle.options.specs.Settings.{madeFrames};
 ghost use mathlib.Core.Path.{_≡_};
 ghost use Prim.Native.Nat.{_*_, _≤_};
@@ -35,12 +34,13 @@ fn check_scans(
     width: u32,
     height: u32,
     count: usize,
-    rule: Quantize,
+    options: EncodeOptions,
     gray: usize,
     work: usize,
 ) -> Checked
-    ensures { λ r. ⌜ checked r ≡ checkScans madeFrames rule width height count gray work ⌝ }
+    ensures { λ r. ⌜ checked r ≡ checkScans madeFrames options width height count gray work ⌝ }
 {
+    let rule = options.quantize;
     let counted = check_count(width, height, count);
     let Checked::Accepted = counted else {
         return counted;
@@ -59,14 +59,15 @@ fn check_scans(
 }
 
 // The planes of scans that passed the test, each in its own stretch of the lent output.
-fn put_scans(scans: Scans, gray: &[u8], rule: Quantize, work: &mut [i16], out: &mut [u8])
+fn put_scans(scans: Scans, gray: &[u8], options: EncodeOptions, work: &mut [i16], out: &mut [u8])
     requires { ⌜ Laid (scans .layout) ⌝ }
-    requires { ⌜ checkScans madeFrames rule (scans .layout .width) (scans .layout .height) (scans .count) (length (now gray))
+    requires { ⌜ checkScans madeFrames options (scans .layout .width) (scans .layout .height) (scans .count) (length (now gray))
         (length (now work)) ≡ gives tt ⌝ }
     requires { ⌜ scans .count * planeBytes (scans .layout .width) (scans .layout .height) ≤ length (now out) ⌝ }
-    ensures { λ r. ⌜ PutsScans rule (scans .layout .width) (scans .layout .height) (scans .count) (now (gray .entry)) (now (out .entry))
+    ensures { λ r. ⌜ PutsScans (options .quantize) (scans .layout .width) (scans .layout .height) (scans .count) (now (gray .entry)) (now (out .entry))
         (now (work .entry)) (now (out .exit)) (now (work .exit)) ⌝ }
 {
+    let rule = options.quantize;
     let width = scans.layout.width;
     let height = scans.layout.height;
     let plane = scans.layout.total_bytes;
@@ -92,12 +93,11 @@ fn begin_made(
     out: &mut [u8],
 ) -> PairsBegun
     requires { ⌜ Laid (scans .layout) ⌝ }
-    requires { ⌜ checkScans madeFrames (options .quantize) (scans .layout .width) (scans .layout .height) (scans .count)
+    requires { ⌜ checkScans madeFrames options (scans .layout .width) (scans .layout .height) (scans .count)
         (length (now gray)) (length (now work)) ≡ gives tt ⌝ }
     ensures { λ r. ⌜ BeginsMade (scans .layout .width) (scans .layout .height) (scans .count) (now (gray .entry)) options
         (now (text .entry)) found (now (work .entry)) (now (work .exit)) (now (out .entry)) (now (out .exit)) r ⌝ }
 {
-    let rule = options.quantize;
     let width = scans.layout.width;
     let height = scans.layout.height;
     let plane = scans.layout.total_bytes;
@@ -108,7 +108,7 @@ fn begin_made(
     let answer = begun.answer;
     match answer {
         Written::Bytes(start) => {
-            put_scans(scans, gray, rule, work, &mut out[start..]);
+            put_scans(scans, gray, options, work, &mut out[start..]);
             let end = start + body;
             PairsBegun {
                 to,
@@ -137,10 +137,9 @@ fn begin_gray8(
     ensures { λ r. ⌜ BeginsMade width height count (now (gray .entry)) options (now (text .entry)) found (now (work .entry))
         (now (work .exit)) (now (out .entry)) (now (out .exit)) r ⌝ }
 {
-    let rule = options.quantize;
     let layout = PlaneLayout::new(width, height);
     let scans = Scans { layout, count };
-    match check_scans(width, height, count, rule, gray.len(), work.len()) {
+    match check_scans(width, height, count, options, gray.len(), work.len()) {
         Checked::Accepted => begin_made(scans, gray, options, text, found, work, out),
         Checked::Refused(e) => PairsBegun {
             to: out.len(),

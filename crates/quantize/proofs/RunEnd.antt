@@ -18,7 +18,7 @@ use Rattle.quantize.specs.declared.turn.Place.{Place}
 use Rattle.rules.specs.Rule.{Rule, meaning, knownRule, roomy}
 use Rattle.quantize.specs.Finished.{Setting, Bytewise, count, finished, takes}
 use Rattle.quantize.specs.Internal.Machine.{State, carried, emitted}
-use Rattle.quantize.specs.Internal.Turn.{stateOf, ruleOf, Sound, Shares, Served}
+use Rattle.quantize.specs.Internal.Turn.{stateOf, ruleOf, Sound, SamplesForByte, Served}
 use Rattle.quantize.specs.Internal.Engine.{Stands, Keeps, Holds, Counts, Machines, Defined, Ready, Runs, ranTo}
 use Rattle.rules.proofs.HeldRange.{Held}
 use Rattle.quantize.proofs.DotsByRule.{roomy-same}
@@ -166,7 +166,7 @@ module _ (q : Quantizer) (samples out : List ℕ) (work : List ℤ) (out′ : Li
     machine-are = record { bytes = sym (take-append-drop written out′) ∙ rw (← P .emits, L .past); keeps = P .keeps }
 
   -- no sample goes into the begun byte, in a row that is finished byte after byte
-  pub full-byte : (m : ℕ) → 0 < p .frames → Bytewise (ruleOf (q .rule) (q .table)) (p .row) → Shares (q .width) (p .column) (length samples - taken) (length out′ - written) m → m ≡ 0 → Full q samples out p taken
+  pub full-byte : (m : ℕ) → 0 < p .frames → Bytewise (ruleOf (q .rule) (q .table)) (p .row) → SamplesForByte (q .width) (p .column) (length samples - taken) (length out′ - written) m → m ≡ 0 → Full q samples out p taken
   full-byte m left b sh z s n t =
       let f = L .takenFits in
       let o = L .outLong in

@@ -10,7 +10,7 @@ use borrow.Author.Tests.{le-leb, lt-leb}
 use lib.Dec.{leb}
 use Rattle.options.specs.declared.Quantize.{Quantize}
 use Rattle.rules.specs.Rule.{meaning, knownRule, roomy}
-use Rattle.quantize.specs.Internal.Turn.{Served, Sound, Able}
+use Rattle.quantize.specs.Internal.Turn.{Served, Sound, CanTake}
 use Rattle.laws.proofs.Tests.{lt-or-le}
 use Rattle.rules.proofs.Signed.{never}
 
@@ -30,7 +30,7 @@ div-zero n m p e =
     omega arith
 
 module _ {rule : Quantize} {w h row column begun corner work : ℕ} where
-  pub denied : (Sound rule w h row column begun corner work → ⊥) → Able rule w h row column begun corner work false
+  pub denied : (Sound rule w h row column begun corner work → ⊥) → CanTake rule w h row column begun corner work false
   denied f = record { yes = λ e. never e; no = λ e s. f s }
 
   module _ (p : column < w) (q : row < h) (r : corner ≤ 256) (t : begun < 2 ^ (column % 8)) where
@@ -38,5 +38,5 @@ module _ {rule : Quantize} {w h row column begun corner work : ℕ} where
     sound s = record { inRow = p; inFrame = q; cornerSmall = r; begunSmall = t; served = s }
 
     -- the rule is known, and b says whether the buffer is long enough
-    pub able-if : (b : Bool) → knownRule rule ≡ true → b ≡ roomy (meaning rule) w work → Able rule w h row column begun corner work b
-    able-if b k e = record { yes = λ f. sound (record { known = k; room = sym e ∙ f }); no = λ f s. never (sym f ∙ e ∙ s .served .room) }
+    pub can-take-if : (b : Bool) → knownRule rule ≡ true → b ≡ roomy (meaning rule) w work → CanTake rule w h row column begun corner work b
+    can-take-if b k e = record { yes = λ f. sound (record { known = k; room = sym e ∙ f }); no = λ f s. never (sym f ∙ e ∙ s .served .room) }

@@ -13,7 +13,7 @@ use Rattle.quantize.specs.declared.engine.Quantizer.{Quantizer}
 use Rattle.quantize.specs.declared.turn.Advanced.{Advanced}
 use Rattle.quantize.specs.declared.turn.Place.{Place}
 use Rattle.quantize.specs.Finished.{Bytewise}
-use Rattle.quantize.specs.Internal.Turn.{ruleOf, Shares, Advances, Taking, Takes}
+use Rattle.quantize.specs.Internal.Turn.{ruleOf, SamplesForByte, Advances, Taking, Takes}
 use Rattle.laws.proofs.Tests.{lt-or-le}
 use Rattle.rules.proofs.ListPiece.{piece, piece-at, piece-length}
 use Rattle.quantize.proofs.TurnMoves.{turn-on, turn-byte}
@@ -24,17 +24,17 @@ pub piece-same : (samples : List ℕ) (taken m i : ℕ) → i < m → getD (drop
 piece-same samples taken m i h = getD-drop taken samples i 0 ∙ piece-at samples taken m i h
 
 module _ (q : Quantizer) (samples out₀ : List ℕ) (work₀ : List ℤ) (out : List ℕ) (work : List ℤ) (p : Place) (taken written : ℕ)
-    (L : Loop q samples out₀ work₀ out work p taken written) (left : 0 < p .frames) (m : ℕ) (sh : Shares (q .width) (p .column) (length samples - taken) (length out - written) m) (some : m ≡ 0 → ⊥) where
-  abbrev share : List ℕ
-  share = piece samples taken m
+    (L : Loop q samples out₀ work₀ out work p taken written) (left : 0 < p .frames) (m : ℕ) (sh : SamplesForByte (q .width) (p .column) (length samples - taken) (length out - written) m) (some : m ≡ 0 → ⊥) where
+  abbrev samples-for-byte : List ℕ
+  samples-for-byte = piece samples taken m
 
   pub end-fits : taken + m ≤ length samples
   end-fits = let a = sh .there in let b = L .takenFits in omega arith
 
-  long : length share ≡ m
+  long : length samples-for-byte ≡ m
   long = piece-length samples taken m end-fits
 
-  pub taking : q .width < 2 ^ 64 → q .height < 2 ^ 64 → Taking (q .rule) (q .width) (q .height) p (length share) (length work)
+  pub taking : q .width < 2 ^ 64 → q .height < 2 ^ 64 → Taking (q .rule) (q .width) (q .height) p (length samples-for-byte) (length work)
   taking h k =
       let e = long in
       let so = L .turn .sound in
@@ -54,7 +54,7 @@ module _ (q : Quantizer) (samples out₀ : List ℕ) (work₀ : List ℤ) (out :
         begunSmall = so .begunSmall;
       }
 
-  module _ (t : Advanced) (work′ : List ℤ) (T : Takes (q .rule) (q .table) (q .width) (q .height) p share work t work′) where
+  module _ (t : Advanced) (work′ : List ℤ) (T : Takes (q .rule) (q .table) (q .width) (q .height) p samples-for-byte work t work′) where
     advances : Advances (q .width) (q .height) (p .frames) (p .row) (p .column) m (T .digits) t
     advances = subst (λ (n : ℕ). Advances (q .width) (q .height) (p .frames) (p .row) (p .column) n (T .digits) t) long (T .advances)
 
@@ -74,6 +74,6 @@ module _ (q : Quantizer) (samples out₀ : List ℕ) (work₀ : List ℤ) (out :
       loop-took out′ written′ =
           ⊎-elim
           (λ v. rw (v .1, v .2) (loop-byte q samples out₀ work₀ out work p taken written L m (t .byte) (t .place) work′
-          (turn-byte q p (drop taken samples) share work (L .turn .sound) left m (omega (arith, some)) (sh .inRow) (sh .inByte) long (piece-same samples taken m) b (T .digits) work′ t (T .dotted) advances (v .0)) end-fits (took-room (v .0))))
+          (turn-byte q p (drop taken samples) samples-for-byte work (L .turn .sound) left m (omega (arith, some)) (sh .inRow) (sh .inByte) long (piece-same samples taken m) b (T .digits) work′ t (T .dotted) advances (v .0)) end-fits (took-room (v .0))))
           (λ v. rw (v .1, v .2) (loop-on q samples out₀ work₀ out work p taken written L m (t .place) work′
-          (turn-on q p (drop taken samples) share work (L .turn .sound) left m (omega (arith, some)) (sh .inRow) (sh .inByte) long (piece-same samples taken m) b (T .digits) work′ t (T .dotted) advances (v .0)) end-fits))
+          (turn-on q p (drop taken samples) samples-for-byte work (L .turn .sound) left m (omega (arith, some)) (sh .inRow) (sh .inByte) long (piece-same samples taken m) b (T .digits) work′ t (T .dotted) advances (v .0)) end-fits))

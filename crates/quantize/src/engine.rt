@@ -3,13 +3,13 @@ use crate::asked::enough;
 use crate::asked::known_rule;
 use crate::turn::Place;
 use crate::turn::fill_row;
-use crate::turn::share;
+use crate::turn::samples_for_byte;
 use crate::turn::take;
 use options::Quantize;
 use rules::numbers;
 ghost use mathlib.Core.Path.{_≡_};
 ghost use Rattle.quantize.specs.Internal.Engine.{Opens, Runs, Tabled, ranTo, spotOf, roomFor, behindFrames};
-ghost use Rattle.quantize.specs.Internal.Turn.{Able};
+ghost use Rattle.quantize.specs.Internal.Turn.{CanTake};
 
 // Samples of at most so many frames on their way to bytes.
 pub struct Quantizer {
@@ -36,8 +36,8 @@ pub struct Ran {
 }
 
 // Whether samples can be taken: a place in the frame, a known side, and 2 × width numbers of work where the rule needs them.
-fn able(rule: Quantize, width: usize, height: usize, p: Place, work: usize) -> bool
-    ensures { λ r. ⌜ Able rule width height (p .row) (p .column) (p .begun) (p .corner) work r ⌝ }
+fn can_take(rule: Quantize, width: usize, height: usize, p: Place, work: usize) -> bool
+    ensures { λ r. ⌜ CanTake rule width height (p .row) (p .column) (p .begun) (p .corner) work r ⌝ }
 {
     if width <= p.column {
         return false;
@@ -99,7 +99,7 @@ impl Quantizer {
         let mut p = self.place;
         let mut taken: usize = 0;
         let mut written: usize = 0;
-        if !able(rule, width, height, p, work.len()) {
+        if !can_take(rule, width, height, p, work.len()) {
             return self.ran(p, 0, 0);
         }
         while 0 < p.frames {
@@ -108,7 +108,7 @@ impl Quantizer {
             written += f.count;
             p.column += 8 * f.count;
             p.corner = f.corner;
-            let m = share(width, p.column, samples.len() - taken, out.len() - written);
+            let m = samples_for_byte(width, p.column, samples.len() - taken, out.len() - written);
             if m == 0 {
                 return self.ran(p, taken, written);
             }

@@ -10,7 +10,7 @@ ghost use mathlib.Core.Path.{_≡_};
 ghost use mathlib.Core.Bool.{true};
 ghost use Prim.Native.Nat.{_+_, _-_, _*_, _^_, _≤_, _<_};
 ghost use lib.ListN.{length};
-ghost use Rattle.quantize.specs.Internal.Turn.{Wholes, AtOnce, BytesFilling, Shares, Dotting, Dotted, Advancing, Advances, Taking, Takes, Fills, RowFilling, RowFilled};
+ghost use Rattle.quantize.specs.Internal.Turn.{Wholes, AtOnce, BytesFilling, SamplesForByte, Dotting, Dotted, Advancing, Advances, Taking, Takes, Fills, RowFilling, RowFilled};
 
 // Where the next sample goes, and what is kept for it.
 pub struct Place {
@@ -111,9 +111,9 @@ pub(crate) fn fill_row(
 }
 
 // How many of so many samples go into the begun byte: without room for the byte not the last one.
-pub(crate) fn share(width: usize, column: usize, samples: usize, room: usize) -> usize
+pub(crate) fn samples_for_byte(width: usize, column: usize, samples: usize, room: usize) -> usize
     requires { ⌜ column < width ⌝ }
-    ensures { λ r. ⌜ Shares width column samples room r ⌝ }
+    ensures { λ r. ⌜ SamplesForByte width column samples room r ⌝ }
 {
     let mut most = 8 - column % 8;
     if width - column < most {

@@ -11,7 +11,7 @@ use borrow.Author.Tests.{lt-ltb, le-ltb, le-leb, lt-leb}
 use Rattle.laws.proofs.Tests.{lt-or-le}
 use Rattle.rules.specs.Diffusion.{round16, part, value, white, residual}
 use Rattle.rules.specs.Bits.{bit}
-use Rattle.rules.specs.Internal.Kernels.{Stepped}
+use Rattle.rules.specs.Internal.Kernels.{DotMade}
 
 pub sub-neg : (a b : ℕ) → a < b → subℕ a b ≡ negsuc (b - suc a)
 sub-neg a b h = rw (lt-ltb a b h)
@@ -116,15 +116,15 @@ value-is g l c a r pl pc pa pr el ec ea er =
     ap (λ (z : ℤ). z +ℤ subℕ pr 24) (sub-add (g + pl + pc) 64 pa 40) ∙
     sub-add (g + pl + pc + pa) 104 pr 24)
 
-pub stepped-white : {z : ℤ} (v : ℕ) → z ≡ subℕ v 128 → 256 ≤ v → v ≤ 511 → Stepped z 1 (v - 255)
+pub stepped-white : {z : ℤ} (v : ℕ) → z ≡ subℕ v 128 → 256 ≤ v → v ≤ 511 → DotMade z 1 (v - 255)
 stepped-white v e h k =
     rw e (record { dotIs = sym (ap bit (white-yes v h)); restIs = record { is = residual-white v h; small = omega arith } })
 
-pub stepped-black : {z : ℤ} (v : ℕ) → z ≡ subℕ v 128 → v < 256 → Stepped z 0 v
+pub stepped-black : {z : ℤ} (v : ℕ) → z ≡ subℕ v 128 → v < 256 → DotMade z 0 v
 stepped-black v e h =
     rw e (record { dotIs = sym (ap bit (white-no v h)); restIs = record { is = residual-black v h; small = omega arith } })
 
-pub stepped : {z : ℤ} (v : ℕ) → z ≡ subℕ v 128 → v ≤ 511 → Stepped z (v / 256) (v % 256 + v / 256)
+pub stepped : {z : ℤ} (v : ℕ) → z ≡ subℕ v 128 → v ≤ 511 → DotMade z (v / 256) (v % 256 + v / 256)
 stepped v e h =
     ⊎-elim
     (λ k.
@@ -140,13 +140,13 @@ stepped v e h =
     (lt-or-le v 256)
 
 -- a black or white sample with no residual around it: its dot, and no residual
-value-calm : (g : ℕ) → value g (subℕ 128 128) (subℕ 128 128) (subℕ 128 128) (subℕ 128 128) ≡ subℕ (g + 56 + 8 + 40 + 24) 128
-value-calm g =
+value-residual-free : (g : ℕ) → value g (subℕ 128 128) (subℕ 128 128) (subℕ 128 128) (subℕ 128 128) ≡ subℕ (g + 56 + 8 + 40 + 24) 128
+value-residual-free g =
     value-is g 128 128 128 128 56 8 40 24 (part-pos 7 128 (omega arith)) (part-pos 1 128 (omega arith)) (part-pos 5 128 (omega arith)) (part-pos 3 128 (omega arith))
 
-pub stepped-calm : (g : ℕ) → g < 256 → g % 255 ≡ 0 → Stepped (value g (subℕ 128 128) (subℕ 128 128) (subℕ 128 128) (subℕ 128 128)) (g / 128) 128
-stepped-calm g h e =
+pub stepped-residual-free : (g : ℕ) → g < 256 → g % 255 ≡ 0 → DotMade (value g (subℕ 128 128) (subℕ 128 128) (subℕ 128 128) (subℕ 128 128)) (g / 128) 128
+stepped-residual-free g h e =
     ⊎-elim
-    (λ k. let z : g ≡ 0 = omega arith in rw z (stepped-black 128 (value-calm 0) (omega arith)))
-    (λ k. let z : g ≡ 255 = omega arith in rw z (stepped-white 383 (value-calm 255) (omega arith) (omega arith)))
+    (λ k. let z : g ≡ 0 = omega arith in rw z (stepped-black 128 (value-residual-free 0) (omega arith)))
+    (λ k. let z : g ≡ 255 = omega arith in rw z (stepped-white 383 (value-residual-free 255) (omega arith) (omega arith)))
     (lt-or-le g 128)

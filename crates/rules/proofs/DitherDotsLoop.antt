@@ -13,11 +13,11 @@ use Rattle.rules.specs.Bits.{bit, appended}
 use Rattle.rules.specs.Diffusion.{toRight, value, white, residual}
 use Rattle.rules.specs.Rule.{Rule, dither}
 use Rattle.rules.specs.Internal.Carry.{Carry, clamp, leftOf, cornerOf, overOf, valueOf, diffused, machineDot, next}
-use Rattle.rules.specs.Internal.Kernels.{Biased, Stepped, rowCarry, rowBit, carryOf, Dots}
+use Rattle.rules.specs.Internal.Kernels.{Biased, DotMade, rowCarry, rowBit, carryOf, Dots}
 use Rattle.rules.specs.Internal.Row.{Near}
 use Rattle.rules.proofs.HeldRange.{within, clamp-same}
 use Rattle.rules.proofs.CarryRead.{left-at, corner-at, over-set, kept-zero}
-use Rattle.rules.proofs.Differences.{stepped-calm}
+use Rattle.rules.proofs.Differences.{stepped-residual-free}
 use Rattle.rules.proofs.DigitsAppended.{bit-le, one-more, appended-lt}
 
 pub biased-zero : Biased (pos 0) 128
@@ -33,7 +33,7 @@ corner-on corner x r h k e = rw (corner-at (subℕ corner 128) x k, e) (record {
 pub corner-none : (z : ℤ) (x r : ℕ) → x ≤ 0 → r ≡ 128 → Biased (cornerOf z x) r
 corner-none z x r k e = let o : x ≡ 0 = omega arith in rw (o, e) biased-zero
 
-pub dot-le : {v : ℤ} {dot rest : ℕ} → Stepped v dot rest → dot ≤ 1
+pub dot-le : {v : ℤ} {dot rest : ℕ} → DotMade v dot rest → dot ≤ 1
 dot-le {v} s = subst (λ (n : ℕ). n ≤ 1) (sym (s .dotIs)) (bit-le (white v))
 
 pub row-bit-le : (rule : Rule) (w y x : ℕ) (gray : List ℕ) (c : Carry) (i : ℕ) → rowBit rule w y x gray c i ≤ 1
@@ -68,7 +68,7 @@ module _ (w y x : ℕ) (gray : List ℕ) (begun corner : ℕ) (work₀ : List �
 
   module _ (work : List ℤ) (left digits aboveLeft above i : ℕ) (I : Inv work left digits aboveLeft above i)
       (ahead dot rest : ℕ) (hr : Biased (overOf w y work (x + i + 1)) ahead)
-      (st : Stepped (value (getD gray i 0) (subℕ left 128) (subℕ aboveLeft 128) (subℕ above 128) (subℕ ahead 128)) dot rest) where
+      (st : DotMade (value (getD gray i 0) (subℕ left 128) (subℕ aboveLeft 128) (subℕ above 128) (subℕ ahead 128)) dot rest) where
     value-is : valueOf toRight w y (x + i) (getD gray i 0) (at i) ≡ value (getD gray i 0) (subℕ left 128) (subℕ aboveLeft 128) (subℕ above 128) (subℕ ahead 128)
     unfolding valueOf
     value-is = rw (I .keptIs, I .leftIs .is, I .cornerIs .is, I .aboveIs .is, hr .is)
@@ -94,12 +94,12 @@ module _ (w y x : ℕ) (gray : List ℕ) (begun corner : ℕ) (work₀ : List �
         }
 
   -- a turn that alters nothing
-  pub inv-calm : (work : List ℤ) (digits i : ℕ) → Inv work 128 digits 128 128 i → Biased (overOf w y work (x + i + 1)) 128
+  pub inv-residual-free : (work : List ℤ) (digits i : ℕ) → Inv work 128 digits 128 128 i → Biased (overOf w y work (x + i + 1)) 128
       → 0 < y → x + i < w → w ≤ length work → i < length gray → getD gray i 0 < 256 → getD gray i 0 % 255 ≡ 0
       → Inv work 128 (digits * 2 + getD gray i 0 / 128) 128 128 (i + 1)
-  inv-calm work digits i I hr h k l m b e =
+  inv-residual-free work digits i I hr h k l m b e =
       subst (λ (kept : List ℤ). Inv kept 128 (digits * 2 + getD gray i 0 / 128) 128 128 (i + 1)) (kept-zero w work y (x + i) h k (I .aboveIs .is))
-      (inv-more work 128 digits 128 128 i I 128 (getD gray i 0 / 128) 128 hr (stepped-calm (getD gray i 0) b e) (pos 0) refl m (omega arith))
+      (inv-more work 128 digits 128 128 i I 128 (getD gray i 0 / 128) 128 hr (stepped-residual-free (getD gray i 0) b e) (pos 0) refl m (omega arith))
 
   -- the residuals next to the dot after the last one
   pub inv-near : (work : List ℤ) (left digits aboveLeft above i : ℕ) → Inv work left digits aboveLeft above i → length gray ≤ i → 0 < length gray

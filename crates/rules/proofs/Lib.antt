@@ -7,7 +7,7 @@ pub mod ListPiece
 pub mod CarryRead
 pub mod DitherDotsLoop
 pub mod BelowGrows
-pub mod CalmBytes
+pub mod ResidualFreeBytes
 pub mod OrderedNumbers
 pub mod UptoList
 pub mod RowKept

@@ -7,6 +7,7 @@ use Rattle.rules.specs.Diffusion.{Direction, toRight, Scan, white, value
 use Rattle.rules.specs.Ordered.{bound, cell, numbers, exponent, knownSide}
 use Rattle.error.specs.Choice.{if}
 use Rattle.error.specs.Answer.{Answer, gives, refuses}
+use Rattle.options.specs.declared.EncodeOptions.{EncodeOptions}
 use Rattle.options.specs.declared.Quantize.{Quantize}
 use Rattle.options.specs.declared.Quantize.the-variants.{Threshold, Dither, Ordered}
 
@@ -47,6 +48,6 @@ carries (ordered side table) = false
 abbrev pub roomy : Rule → ℕ → ℕ → Bool
 roomy rule w work = if (carries rule) (leb (2 * w) work) true
 
--- the rule that a setting asks for: "29, 0: .. unknown" otherwise
-abbrev pub ruleAsked : Quantize → Answer Rule
-ruleAsked rule = if (knownRule rule) (gives (meaning rule)) (refuses 29 0)
+-- the rule that the settings of making ask for: "29, 0: .. unknown" otherwise
+abbrev pub ruleAsked : EncodeOptions → Answer Rule
+ruleAsked o = if (knownRule (o .quantize)) (gives (meaning (o .quantize))) (refuses 29 0)

@@ -5,10 +5,10 @@ ghost use lib.IntN.{subℕ};
 ghost use lib.ListN.{length};
 ghost use Rattle.rules.specs.Diffusion.{value};
 ghost use Rattle.rules.specs.Internal.Carry.{clamp, leftOf, cornerOf, overOf};
-ghost use Rattle.rules.specs.Internal.Kernels.{Biased, Parted, Stepped, Reaches, Diffusing, Diffuses};
+ghost use Rattle.rules.specs.Internal.Kernels.{Biased, Parted, DotMade, Reaches, Diffusing, Diffuses};
 
 // A number of the work buffer, clamped to -128 ..= 128, plus 128.
-pub(crate) fn lift(x: i16) -> u32
+pub(crate) fn to_held(x: i16) -> u32
     ensures { λ r. ⌜ Biased (clamp x) r ⌝ }
 {
     let v = x as i32;
@@ -22,7 +22,7 @@ pub(crate) fn lift(x: i16) -> u32
 }
 
 // The residual that is held as b.
-pub(crate) fn lower(b: u32) -> i16
+pub(crate) fn from_held(b: u32) -> i16
     requires { ⌜ b ≤ 256 ⌝ }
     ensures { λ r. ⌜ r ≡ subℕ b 128 ⌝ }
 {
@@ -46,7 +46,7 @@ pub struct Dot {
 // The dot with this gray, from the residuals, plus 128, of the dots on its left, above left, above and above right.
 pub(crate) fn step(gray: u8, left: u32, corner: u32, above: u32, ahead: u32) -> Dot
     requires { ⌜ (left ≤ 256) × (corner ≤ 256) × (above ≤ 256) × (ahead ≤ 256) ⌝ }
-    ensures { λ r. ⌜ Stepped (value gray (subℕ left 128) (subℕ corner 128) (subℕ above 128) (subℕ ahead 128)) (r .bit) (r .rest) ⌝ }
+    ensures { λ r. ⌜ DotMade (value gray (subℕ left 128) (subℕ corner 128) (subℕ above 128) (subℕ ahead 128)) (r .bit) (r .rest) ⌝ }
 {
     let upper = gray as u32 + part(1, corner) + part(5, above) + part(3, ahead);
     let v = upper + part(7, left);
@@ -66,7 +66,7 @@ pub(crate) fn left_of(work: &[i16], x: usize) -> u32
         return 128;
     }
     let i = x - 1;
-    lift(work[i])
+    to_held(work[i])
 }
 
 // The residual above the dot on the left of column x, plus 128.
@@ -89,7 +89,7 @@ pub(crate) fn over(work: &[i16], reach: usize, x: usize) -> u32
     requires { ⌜ reach ≤ length (now work) ⌝ }
     ensures { λ r. ⌜ Biased (overOf reach 1 (now (work .entry)) x) r ⌝ }
 {
-    if x < reach { lift(work[x]) } else { 128 }
+    if x < reach { to_held(work[x]) } else { 128 }
 }
 
 // The digits of the begun byte after a part of a row, and the residual above its last dot, plus 128.
@@ -124,7 +124,7 @@ pub(crate) fn dither_dots(
         left = d.rest;
         above_left = above;
         above = ahead;
-        work[x] = lower(left);
+        work[x] = from_held(left);
         digits = digits * 2 + d.bit;
         i += 1;
     }

@@ -1,8 +1,8 @@
 // Whole bytes of a dithered row, but not its last.
 use crate::dither::corner_of;
 use crate::dither::left_of;
-use crate::dither::lift;
-use crate::dither::lower;
+use crate::dither::to_held;
+use crate::dither::from_held;
 use crate::dither::over;
 use crate::dither::reach;
 use crate::dither::step;
@@ -14,7 +14,7 @@ ghost use lib.ListN.{length};
 ghost use Rattle.rules.specs.Internal.Carry.{overOf};
 ghost use Rattle.rules.specs.Rule.{dither};
 ghost use Rattle.rules.specs.Internal.Kernels.{Biased, Diffusing};
-ghost use Rattle.rules.specs.Internal.Row.{Near, Diffused, Plain, Clear, Calm, Filling, Bytes};
+ghost use Rattle.rules.specs.Internal.Row.{Near, Diffused, Plain, Clear, ResidualFree, Filling, Bytes};
 
 // The residuals next to a dot, plus 128: on its left, above left and above.
 pub struct Neighbours {
@@ -34,7 +34,7 @@ fn inside(work: &[i16], reach: usize, x: usize) -> u32
     requires { ⌜ (reach ≤ length (now work)) × (0 < reach → x < reach) ⌝ }
     ensures { λ r. ⌜ Biased (overOf reach 1 (now (work .entry)) x) r ⌝ }
 {
-    if 0 < reach { lift(work[x]) } else { 128 }
+    if 0 < reach { to_held(work[x]) } else { 128 }
 }
 
 // A dot for each sample, as `dither_dots` makes them, from a column of a row on and not to its end: without the test for the end the compiler unrolls the loop.
@@ -62,7 +62,7 @@ fn dither_byte(
         left = d.rest;
         corner = above;
         above = ahead;
-        work[x] = lower(left);
+        work[x] = from_held(left);
         digits = digits * 2 + d.bit;
         i += 1;
     }
@@ -111,9 +111,9 @@ fn clear(work: &[i16], x: usize, n: usize) -> bool
 }
 
 // Whether the first n samples, which go to row y from column x on, are black or white and nothing is handed to them: dithering alters none of them, and keeps no residual.
-fn calm(y: usize, x: usize, samples: &[u8], n: usize, near: Neighbours, work: &[i16]) -> bool
+fn residual_free(y: usize, x: usize, samples: &[u8], n: usize, near: Neighbours, work: &[i16]) -> bool
     requires { ⌜ (n ≤ length (now samples)) × (x + n < length (now work)) ⌝ }
-    ensures { λ r. ⌜ (r ≡ true → Calm y x (now (samples .entry)) n near (now (work .entry))) ⌝ }
+    ensures { λ r. ⌜ (r ≡ true → ResidualFree y x (now (samples .entry)) n near (now (work .entry))) ⌝ }
 {
     if y == 0 {
         return false;
@@ -155,7 +155,7 @@ pub(crate) fn dither_bytes(
         corner: above_left,
         above: above,
     };
-    if calm(y, column, samples, 8 * count, near, work) {
+    if residual_free(y, column, samples, 8 * count, near, work) {
         threshold_bytes(128, samples, 0, out, 0, count);
         return 128;
     }

@@ -48,7 +48,7 @@ pub record Sound (rule : Quantize) (w h row column begun corner work : ℕ) : Ty
   pub begunSmall : begun < 2 ^ (column % 8)
   pub served : Served rule w work
 
-pub record Able (rule : Quantize) (w h row column begun corner work : ℕ) (r : Bool) : Type 0 where
+pub record CanTake (rule : Quantize) (w h row column begun corner work : ℕ) (r : Bool) : Type 0 where
   pub yes : r ≡ true → Sound rule w h row column begun corner work
   pub no : r ≡ false → Sound rule w h row column begun corner work → ⊥
 
@@ -60,7 +60,7 @@ pub record Wholes (w column samples room r : ℕ) : Type 0 where
   pub aligned : 0 < r → column % 8 ≡ 0
 
 -- r samples go into the begun byte
-pub record Shares (w column samples room r : ℕ) : Type 0 where
+pub record SamplesForByte (w column samples room r : ℕ) : Type 0 where
   pub there : r ≤ samples
   pub inRow : column + r ≤ w
   pub inByte : column % 8 + r ≤ 8

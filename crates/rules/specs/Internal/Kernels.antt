@@ -24,7 +24,7 @@ pub record Parted (k b r : ℕ) : Type 0 where
   pub small : r ≤ 16 * k
 
 -- the dot and the residual of the value v
-pub record Stepped (v : ℤ) (dot rest : ℕ) : Type 0 where
+pub record DotMade (v : ℤ) (dot rest : ℕ) : Type 0 where
   pub dotIs : dot ≡ bit (white v)
   pub restIs : Biased (residual v) rest
 

@@ -28,7 +28,7 @@ abbrev pub Clear : List ℤ → ℕ → ℕ → Type 0
 Clear work x n = (i : ℕ) → i < n → getD work (x + i) (pos 0) ≡ pos 0
 
 -- n samples from column x of row y on are black or white, and the residuals next to them are 0
-pub record Calm (y x : ℕ) (samples : List ℕ) (n : ℕ) (near : Neighbours) (work : List ℤ) : Type 0 where
+pub record ResidualFree (y x : ℕ) (samples : List ℕ) (n : ℕ) (near : Neighbours) (work : List ℤ) : Type 0 where
   pub below : 0 < y
   pub leftIs : near .left ≡ 128
   pub cornerIs : near .corner ≡ 128

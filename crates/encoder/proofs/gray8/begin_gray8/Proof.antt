@@ -15,7 +15,7 @@ use Rattle.encoder.proofs.gray8.begin_gray8.Tie as tie
 -- what the tests say, by what they answered
 tested : (c : tie.After-check-scans) (x : Checked) → c .check-scans .result ≡ x
     → let a = c .before .before .before .before .before .args in
-    checkScans 16 (a .options .quantize) (a .width) (a .height) (a .count) (length (now (a .gray))) (length (now (a .work))) ≡ checked x
+    checkScans 16 (a .options) (a .width) (a .height) (a .count) (length (now (a .gray))) (length (now (a .work))) ≡ checked x
 tested c x e = sym (c .check-scans .ensures) ∙ ap checked e
 
 new-requires : tie.Need-new-requires
@@ -34,7 +34,7 @@ begin-made-requires c κs =
     let n = k .before in
     let a = n .before .before .before .before .args in (
       laid (n .new .ensures),
-      subst⁻¹ (λ (l : PlaneLayout). checkScans 16 (a .options .quantize) (l .width) (l .height) (a .count) (length (now (a .gray)))
+      subst⁻¹ (λ (l : PlaneLayout). checkScans 16 (a .options) (l .width) (l .height) (a .count) (length (now (a .gray)))
           (length (now (a .work))) ≡ gives tt)
           (n .new .ensures) (tested k _ (t .enum-told .given .1)),
     )

@@ -34,7 +34,7 @@ mul-body c =
     let s = c .before .before .before in
     let a = s .args in
     let l = a .scans .layout in
-    let p = passed 16 (a .options .quantize) (l .width) (l .height) (a .scans .count) (length (now (a .gray))) (length (now (a .work)))
+    let p = passed 16 (a .options) (l .width) (l .height) (a .scans .count) (length (now (a .gray))) (length (now (a .work)))
     (s .pre .1) in
     omega (arith, body-is s, planes-le (a .scans .count) (l .width) (l .height) (p .sized .wide), p .enough, s .good)
 

@@ -17,10 +17,10 @@ use Rattle.encoder.proofs.gray8.check_scans.Tie as tie
 sized : (c : tie.After-enum-told) → let a = c .before .before .before .args in checkCount 16 (a .width) (a .height) (a .count) ≡ gives tt
 sized c = sym (c .before .before .check-count .ensures) ∙ ap checked (c .enum-told .given .1)
 
-known : (c : tie.Else1) → knownRule (c .before .before .before .before .before .args .rule) ≡ true
+known : (c : tie.Else1) → knownRule (c .before .before .before .before .before .args .options .quantize) ≡ true
 known c = sym (c .before .known-rule .ensures) ∙ not-false _ (c .if1 .left)
 
-served : (c : tie.Else2) → let a = c .before .before .before .before .before .before .before .args in roomy (meaning (a .rule)) (a .width)
+served : (c : tie.Else2) → let a = c .before .before .before .before .before .before .before .args in roomy (meaning (a .options .quantize)) (a .width)
     (a .work) ≡ true
 served c = sym (c .before .roomy .ensures) ∙ not-false _ (c .if2 .left)
 
@@ -37,7 +37,7 @@ returns : tie.Need-returns
 returns c =
     let a = c .before .before .before .args in
     let e = ap checked (c .enum-told2 .given .1) in
-    e ∙ sym (not-counted 16 (a .rule) (a .width) (a .height) (a .count) (a .gray) (a .work) _ _
+    e ∙ sym (not-counted 16 (a .options) (a .width) (a .height) (a .count) (a .gray) (a .work) _ _
     (sym (c .before .before .check-count .ensures) ∙ e))
 
 known-rule-requires : tie.Need-known-rule-requires
@@ -52,7 +52,7 @@ returns-2 c =
     let t = k .before in
     let a = t .before .before .before .args in
     ap checked (c .refused .ensures)
-    ∙ sym (not-known 16 (a .rule) (a .width) (a .height) (a .count) (a .gray) (a .work) (sized t)
+    ∙ sym (not-known 16 (a .options) (a .width) (a .height) (a .count) (a .gray) (a .work) (sized t)
     (sym (k .known-rule .ensures) ∙ not-true _ (c .before .if1 .taken)))
 
 roomy-requires : tie.Need-roomy-requires
@@ -68,7 +68,7 @@ returns-3 c =
     let t = k .before .before in
     let a = t .before .before .before .args in
     ap checked (c .refused2 .ensures)
-    ∙ sym (not-roomy 16 (a .rule) (a .width) (a .height) (a .count) (a .gray) (a .work) (sized t) (known k)
+    ∙ sym (not-roomy 16 (a .options) (a .width) (a .height) (a .count) (a .gray) (a .work) (sized t) (known k)
     (sym (r .roomy .ensures) ∙ not-true _ (c .before .if2 .taken)))
 
 mul-area : tie.Need-mul-area
@@ -93,7 +93,7 @@ returns-4 c =
     let t = k .before .before in
     let a = t .before .before .before .args in
     ap checked (c .refused3 .ensures)
-    ∙ sym (too-short 16 (a .rule) (a .width) (a .height) (a .count) (a .gray) (a .work) (sized t) (known k) (served g)
+    ∙ sym (too-short 16 (a .options) (a .width) (a .height) (a .count) (a .gray) (a .work) (sized t) (known k) (served g)
     (c .before .if3 .taken))
 
 returns-5 : tie.Need-returns-5
@@ -102,7 +102,7 @@ returns-5 c =
     let k = g .before .before in
     let t = k .before .before in
     let a = t .before .before .before .args in
-    sym (long-enough 16 (a .rule) (a .width) (a .height) (a .count) (a .gray) (a .work) (sized t) (known k) (served g) (c .if3 .left))
+    sym (long-enough 16 (a .options) (a .width) (a .height) (a .count) (a .gray) (a .work) (sized t) (known k) (served g) (c .if3 .left))
 
 pub check-scans-spec : {M : Type 1} → statement M
 check-scans-spec =

@@ -12,11 +12,11 @@ use Rattle.encoder.proofs.gray8.put_scans.Statement.{statement}
 use Rattle.encoder.proofs.gray8.put_scans.Tie as tie
 
 abbrev Inv-loop : tie.InvT-loop
-Inv-loop gray rule work₀ out₀ width height plane count area k₀ work out k =
+Inv-loop gray work₀ out₀ rule width height plane count area k₀ work out k =
     Scanning rule width height count gray work₀ out₀ area plane work out k
 
 abbrev μ-loop : tie.MeasureT-loop
-μ-loop gray rule work₀ out₀ width height plane count area k₀ work out k = count - k
+μ-loop gray work₀ out₀ rule width height plane count area k₀ work out k = count - k
 
 cast-area : tie.Need-cast-area Inv-loop μ-loop
 cast-area c = search needs
@@ -33,8 +33,8 @@ loop-holds c =
     let s = c .before .before in
     let a = s .args in
     let l = a .scans .layout in
-    begun (a .rule) (l .width) (l .height) (a .scans .count) (now (a .gray)) (now (a .work)) (now (a .out)) (l .«total_bytes»)
-    (passed 16 (a .rule) (l .width) (l .height) (a .scans .count) (length (now (a .gray))) (length (now (a .work))) (s .pre .1 .0))
+    begun (a .options .quantize) (l .width) (l .height) (a .scans .count) (now (a .gray)) (now (a .work)) (now (a .out)) (l .«total_bytes»)
+    (passed 16 (a .options) (l .width) (l .height) (a .scans .count) (length (now (a .gray))) (length (now (a .work))) (s .pre .1 .0))
     (total-is (s .pre .0)) (s .pre .1 .1)
 
 -- scan k is among the samples, and its plane in the output

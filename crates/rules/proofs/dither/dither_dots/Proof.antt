@@ -72,8 +72,8 @@ shared-slice-read-step c = omega arith
 step-requires : tie.Need-step-requires Inv-loop μ-loop
 step-requires c κs = let i = c .before .before .before .before .loop .inv in (i .leftIs .small, i .cornerIs .small, i .aboveIs .small, c .before .over2 .ensures .small)
 
-lower-requires : tie.Need-lower-requires Inv-loop μ-loop
-lower-requires c κs = c .step .ensures .restIs .small
+from-held-requires : tie.Need-from-held-requires Inv-loop μ-loop
+from-held-requires c κs = c .step .ensures .restIs .small
 
 mul-t21 : tie.Need-mul-t21 Inv-loop μ-loop
 mul-t21 c = let l = c .before .before .before .before .before .before in let s = start l in omega (arith, s .pre .within, s .pre .room, s .good, l .loop .inv .long)
@@ -96,8 +96,8 @@ add-i c = let l = c .before .before .before .before .before .before .before in o
 loop-less : tie.Need-loop-less Inv-loop μ-loop
 loop-less c = omega arith
 
-stored : (s : tie.After-struct-known Inv-loop μ-loop) → toZ w16 (ofZ w16 (s .before .lower .result)) ≡ subℕ (s .before .before .step .result .rest) 128
-stored s = toZ-ofZ w16 _ (record { sfits = s .before .lower .ok }) ∙ s .before .lower .ensures
+stored : (s : tie.After-struct-known Inv-loop μ-loop) → toZ w16 (ofZ w16 (s .before .from-held .result)) ≡ subℕ (s .before .before .step .result .rest) 128
+stored s = toZ-ofZ w16 _ (record { sfits = s .before .from-held .ok }) ∙ s .before .from-held .ensures
 
 loop-again : tie.Need-loop-again Inv-loop μ-loop
 loop-again c =
@@ -133,7 +133,7 @@ dither-dots-spec =
     over-requires-2
     shared-slice-read-step
     step-requires
-    lower-requires
+    from-held-requires
     mul-t21
     slice-set-from-work
     mul-digits

@@ -22,22 +22,22 @@ returns c = rw (c .if1 .taken) biased-zero
 sub-i : tie.Need-sub-i
 sub-i c = search needs
 
-mul-lift : tie.Need-mul-lift
-mul-lift c = search needs
+mul-to-held : tie.Need-mul-to-held
+mul-to-held c = search needs
 
-shared-slice-copy-out-lift : tie.Need-shared-slice-copy-out-lift
-shared-slice-copy-out-lift c = search needs
+shared-slice-copy-out-to-held : tie.Need-shared-slice-copy-out-to-held
+shared-slice-copy-out-to-held c = search needs
 
-lift-requires : tie.Need-lift-requires
-lift-requires c κs = search needs
+to-held-requires : tie.Need-to-held-requires
+to-held-requires c κs = search needs
 
 returns-2 : tie.Need-returns-2
 returns-2 c =
     let a = c .before .before .before .args in
     let n = c .before .before .if1 .left in
     rw (left-at (now (a .work)) (a .x) (a .x - 1) (omega (arith, n)))
-    (subst (λ (z : ℤ). Biased (clamp z) (c .lift .result)) (toZ-ofZ w16 (getD (now (a .work)) (a .x - 1) (pos 0)) (record { sfits = c .before .lift-arg .given })) (c .lift .ensures))
+    (subst (λ (z : ℤ). Biased (clamp z) (c .to-held .result)) (toZ-ofZ w16 (getD (now (a .work)) (a .x - 1) (pos 0)) (record { sfits = c .before .to-held-arg .given })) (c .to-held .ensures))
 
 pub left-of-spec : {M : Type 1} → statement M
 left-of-spec =
-    tie.close (tie.spec returns sub-i mul-lift shared-slice-copy-out-lift lift-requires returns-2)
+    tie.close (tie.spec returns sub-i mul-to-held shared-slice-copy-out-to-held to-held-requires returns-2)

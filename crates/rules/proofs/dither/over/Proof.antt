@@ -15,20 +15,20 @@ use Rattle.rules.proofs.DitherDotsLoop.{biased-zero}
 use Rattle.rules.proofs.dither.over.Statement.{statement}
 use Rattle.rules.proofs.dither.over.Tie as tie
 
-mul-lift : tie.Need-mul-lift
-mul-lift c = search needs
+mul-to-held : tie.Need-mul-to-held
+mul-to-held c = search needs
 
-shared-slice-copy-out-lift : tie.Need-shared-slice-copy-out-lift
-shared-slice-copy-out-lift c = search needs
+shared-slice-copy-out-to-held : tie.Need-shared-slice-copy-out-to-held
+shared-slice-copy-out-to-held c = search needs
 
-lift-requires : tie.Need-lift-requires
-lift-requires c κs = search needs
+to-held-requires : tie.Need-to-held-requires
+to-held-requires c κs = search needs
 
 returns : tie.Need-returns
 returns c =
     let a = c .before .before .before .args in
     rw (over-in (a .reach) (now (a .work)) 1 (a .x) (omega arith) (c .before .before .if1 .taken))
-    (subst (λ (z : ℤ). Biased (clamp z) (c .lift .result)) (toZ-ofZ w16 (getD (now (a .work)) (a .x) (pos 0)) (record { sfits = c .before .lift-arg .given })) (c .lift .ensures))
+    (subst (λ (z : ℤ). Biased (clamp z) (c .to-held .result)) (toZ-ofZ w16 (getD (now (a .work)) (a .x) (pos 0)) (record { sfits = c .before .to-held-arg .given })) (c .to-held .ensures))
 
 returns-2 : tie.Need-returns-2
 returns-2 c =
@@ -37,4 +37,4 @@ returns-2 c =
 
 pub over-spec : {M : Type 1} → statement M
 over-spec =
-    tie.close (tie.spec mul-lift shared-slice-copy-out-lift lift-requires returns returns-2)
+    tie.close (tie.spec mul-to-held shared-slice-copy-out-to-held to-held-requires returns returns-2)

@@ -9,7 +9,7 @@ use denote.Ref.{now}
 use lib.ListN.{length}
 use Rattle.rules.specs.Rule.{dither}
 use Rattle.rules.specs.Internal.Row.{Near, Bytes}
-use Rattle.rules.proofs.CalmBytes.{calm-all}
+use Rattle.rules.proofs.ResidualFreeBytes.{residual-free-all}
 use Rattle.rules.proofs.DitherBytesLoop.{Chain, bytes-none, chain-start, chain-more, chain-end, byte-small, near-own}
 use Rattle.rules.proofs.ListPiece.{piece-length}
 use Rattle.rules.proofs.StoredBytes.{stored-all}
@@ -73,11 +73,11 @@ reach-requires c κs = tt
 over-requires : tie.Need-over-requires Inv-loop μ-loop
 over-requires c κs = let s = c .before .before .before .before .before .before .before .before in omega (arith, c .reach .ensures .most, s .pre .room)
 
-mul-calm : tie.Need-mul-calm Inv-loop μ-loop
-mul-calm c = let s = entered c in omega (arith, s .pre .there, s .good)
+mul-residual-free : tie.Need-mul-residual-free Inv-loop μ-loop
+mul-residual-free c = let s = entered c in omega (arith, s .pre .there, s .good)
 
-calm-requires : tie.Need-calm-requires Inv-loop μ-loop
-calm-requires c κs = let s = entered (c .before) in (s .pre .there, omega (arith, s .pre .inRow, s .pre .room))
+residual-free-requires : tie.Need-residual-free-requires Inv-loop μ-loop
+residual-free-requires c κs = let s = entered (c .before) in (s .pre .there, omega (arith, s .pre .inRow, s .pre .room))
 
 threshold-bytes-requires : tie.Need-threshold-bytes-requires Inv-loop μ-loop
 threshold-bytes-requires c κs =
@@ -101,9 +101,9 @@ returns-2 c =
     subst
     (λ (out : List ℕ). Bytes dither (a .width) (a .y) (a .column) (now (a .samples)) (a .corner) (now (a .work)) (length (now (a .out))) out 128 (now (a .work)))
     (sym (t .threshold-bytes .ensures ∙ stored-all 128 (now (a .samples)) (now (a .out))))
-    (calm-all (a .width) (a .y) (a .column) (a .corner) (now (a .samples)) (length (now (a .out))) (now (a .work)) _ (s .pre .there) (s .pre .inRow) (s .pre .room)
+    (residual-free-all (a .width) (a .y) (a .column) (a .corner) (now (a .samples)) (length (now (a .out))) (now (a .work)) _ (s .pre .there) (s .pre .inRow) (s .pre .room)
     (λ i. let f = o .before .before .before .before .before .before .before .before .shared-slice-known .given i in omega arith)
-    (n .leftIs) (n .cornerIs) (m .calm .ensures (t .before .before .if2 .taken)) (some o))
+    (n .leftIs) (n .cornerIs) (m .residual-free .ensures (t .before .before .if2 .taken)) (some o))
 
 loop-holds : tie.Need-loop-holds Inv-loop μ-loop
 loop-holds c =
@@ -197,8 +197,8 @@ dither-bytes-spec =
     corner-of-requires
     reach-requires
     over-requires
-    mul-calm
-    calm-requires
+    mul-residual-free
+    residual-free-requires
     threshold-bytes-requires
     same-length
     same-length-2

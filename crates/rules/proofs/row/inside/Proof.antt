@@ -15,21 +15,21 @@ use Rattle.rules.proofs.DitherDotsLoop.{biased-zero}
 use Rattle.rules.proofs.row.inside.Statement.{statement}
 use Rattle.rules.proofs.row.inside.Tie as tie
 
-mul-lift : tie.Need-mul-lift
-mul-lift c = let s = c .before in omega (arith, s .pre .0, s .pre .1 (c .if1 .taken), s .good)
+mul-to-held : tie.Need-mul-to-held
+mul-to-held c = let s = c .before in omega (arith, s .pre .0, s .pre .1 (c .if1 .taken), s .good)
 
-shared-slice-copy-out-lift : tie.Need-shared-slice-copy-out-lift
-shared-slice-copy-out-lift c = let s = c .before in omega (arith, s .pre .0, s .pre .1 (c .if1 .taken))
+shared-slice-copy-out-to-held : tie.Need-shared-slice-copy-out-to-held
+shared-slice-copy-out-to-held c = let s = c .before in omega (arith, s .pre .0, s .pre .1 (c .if1 .taken))
 
-lift-requires : tie.Need-lift-requires
-lift-requires c κs = search needs
+to-held-requires : tie.Need-to-held-requires
+to-held-requires c κs = search needs
 
 returns : tie.Need-returns
 returns c =
     let s = c .before .before .before in
     let a = s .args in
     rw (over-in (a .reach) (now (a .work)) 1 (a .x) (omega arith) (s .pre .1 (c .before .before .if1 .taken)))
-    (subst (λ (z : ℤ). Biased (clamp z) (c .lift .result)) (toZ-ofZ w16 (getD (now (a .work)) (a .x) (pos 0)) (record { sfits = c .before .lift-arg .given })) (c .lift .ensures))
+    (subst (λ (z : ℤ). Biased (clamp z) (c .to-held .result)) (toZ-ofZ w16 (getD (now (a .work)) (a .x) (pos 0)) (record { sfits = c .before .to-held-arg .given })) (c .to-held .ensures))
 
 returns-2 : tie.Need-returns-2
 returns-2 c =
@@ -38,4 +38,4 @@ returns-2 c =
 
 pub inside-spec : {M : Type 1} → statement M
 inside-spec =
-    tie.close (tie.spec mul-lift shared-slice-copy-out-lift lift-requires returns returns-2)
+    tie.close (tie.spec mul-to-held shared-slice-copy-out-to-held to-held-requires returns returns-2)

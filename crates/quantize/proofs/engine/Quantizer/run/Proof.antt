@@ -66,15 +66,15 @@ mid f =
     (l .loop .taken) (l .loop .written) (l .loop .inv) (running f .if2 .taken) (by-bytes q (l .loop .p .row))
     (r .result) (r .last .1 .1 .1 .1 .0) (r .last .1 .1 .1 .1 .1 .0) (r .ensures)
 
--- where a share of the samples is taken: the whole bytes were filled in before
+-- where a samples-for-byte of the samples is taken: the whole bytes were filled in before
 abbrev filled : tie.Else3 Inv-loop μ-loop → tie.After-work Inv-loop μ-loop
 filled e = e .before .before .before .before .before .before
 
 abbrev begun : tie.Else3 Inv-loop μ-loop → tie.Start Inv-loop μ-loop
 begun e = start (looped (filled e))
 
-able-requires : tie.Need-able-requires Inv-loop μ-loop
-able-requires c κs = tt
+can-take-requires : tie.Need-can-take-requires Inv-loop μ-loop
+can-take-requires c κs = tt
 
 ran-requires : tie.Need-ran-requires Inv-loop μ-loop
 ran-requires c κs = tt
@@ -84,10 +84,10 @@ returns c =
     let t = c .before in
     let o = t .before .before .before .before .before in
     let a = o .before .args in
-    none-told (a .self) (now (a .samples)) (now (a .out)) (now (a .work)) (c .ran .result) (c .ran .ensures) (octets o) (λ s. t .before .able .ensures .no (not-true _ (t .if1 .taken)) s)
+    none-told (a .self) (now (a .samples)) (now (a .out)) (now (a .work)) (c .ran .result) (c .ran .ensures) (octets o) (λ s. t .before .can-take .ensures .no (not-true _ (t .if1 .taken)) s)
 
 loop-holds : tie.Need-loop-holds Inv-loop μ-loop
-loop-holds c = loop-start _ _ _ _ (c .before .able .ensures .yes (not-false _ (c .if1 .left)))
+loop-holds c = loop-start _ _ _ _ (c .before .can-take .ensures .yes (not-false _ (c .if1 .left)))
 
 sub-fill-row : tie.Need-sub-fill-row Inv-loop μ-loop
 sub-fill-row c = c .before .before .loop .inv .takenFits
@@ -127,14 +127,14 @@ mul-p c = let f = c .before .before .before in omega (arith, (mid f) .takenFits,
 add-p : tie.Need-add-p Inv-loop μ-loop
 add-p c = let f = c .before .before .before .before in omega (arith, (mid f) .turn .sound .inRow, start (looped f) .good)
 
-sub-share : tie.Need-sub-share Inv-loop μ-loop
-sub-share c = (mid (c .before .before .before .before)) .takenFits
+sub-samples-for-byte : tie.Need-sub-samples-for-byte Inv-loop μ-loop
+sub-samples-for-byte c = (mid (c .before .before .before .before)) .takenFits
 
-sub-share-2 : tie.Need-sub-share-2 Inv-loop μ-loop
-sub-share-2 c = let i = mid (c .before .before .before .before) in omega (arith, i .writtenFits, i .outLong)
+sub-samples-for-byte-2 : tie.Need-sub-samples-for-byte-2 Inv-loop μ-loop
+sub-samples-for-byte-2 c = let i = mid (c .before .before .before .before) in omega (arith, i .writtenFits, i .outLong)
 
-share-requires : tie.Need-share-requires Inv-loop μ-loop
-share-requires c κs = (mid (c .before .before .before .before)) .turn .sound .inRow
+samples-for-byte-requires : tie.Need-samples-for-byte-requires Inv-loop μ-loop
+samples-for-byte-requires c κs = (mid (c .before .before .before .before)) .turn .sound .inRow
 
 ran-requires-2 : tie.Need-ran-requires-2 Inv-loop μ-loop
 ran-requires-2 c κs = tt
@@ -152,13 +152,13 @@ returns-2 c =
     let l = looped f in
     let o = octets (l .before .before .before .before .before .before) in
     end-told _ _ _ _ _ _ _ _ _ (mid f) o
-    (full-byte _ _ _ _ _ _ _ _ _ (mid f) o _ (running f .if2 .taken) (by-bytes (start l .args .self) (l .loop .p .row)) (t .before .share .ensures) (t .if3 .taken))
+    (full-byte _ _ _ _ _ _ _ _ _ (mid f) o _ (running f .if2 .taken) (by-bytes (start l .args .self) (l .loop .p .row)) (t .before .samples-for-byte .ensures) (t .if3 .taken))
     (c .ran2 .result) (c .ran2 .ensures)
 
--- the share's samples are there
+-- the samples-for-byte's samples are there
 there : (e : tie.Else3 Inv-loop μ-loop)
-    → looped (filled e) .loop .taken + 8 * (filled e .before .before .before .fill-row .result .count) + e .before .share .result ≤ length (now (begun e .args .samples))
-there e = end-fits _ _ _ _ _ _ _ _ _ (mid (filled e)) (running (filled e) .if2 .taken) _ (e .before .share .ensures) (e .if3 .left)
+    → looped (filled e) .loop .taken + 8 * (filled e .before .before .before .fill-row .result .count) + e .before .samples-for-byte .result ≤ length (now (begun e .args .samples))
+there e = end-fits _ _ _ _ _ _ _ _ _ (mid (filled e)) (running (filled e) .if2 .taken) _ (e .before .samples-for-byte .ensures) (e .if3 .left)
 
 add-end : tie.Need-add-end Inv-loop μ-loop
 add-end c = omega (arith, there c, begun c .good)
@@ -175,7 +175,7 @@ part-take-end c = there (c .before)
 take-requires : tie.Need-take-requires Inv-loop μ-loop
 take-requires c κs =
     let e = c .before .before .before in
-    taking _ _ _ _ _ _ _ _ _ (mid (filled e)) (running (filled e) .if2 .taken) _ (e .before .share .ensures) (e .if3 .left) (omega (arith, begun e .good)) (omega (arith, begun e .good))
+    taking _ _ _ _ _ _ _ _ _ (mid (filled e)) (running (filled e) .if2 .taken) _ (e .before .samples-for-byte .ensures) (e .if3 .left) (omega (arith, begun e .good)) (omega (arith, begun e .good))
 
 -- there is room for a finished byte
 room : (c : tie.Then4 Inv-loop μ-loop)
@@ -185,7 +185,7 @@ room : (c : tie.Then4 Inv-loop μ-loop)
     l .loop .written + r .result .count < length (putMid (l .loop .written) (length (l .loop .out) - l .loop .written) (l .loop .out) (r .last .1 .1 .1 .1 .0))
 room c =
     let e = c .before .before .before .before .before .before in
-    took-room _ _ _ _ _ _ _ _ _ (mid (filled e)) (running (filled e) .if2 .taken) _ (e .before .share .ensures) (e .if3 .left) _ _ (c .before .before .take .ensures) (c .if4 .taken)
+    took-room _ _ _ _ _ _ _ _ _ (mid (filled e)) (running (filled e) .if2 .taken) _ (e .before .samples-for-byte .ensures) (e .if3 .left) _ _ (c .before .before .take .ensures) (c .if4 .taken)
 
 slice-write-out : tie.Need-slice-write-out Inv-loop μ-loop
 slice-write-out c = room c
@@ -199,7 +199,7 @@ loop-less c = let e = c .before .before .before .before .before .before .before 
 loop-again : tie.Need-loop-again Inv-loop μ-loop
 loop-again c =
     let e = c .before .before .before .before .before .before .before in
-    loop-took _ _ _ _ _ _ _ _ _ (mid (filled e)) (running (filled e) .if2 .taken) _ (e .before .share .ensures) (e .if3 .left) _ _ (c .before .before .before .take .ensures)
+    loop-took _ _ _ _ _ _ _ _ _ (mid (filled e)) (running (filled e) .if2 .taken) _ (e .before .samples-for-byte .ensures) (e .if3 .left) _ _ (c .before .before .before .take .ensures)
     (by-bytes (begun e .args .self) (looped (filled e) .loop .p .row)) _ _
     (⊎-elim (λ v. inl (v .0 .taken, v .1, v .2)) (λ v. inr (v .0 .left, v .1, v .2)) (c .before .if4 .came))
 
@@ -223,7 +223,7 @@ run-spec =
     (tie.spec
     Inv-loop
     μ-loop
-    able-requires
+    can-take-requires
     ran-requires
     returns
     loop-holds
@@ -239,9 +239,9 @@ run-spec =
     add-written
     mul-p
     add-p
-    sub-share
-    sub-share-2
-    share-requires
+    sub-samples-for-byte
+    sub-samples-for-byte-2
+    samples-for-byte-requires
     ran-requires-2
     same-length
     same-length-2

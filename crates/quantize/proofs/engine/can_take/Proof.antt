@@ -1,4 +1,4 @@
--- `quantize::engine::able` meets its contract.
+-- `quantize::engine::can_take` meets its contract.
 -- Assumes nothing.
 use Prim.Native.Nat.{_%_}
 use mathlib.Core.Path.{sym, _∙_}
@@ -7,10 +7,10 @@ use native.Mathlib.Omega.{arith}
 use lib.Pow.{pow-pos}
 use borrow.Author.Tests.{not-true, not-false}
 use Rattle.rules.proofs.Signed.{never}
-use Rattle.quantize.proofs.RunTests.{denied, div-zero, able-if}
+use Rattle.quantize.proofs.RunTests.{denied, div-zero, can-take-if}
 use borrow.Author.Needs.{needs}
-use Rattle.quantize.proofs.engine.able.Statement.{statement}
-use Rattle.quantize.proofs.engine.able.Tie as tie
+use Rattle.quantize.proofs.engine.can_take.Statement.{statement}
+use Rattle.quantize.proofs.engine.can_take.Tie as tie
 
 returns : tie.Need-returns
 returns c = denied (λ s. omega (arith, s .inRow, c .if1 .taken))
@@ -43,11 +43,11 @@ returns-6 : tie.Need-returns-6
 returns-6 c =
     let e = c .before in
     let b = e .before .before in
-    able-if (b .before .before .before .before .before .before .before .if1 .left) (b .before .before .before .before .before .if2 .left) (b .before .before .before .if3 .left) (div-zero _ _ (pow-pos (b .before .before .before .before .before .before .before .before .before .args .p .column % 8)) (b .if4 .left)) _
+    can-take-if (b .before .before .before .before .before .before .before .if1 .left) (b .before .before .before .before .before .if2 .left) (b .before .before .before .if3 .left) (div-zero _ _ (pow-pos (b .before .before .before .before .before .before .before .before .before .args .p .column % 8)) (b .if4 .left)) _
     (sym (e .before .known-rule .ensures) ∙ not-false _ (e .if5 .left)) (c .enough .ensures)
 
-pub able-spec : {M : Type 1} → statement M
-able-spec =
+pub can-take-spec : {M : Type 1} → statement M
+can-take-spec =
     tie.close
     (tie.spec
     returns

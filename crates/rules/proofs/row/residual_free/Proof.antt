@@ -1,11 +1,11 @@
--- `rules::row::calm` meets its contract.
+-- `rules::row::residual_free` meets its contract.
 -- Assumes nothing.
 use native.Mathlib.Omega.{arith}
 use borrow.Author.Needs.{needs}
 use borrow.Author.Tests.{not-false}
 use Rattle.rules.proofs.Signed.{never}
-use Rattle.rules.proofs.row.calm.Statement.{statement}
-use Rattle.rules.proofs.row.calm.Tie as tie
+use Rattle.rules.proofs.row.residual_free.Statement.{statement}
+use Rattle.rules.proofs.row.residual_free.Tie as tie
 
 returns : tie.Need-returns
 returns c = never
@@ -41,8 +41,8 @@ returns-5 c =
       plain = c .plain .ensures e;
     }
 
-pub calm-spec : {M : Type 1} → statement M
-calm-spec =
+pub residual-free-spec : {M : Type 1} → statement M
+residual-free-spec =
     tie.close
     (tie.spec
     returns

@@ -1,12 +1,12 @@
--- `quantize::turn::share` meets its contract.
+-- `quantize::turn::samples_for_byte` meets its contract.
 -- Assumes nothing.
 use Prim.Native.Nat.{ℕ, _+_, _%_, _≤_}
 use mathlib.Core.Path.{_≡_}
 use mathlib.Core.Logic.{_⊎_, inl, inr, ⊎-elim}
 use native.Mathlib.Omega.{arith}
 use borrow.Author.Needs.{needs}
-use Rattle.quantize.proofs.turn.share.Statement.{statement}
-use Rattle.quantize.proofs.turn.share.Tie as tie
+use Rattle.quantize.proofs.turn.samples_for_byte.Statement.{statement}
+use Rattle.quantize.proofs.turn.samples_for_byte.Tie as tie
 
 sub-most : tie.Need-sub-most
 sub-most c = search needs
@@ -63,5 +63,5 @@ returns-2 c =
     })
     (c .before .if2 .came)
 
-pub share-spec : {M : Type 1} → statement M
-share-spec = tie.close (tie.spec sub-most sub-if1 sub-most-2 sub-most-3 returns returns-2)
+pub samples-for-byte-spec : {M : Type 1} → statement M
+samples-for-byte-spec = tie.close (tie.spec sub-most sub-if1 sub-most-2 sub-most-3 returns returns-2)
