@@ -1,4 +1,5 @@
--- `reads`: the local that stands whole at a position of the context, as an operand. A step of `Types/Run.antt`'s kind, for walks that read locals only whole.
+-- `reads`: the local that stands whole at a position of the context, as an operand. A step of `Types/Run.antt`'s kind, for walks that read
+-- locals only whole.
 -- Assumes `Given`.
 use mathlib.Core.Path.{_≡_}
 use Prim.Native.Nat.{ℕ}
@@ -13,6 +14,7 @@ use types.Kit.{Given, Item, ‵, nth}
 use types.Run.{Opd, look, stop, from, load}
 
 module _ {M : Type 1} {𝓤 : URA M} {H : Heap 𝓤} {A : Atoms 𝓤} {K : Type 0} {W : Given 𝓤 H A} {Γ : List (Item 𝓤)} {E : Env 𝓤 H} where
-  pub reads : K → (n : ℕ) {i : ℕ} {q : Share} {v : Val} → nth 𝓤 H A n Γ ≡ ‵ (fat q (spotOf 𝓤 H E i .0) (spotOf 𝓤 H E i .1) (spotOf 𝓤 H E i .2) v)
+  pub reads : K → (n : ℕ) {i : ℕ} {q : Share} {v : Val} → nth 𝓤 H A n Γ
+      ≡ ‵ (fat q (spotOf 𝓤 H E i .0) (spotOf 𝓤 H E i .1) (spotOf 𝓤 H E i .2) v)
       → Opd K W Γ E (copy (place i [])) v
   reads t n e = load t (from t (stop t)) (look t n e)

@@ -1,5 +1,7 @@
--- What the bridges share besides `LentFront.antt`: a list of 8 records by value, and the call of `counted`, as a step of `Types/Kit.antt`'s calculus.
---     lowered, list-vals, list-tells, list-typed        how the list's machine value is spelled, that its type tells it, and that it is well typed
+-- What the bridges share besides `LentFront.antt`: a list of 8 records by value, and the call of `counted`, as a step of `Types/Kit.antt`'s
+-- calculus.
+--     lowered, list-vals, list-tells, list-typed        how the list's machine value is spelled, that its type tells it, and that it is
+-- well typed
 --     counts       `counted` gives how many of the records count, which is how many are lent (`counted-long`)
 -- `list-typed` and `counts` assume `Given`. The rest assumes nothing.
 use mathlib.Core.Path.{_≡_, refl, _∙_, ap}
@@ -50,7 +52,8 @@ list-vals = array-vals (λ (p : Parameter). T′.lowered p ∷ [])
 pub list-tells : Tells (Array R 8) (Is (Array R 8)) list-vals
 list-tells = array-tells R (λ (p : Parameter). T′.lowered p ∷ []) (T′.lowers .val-is) 8
 
-pub list-typed : {M : Type 1} (𝓤 : URA M) (H : Heap 𝓤) (A : Atoms 𝓤) (W : Given 𝓤 H A) (xs : List Parameter) → Is (Array R 8) xs (list-vals xs) → IsTrue (hasTy (tyArray T′.mir 8) (arrayVal (lowered xs))) × WT (arrayVal (lowered xs))
+pub list-typed : {M : Type 1} (𝓤 : URA M) (H : Heap 𝓤) (A : Atoms 𝓤) (W : Given 𝓤 H A) (xs : List Parameter)
+    → Is (Array R 8) xs (list-vals xs) → IsTrue (hasTy (tyArray T′.mir 8) (arrayVal (lowered xs))) × WT (arrayVal (lowered xs))
 list-typed 𝓤 H A W xs is = array-lawful 𝓤 H A W R (LL.lawful T.the-type T′.the-laws 𝓤 H A W) 8 .typed xs _ is .0
 
 pub counted-fits : (pairs : ℕ) → min pairs 8 < 2 ^ 64
@@ -63,19 +66,26 @@ counted-long pairs xs e = length-take pairs xs ∙ ap (min pairs) e
 abbrev pub Counted : {M : Type 1} (𝓤 : URA M) (H : Heap 𝓤) (A : Atoms 𝓤) (mem : Memory → SProp 𝓤) (run : Routine → Fun 𝓤) → Contract 𝓤
 Counted 𝓤 H A mem run = tripleOf 𝓤 H A g.signature (g.spec 𝓤 H A mem run)
 
-module _ {M : Type 1} (𝓤 : URA M) (H : Heap 𝓤) (A : Atoms 𝓤) (W : Given 𝓤 H A) (mem : Memory → SProp 𝓤) (run : Routine → Fun 𝓤) (pairs : ℕ) where
+module _ {M : Type 1} (𝓤 : URA M) (H : Heap 𝓤) (A : Atoms 𝓤) (W : Given 𝓤 H A) (mem : Memory → SProp 𝓤) (run : Routine → Fun 𝓤)
+    (pairs : ℕ) where
   abbrev to : Counted 𝓤 H A mem run .Ghost
   to = ((tt, tt, tt, (pairs, tt), (vint w64 pairs ∷ [], tt)), tt)
 
   asks : pairs < 2 ^ 64 → ent 𝓤 (emp 𝓤) (Counted 𝓤 H A mem run .pre to)
-  asks fits = qed W [] ∵ nothing ! $ owned ! usize (Is usize) (uint-makes 𝓤 H A W w64) pairs _ (refl, fits) $ fjoin ! $ nothing ! $ join ! $ frame ! $ done !
+  asks fits = qed W [] ∵ nothing ! $ owned ! usize (Is usize) (uint-makes 𝓤 H A W w64) pairs _ (refl, fits) $ fjoin ! $ nothing ! $
+      join ! $ frame ! $ done !
 
   says : (r : ℕ) → ent 𝓤 (ensured 𝓤 H A g.ended (g.clauses 𝓤 H A mem run) tt (pairs, tt) tt r) (fact 𝓤 (r ≡ min pairs 8))
   says r = exE 𝓤 _ (λ ws. snd∗ 𝓤 (sem 𝓤 H A (lasts g.ended tt (pairs, tt) ws)) (fact 𝓤 (r ≡ min pairs 8)))
 
-module _ {M : Type 1} {𝓤 : URA M} {H : Heap 𝓤} {A : Atoms 𝓤} {K : Type 0} {W : Given 𝓤 H A} {Γ : List (Item 𝓤)} {E : Env 𝓤 H} {C : Calls 𝓤 H} {Λ : Loops 𝓤 H} {q : Post 𝓤 H} {os : List Operand} {d : MPlace} {rest : Body} (mem : Memory → SProp 𝓤) (run : Routine → Fun 𝓤) where
-  pub counts : K → FmC 𝓤 H (W .laws) C → Triple 𝓤 (C #counted) (Counted 𝓤 H A mem run) → (pairs : ℕ) → pairs < 2 ^ 64 → ((i : Item 𝓤) → Opds K W (i ∷ Γ) E os (vint w64 pairs ∷ []))
+module _ {M : Type 1} {𝓤 : URA M} {H : Heap 𝓤} {A : Atoms 𝓤} {K : Type 0} {W : Given 𝓤 H A} {Γ : List (Item 𝓤)} {E : Env 𝓤 H}
+    {C : Calls 𝓤 H} {Λ : Loops 𝓤 H} {q : Post 𝓤 H} {os : List Operand} {d : MPlace} {rest : Body} (mem : Memory → SProp 𝓤)
+    (run : Routine → Fun 𝓤) where
+  pub counts : K → FmC 𝓤 H (W .laws) C → Triple 𝓤 (C #counted) (Counted 𝓤 H A mem run) → (pairs : ℕ) → pairs < 2 ^ 64
+      → ((i : Item 𝓤) → Opds K W (i ∷ Γ) E os (vint w64 pairs ∷ []))
       → Step K W Γ (lands C Λ E d (vint w64 (min pairs 8)) rest q) Γ (runs C Λ E (seq (call #counted os d) rest) q)
   counts t fm known pairs fits opds = step (λ s.
-      calls-plain t fm (Counted 𝓤 H A mem run) known (to 𝓤 H A W mem run pairs) (asks 𝓤 H A W mem run pairs fits) (opds _) usize (vint w64) (uint-tells w64)
-      (λ r. ensured 𝓤 H A g.ended (g.clauses 𝓤 H A mem run) tt (pairs, tt) tt r) (λ u. id⊢ 𝓤 _) (min pairs 8) (says 𝓤 H A W mem run pairs) (λ _. s))
+      calls-plain t fm (Counted 𝓤 H A mem run) known (to 𝓤 H A W mem run pairs) (asks 𝓤 H A W mem run pairs fits) (opds _) usize
+      (vint w64) (uint-tells w64)
+      (λ r. ensured 𝓤 H A g.ended (g.clauses 𝓤 H A mem run) tt (pairs, tt) tt r) (λ u. id⊢ 𝓤 _) (min pairs 8) (says 𝓤 H A W mem run pairs)
+      (λ _. s))

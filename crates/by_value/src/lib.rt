@@ -1,4 +1,5 @@
-// The functions over records, with the records by value, for callers that have no reference to a record: of the list the first `pairs` count, all 8 where that is larger.
+// The functions over records, with the records by value, for callers that have no reference to a record: of the list the first `pairs`
+// count, all 8 where that is larger.
 use encode_session::EncodeOpened;
 use encode_session::EncodeSession;
 use error::Written;
@@ -39,7 +40,8 @@ pub fn write_ext_fields(
     pairs: usize,
     out: &mut [u8],
 ) -> Written
-    ensures { λ r. ⌜ Emits (lentBytes false (kindNumber «ext_type») (now (text .entry)) (flattened (take pairs list))) (written r) (now (out .entry)) (now (out .exit)) ⌝ }
+    ensures { λ r. ⌜ Emits (lentBytes false (kindNumber «ext_type») (now (text .entry)) (flattened (take pairs list))) (written r)
+        (now (out .entry)) (now (out .exit)) ⌝ }
 {
     let n = counted(pairs);
     ext_write::write_ext_fields(ext_type, text, &list[..n], out)
@@ -52,7 +54,8 @@ pub fn write_ext_fields_strict(
     pairs: usize,
     out: &mut [u8],
 ) -> Written
-    ensures { λ r. ⌜ Emits (lentBytes true (kindNumber «ext_type») (now (text .entry)) (flattened (take pairs list))) (written r) (now (out .entry)) (now (out .exit)) ⌝ }
+    ensures { λ r. ⌜ Emits (lentBytes true (kindNumber «ext_type») (now (text .entry)) (flattened (take pairs list))) (written r)
+        (now (out .entry)) (now (out .exit)) ⌝ }
 {
     let n = counted(pairs);
     ext_write::write_ext_fields_strict(ext_type, text, &list[..n], out)
@@ -68,7 +71,8 @@ pub fn write_header_ext(
     strict: bool,
     out: &mut [u8],
 ) -> Written
-    ensures { λ r. ⌜ Emits (extHeader strict width height ext (now (text .entry)) (flattened (take pairs list))) (written r) (now (out .entry)) (now (out .exit)) ⌝ }
+    ensures { λ r. ⌜ Emits (extHeader strict width height ext (now (text .entry)) (flattened (take pairs list))) (written r)
+        (now (out .entry)) (now (out .exit)) ⌝ }
 {
     let n = counted(pairs);
     header::write_header_ext(width, height, ext, text, &list[..n], strict, out)
@@ -84,7 +88,8 @@ pub fn open(
     work: &[i16],
     out: &mut [u8],
 ) -> EncodeOpened
-    ensures { λ r. ⌜ Opens (opening options width height (now (text .entry)) (flattened (take pairs list))) (length (now (work .entry))) r (now (out .entry)) (now (out .exit)) ⌝ }
+    ensures { λ r. ⌜ Opens (opening options width height (now (text .entry)) (flattened (take pairs list))) (length (now (work .entry))) r
+        (now (out .entry)) (now (out .exit)) ⌝ }
 {
     let n = counted(pairs);
     EncodeSession::open(width, height, options, text, &list[..n], work, out)
@@ -102,7 +107,8 @@ pub fn encode_gray8(
     work: &mut [i16],
     out: &mut [u8],
 ) -> Written
-    ensures { λ r. ⌜ Makes madeFrames options width height count (now (gray .entry)) (now (text .entry)) (flattened (take pairs list)) (now (out .entry)) (now (work .entry)) (written r) (now (out .exit)) (now (work .exit)) ⌝ }
+    ensures { λ r. ⌜ Makes madeFrames options width height count (now (gray .entry)) (now (text .entry)) (flattened (take pairs list))
+        (now (out .entry)) (now (work .entry)) (written r) (now (out .exit)) (now (work .exit)) ⌝ }
 {
     let n = counted(pairs);
     encoder::encode_gray8(
@@ -131,7 +137,8 @@ pub fn encode_images(
     pairs: usize,
     out: &mut [u8],
 ) -> Written
-    ensures { λ r. ⌜ Emits (fileOfPlanes madeFrames options format width height count stride (now (planes .entry)) (now (text .entry)) (flattened (take pairs list))) (written r) (now (out .entry)) (now (out .exit)) ⌝ }
+    ensures { λ r. ⌜ Emits (fileOfPlanes madeFrames options format width height count stride (now (planes .entry)) (now (text .entry))
+        (flattened (take pairs list))) (written r) (now (out .entry)) (now (out .exit)) ⌝ }
 {
     let n = counted(pairs);
     encoder::encode_images(

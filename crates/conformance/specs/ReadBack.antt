@@ -21,16 +21,16 @@ use Rattle.decoder.specs.Image.{fieldsOf}
 use Rattle.decoder.specs.Frames.{Image, shown, decoded}
 
 -- fields within the ceiling of 4,096, or none
-abbrev pub Within : Fields → Type 0
-Within none = Unit {0}
-Within (bitfield octets) = Readable (bitfield octets)
-Within (reserved kind octet) = Unit {0}
-Within (pairs ps) = Readable (pairs ps)
+abbrev pub BelowCeiling : Fields → Type 0
+BelowCeiling none = Unit {0}
+BelowCeiling (bitfield octets) = Readable (bitfield octets)
+BelowCeiling (reserved kind octet) = Unit {0}
+BelowCeiling (pairs ps) = Readable (pairs ps)
 
 -- the fields that a reading in this mode takes from a file that was written strictly or not: a lenient one those within the ceiling, and a
 -- strict one none
 abbrev pub Taken : Mode → Bool → Fields → Type 0
-Taken lenient written fields = Within fields
+Taken lenient written fields = BelowCeiling fields
 Taken strict written fields = fields ≡ none
 
 -- no limit of the reading refuses the size

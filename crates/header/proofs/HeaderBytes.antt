@@ -89,7 +89,8 @@ module _ (strict : Bool) (w h kind : ℕ) (text lengths : List ℕ) where
           (elim l as (λ x. Answer Fields) [ [] ↦ refuses 23 0 | octet ∷ _ ↦ gives (reserved kind octet) ])) ≡ gives f
           → fixByte f ≡ 128 + kind * 32
       go true u v l p q r = let i : bitfield text ≡ f = cc in let k = eqb-true kind 0 p in sym (ap fixByte i) ∙ omega arith
-      go false true true l p q r = let i : pairs (cutPairs lengths text) ≡ f = cc in let k = eqb-true kind 3 q in sym (ap fixByte i) ∙ omega arith
+      go false true true l p q r = let i : pairs (cutPairs lengths text) ≡ f = cc in let k = eqb-true kind 3 q in sym (ap fixByte i)
+          ∙ omega arith
       go false true false l p q r = zero-one (cc)
       go false false v [] p q r = zero-one (cc)
       go false false v (octet ∷ _) p q r = let i : reserved kind octet ≡ f = cc in sym (ap fixByte i)
@@ -113,7 +114,8 @@ module _ (strict : Bool) (w h kind : ℕ) (text lengths : List ℕ) where
           → gives (2 + length (sizeBytes w h) + n) ≡ map length (lentHeader strict w h kind text lengths)
       go (gives bytes) e q =
           let l : n ≡ length bytes = cc in
-          let m : 2 + length (sizeBytes w h) + n ≡ length (headerBytes (128 + kind * 32) bytes w h) = omega (arith, header-length (128 + kind * 32) bytes w h) in
+          let m : 2 + length (sizeBytes w h) + n ≡ length (headerBytes (128 + kind * 32) bytes w h) = omega
+          (arith, header-length (128 + kind * 32) bytes w h) in
           ap gives m ∙ ap (map length) (sym (lent-gives bytes e))
       go (refuses code offset) e q = zero-one (cc)
 
@@ -121,16 +123,19 @@ module _ (strict : Bool) (w h kind : ℕ) (text lengths : List ℕ) where
       → refuses code offset ≡ map length (lentHeader strict w h kind text lengths)
   lent-refuses code offset = go (lentFields kind text lengths)
     where
-      each : (f : Fields) (a : Answer (List ℕ)) → refuses code offset ≡ map length a → refuses code offset ≡ map length (map (λ b. headerBytes (fixByte f) b w h) a)
+      each : (f : Fields) (a : Answer (List ℕ)) → refuses code offset ≡ map length a → refuses code offset
+          ≡ map length (map (λ b. headerBytes (fixByte f) b w h) a)
       each f (gives bytes) q = zero-one (cc)
       each f (refuses c p) q = q
 
-      go : (a : Answer Fields) → refuses code offset ≡ map length (bind a (fieldsBytes strict)) → refuses code offset ≡ map length (bind a (fieldsHeader strict w h))
+      go : (a : Answer Fields) → refuses code offset ≡ map length (bind a (fieldsBytes strict)) → refuses code offset
+          ≡ map length (bind a (fieldsHeader strict w h))
       go (gives f) q = each f (fieldsBytes strict f) q
       go (refuses c p) q = q
 
   -- a header that is refused leaves no pairs
-  pub lent-short : (old : List ℕ) (n : ℕ) (b : PairsBegun) (a : Written) → b ≡ record { to = length old; answer = a } → a ≡ Written.Refused (record { code = 25; offset = 0 })
+  pub lent-short : (old : List ℕ) (n : ℕ) (b : PairsBegun) (a : Written) → b ≡ record { to = length old; answer = a } → a
+      ≡ Written.Refused (record { code = 25; offset = 0 })
       → gives n ≡ map length (lentBytes strict kind text lengths) → length old < 2 + length (sizeBytes w h) + n
       → Left strict text lengths old b (Emits (lentHeader strict w h kind text lengths) (written (b .answer)) old)
   lent-short old n b a e f g k =
@@ -138,32 +143,45 @@ module _ (strict : Bool) (w h kind : ℕ) (text lengths : List ℕ) where
       (short-emitted (lentHeader strict w h kind text lengths) (2 + length (sizeBytes w h) + n) old (written (b .answer))
       (ap (λ (x : PairsBegun). written (x .answer)) e ∙ ap written f) (lent-length n g) k)
 
-  pub lent-refused : (old : List ℕ) (code offset : ℕ) (b : PairsBegun) (e : WbmpError) → b ≡ record { to = length old; answer = Written.Refused e }
+  pub lent-refused : (old : List ℕ) (code offset : ℕ) (b : PairsBegun) (e : WbmpError) → b
+      ≡ record { to = length old; answer = Written.Refused e }
       → refusal e ≡ map length (lentBytes strict kind text lengths)
       → Left strict text lengths old b (Emits (lentHeader strict w h kind text lengths) (written (b .answer)) old)
   lent-refused old code offset b e q g =
       none-left (ap (λ (x : PairsBegun). x .to) q)
-      (subst (λ (r : Answer ℕ). Emits (lentHeader strict w h kind text lengths) r old old) (sym (ap (λ (x : PairsBegun). written (x .answer)) q))
+      (subst (λ (r : Answer ℕ). Emits (lentHeader strict w h kind text lengths) r old old)
+      (sym (ap (λ (x : PairsBegun). written (x .answer)) q))
       (emits-refused (lentHeader strict w h kind text lengths) (e .code) (e .offset) old (lent-refuses (e .code) (e .offset) g)))
 
   -- its parts: the sizes first, then the fields before them
-  lent-put : (old : List ℕ) (n : ℕ) (bytes : List ℕ) → lentBytes strict kind text lengths ≡ gives bytes → n ≡ length bytes → 2 + length (sizeBytes w h) + n ≤ length old
+  lent-put : (old : List ℕ) (n : ℕ) (bytes : List ℕ) → lentBytes strict kind text lengths ≡ gives bytes → n ≡ length bytes
+      → 2 + length (sizeBytes w h) + n ≤ length old
       → Emits (lentHeader strict w h kind text lengths) (gives (2 + length (sizeBytes w h) + n)) old
       (sets (sets (set (set old 0 0) 1 (128 + kind * 32)) (2 + n) (sizeBytes w h)) 2 bytes)
   lent-put old n bytes p l f =
-      rw (lent-gives bytes p, l, sets-before (set (set old 0 0) 1 (128 + kind * 32)) 2 bytes (sizeBytes w h), sym (sets-append (set (set old 0 0) 1 (128 + kind * 32)) 2 bytes (sizeBytes w h)))
-      (header-put (128 + kind * 32) bytes w h old (2 + length (sizeBytes w h) + length bytes) (omega (arith, header-length (128 + kind * 32) bytes w h)) (omega arith))
+      rw (
+        lent-gives bytes p,
+        l,
+        sets-before (set (set old 0 0) 1 (128 + kind * 32)) 2 bytes (sizeBytes w h),
+        sym
+            (sets-append (set (set old 0 0) 1 (128 + kind * 32)) 2 bytes (sizeBytes w h)),
+      )
+      (header-put (128 + kind * 32) bytes w h old (2 + length (sizeBytes w h) + length bytes)
+      (omega (arith, header-length (128 + kind * 32) bytes w h)) (omega arith))
 
   -- what is left of the fields that were begun in the output from index 2 on, once the rest of the header is there
-  pub lent-left : (old l part : List ℕ) (n : ℕ) (b b′ : PairsBegun) → gives n ≡ map length (lentBytes strict kind text lengths) → 2 + length (sizeBytes w h) + n ≤ length old
+  pub lent-left : (old l part : List ℕ) (n : ℕ) (b b′ : PairsBegun) → gives n ≡ map length (lentBytes strict kind text lengths)
+      → 2 + length (sizeBytes w h) + n ≤ length old
       → l ≡ sets (set (set old 0 0) 1 (128 + kind * 32)) (2 + n) (sizeBytes w h) → length part ≡ length (midOf 2 (length l - 2) l)
       → b′ .to ≡ 2 + b .to → written (b′ .answer) ≡ gives (2 + length (sizeBytes w h) + n)
       → Left strict text lengths part b (Emits (lentBytes strict kind text lengths) (written (b .answer)) (midOf 2 (length l - 2) l))
-      → Left strict text lengths (putMid 2 (length l - 2) l part) b′ (Emits (lentHeader strict w h kind text lengths) (written (b′ .answer)) old)
+      → Left strict text lengths (putMid 2 (length l - 2) l part) b′
+      (Emits (lentHeader strict w h kind text lengths) (written (b′ .answer)) old)
   lent-left old l part n b b′ e f g k to answer x = go x
     where
       long : length l ≡ length old
-      long = ap length g ∙ length-sets (set (set old 0 0) 1 (128 + kind * 32)) (2 + n) (sizeBytes w h) ∙ length-set (set old 0 0) 1 (128 + kind * 32) ∙ length-set old 0 0
+      long = ap length g ∙ length-sets (set (set old 0 0) 1 (128 + kind * 32)) (2 + n) (sizeBytes w h)
+          ∙ length-set (set old 0 0) 1 (128 + kind * 32) ∙ length-set old 0 0
 
       -- the part, and the whole with it put back
       behind : length part ≡ length l - 2
@@ -173,11 +191,13 @@ module _ (strict : Bool) (w h kind : ℕ) (text lengths : List ℕ) where
       whole = same-len-mid 2 (length l - 2) l part k
 
       -- fields that the part holds are the header's
-      done : (bytes new : List ℕ) (r : Answer ℕ) → lentBytes strict kind text lengths ≡ gives bytes → Emits (lentBytes strict kind text lengths) r (midOf 2 (length l - 2) l) new
+      done : (bytes new : List ℕ) (r : Answer ℕ) → lentBytes strict kind text lengths ≡ gives bytes
+          → Emits (lentBytes strict kind text lengths) r (midOf 2 (length l - 2) l) new
           → Emits (lentHeader strict w h kind text lengths) (gives (2 + length (sizeBytes w h) + n)) old (putMid 2 (length l - 2) l new)
       done bytes new r p m =
           let q : n ≡ length bytes = length-given (lentBytes strict kind text lengths) n bytes e p in
-          let d = emits-part 2 l bytes new r (omega (arith, long)) (subst (λ (a : Answer (List ℕ)). Emits a r (midOf 2 (length l - 2) l) new) p m) in
+          let d = emits-part 2 l bytes new r (omega (arith, long))
+          (subst (λ (a : Answer (List ℕ)). Emits a r (midOf 2 (length l - 2) l) new) p m) in
           subst (Emits (lentHeader strict w h kind text lengths) (gives (2 + length (sizeBytes w h) + n)) old)
           (sym (d ∙ ap (λ (z : List ℕ). sets z 2 bytes) g)) (lent-put old n bytes p q f)
 
@@ -185,17 +205,21 @@ module _ (strict : Bool) (w h kind : ℕ) (text lengths : List ℕ) where
       fields = given (lentBytes strict kind text lengths) n e
 
       go : Left strict text lengths part b (Emits (lentBytes strict kind text lengths) (written (b .answer)) (midOf 2 (length l - 2) l))
-          → Left strict text lengths (putMid 2 (length l - 2) l part) b′ (Emits (lentHeader strict w h kind text lengths) (written (b′ .answer)) old)
+          → Left strict text lengths (putMid 2 (length l - 2) l part) b′
+          (Emits (lentHeader strict w h kind text lengths) (written (b′ .answer)) old)
       go (none-left t m) =
           none-left (omega (arith, to, t, behind, whole, long))
-          (subst (λ (r : Answer ℕ). Emits (lentHeader strict w h kind text lengths) r old (putMid 2 (length l - 2) l part)) (sym answer) (done (fields .0) part (written (b .answer)) (fields .1) m))
+          (subst (λ (r : Answer ℕ). Emits (lentHeader strict w h kind text lengths) r old (putMid 2 (length l - 2) l part)) (sym answer)
+          (done (fields .0) part (written (b .answer)) (fields .1) m))
       go (pairs-left bytes end p a t u m) =
           pairs-left bytes (2 + length (sizeBytes w h) + n) p answer
           (omega (arith, to, t, ended end (sym a ∙ m .answer)))
           (omega (arith, whole, long))
           (subst (Emits (lentHeader strict w h kind text lengths) (written (b′ .answer)) old)
-          (sym (ap (λ (i : ℕ). sets (putMid 2 (length l - 2) l part) i bytes) to ∙ sets-mid 2 (length l - 2) l part (b .to) bytes (omega (arith, long)) (omega (arith, t, u))))
-          (subst (λ (r : Answer ℕ). Emits (lentHeader strict w h kind text lengths) r old (putMid 2 (length l - 2) l (sets part (b .to) bytes))) (sym answer)
+          (sym (ap (λ (i : ℕ). sets (putMid 2 (length l - 2) l part) i bytes) to
+          ∙ sets-mid 2 (length l - 2) l part (b .to) bytes (omega (arith, long)) (omega (arith, t, u))))
+          (subst (λ (r : Answer ℕ). Emits (lentHeader strict w h kind text lengths) r old
+          (putMid 2 (length l - 2) l (sets part (b .to) bytes))) (sym answer)
           (done (fields .0) (sets part (b .to) bytes) (written (b .answer)) (fields .1) m)))
         where
           -- the fields end where their bytes do
@@ -203,19 +227,24 @@ module _ (strict : Bool) (w h kind : ℕ) (text lengths : List ℕ) where
           ended end q = emitted-length (lentBytes strict kind text lengths) (midOf 2 (length l - 2) l) n end e q
 
 -- what is answered is within the output
-pub none-within : (new : List ℕ) (b : PairsBegun) (x : Written) (e : WbmpError) (to : ℕ) → b ≡ record { to = to; answer = x } → x ≡ Written.Refused e → HasRoom b new
+pub none-within : (new : List ℕ) (b : PairsBegun) (x : Written) (e : WbmpError) (to : ℕ) → b ≡ record { to = to; answer = x } → x
+    ≡ Written.Refused e → HasRoom b new
 none-within new b x e to q f n g =
     let r : written (b .answer) ≡ refusal e = ap (λ (y : PairsBegun). written (y .answer)) q ∙ ap written f in
     zero-one (cc)
 
-pub bytes-within : (old new : List ℕ) (b : PairsBegun) (n : ℕ) → written (b .answer) ≡ gives n → 0 < n → n ≤ length old → length new ≡ length old → HasRoom b new
+pub bytes-within : (old new : List ℕ) (b : PairsBegun) (n : ℕ) → written (b .answer) ≡ gives n → 0 < n → n ≤ length old → length new
+    ≡ length old → HasRoom b new
 bytes-within old new b n e h k l m f = let q : n ≡ m = cc in (omega arith, omega arith)
 
-pub plain-within : (w h : ℕ) (old new : List ℕ) (b : PairsBegun) (x : Written) (to : ℕ) → b ≡ record { to = to; answer = x } → length new ≡ length old
+pub plain-within : (w h : ℕ) (old new : List ℕ) (b : PairsBegun) (x : Written) (to : ℕ) → b ≡ record { to = to; answer = x } → length new
+    ≡ length old
     → Emits (plainHeader w h) (written x) old new → HasRoom b new
-plain-within w h old new b x to q l m n e = by-test (leb (length (headerBytes 0 [] w h)) (length old)) refl (sym e ∙ ap (λ (y : PairsBegun). written (y .answer)) q ∙ m .answer)
+plain-within w h old new b x to q l m n e = by-test (leb (length (headerBytes 0 [] w h)) (length old)) refl
+    (sym e ∙ ap (λ (y : PairsBegun). written (y .answer)) q ∙ m .answer)
   where
-    by-test : (t : Bool) → leb (length (headerBytes 0 [] w h)) (length old) ≡ t → gives n ≡ if t (gives (length (headerBytes 0 [] w h))) (refuses 25 0) → (0 < n) × (n ≤ length new)
+    by-test : (t : Bool) → leb (length (headerBytes 0 [] w h)) (length old) ≡ t → gives n
+        ≡ if t (gives (length (headerBytes 0 [] w h))) (refuses 25 0) → (0 < n) × (n ≤ length new)
     by-test true t r =
         let f : n ≡ length (headerBytes 0 [] w h) = cc in
         let k = leb-true (length (headerBytes 0 [] w h)) (length old) t in
@@ -223,12 +252,15 @@ plain-within w h old new b x to q l m n e = by-test (leb (length (headerBytes 0 
     by-test false t r = zero-one (cc)
 
 -- the place of the first pair is a number of the machine
-pub fits-two : (to : ℕ) (l part : List ℕ) (n : ℕ) → to ≤ length part → length part ≡ length (midOf 2 (length l - 2) l) → length l ≡ n → 2 ≤ n → n < 2 ^ 64 → Fits w64 (2 + to)
+pub fits-two : (to : ℕ) (l part : List ℕ) (n : ℕ) → to ≤ length part → length part ≡ length (midOf 2 (length l - 2) l) → length l ≡ n
+    → 2 ≤ n → n < 2 ^ 64 → Fits w64 (2 + to)
 fits-two to l part n h k e f g = record { fits = omega (arith, mid-len 2 (length l) l (omega arith)) }
 
 -- A size of 0 is refused first.
-pub zero-left : (strict : Bool) (text lengths old : List ℕ) (b : PairsBegun) (x : Written) (t : Bool) (a : Answer (List ℕ)) → b ≡ record { to = length old; answer = x }
-    → x ≡ Written.Refused (record { code = 8; offset = 0 }) → t ≡ true → Left strict text lengths old b (Emits (if t (refuses 8 0) a) (written (b .answer)) old)
+pub zero-left : (strict : Bool) (text lengths old : List ℕ) (b : PairsBegun) (x : Written) (t : Bool) (a : Answer (List ℕ)) → b
+    ≡ record { to = length old; answer = x }
+    → x ≡ Written.Refused (record { code = 8; offset = 0 }) → t ≡ true
+    → Left strict text lengths old b (Emits (if t (refuses 8 0) a) (written (b .answer)) old)
 zero-left strict text lengths old b x t a e f q =
     let r : written (b .answer) ≡ refuses 8 0 = ap (λ (y : PairsBegun). written (y .answer)) e ∙ ap written f in
     none-left (ap (λ (y : PairsBegun). y .to) e) (rw (q, r) (record { answer = refl; bytes = refl }))
@@ -237,11 +269,13 @@ zero-left strict text lengths old b x t a e f q =
 module _ (strict : Bool) (w h : ℕ) (text lengths old new : List ℕ) (b : PairsBegun) where
   pub presence-left : (t : Bool) (p q : ExtPresence) → t ≡ false → p ≡ q
       → Left strict text lengths new b (Emits (bind (presented q text lengths) (fieldsHeader strict w h)) (written (b .answer)) old)
-      → Left strict text lengths new b (Emits (if t (refuses 8 0) (bind (presented p text lengths) (fieldsHeader strict w h))) (written (b .answer)) old)
+      → Left strict text lengths new b (Emits (if t (refuses 8 0) (bind (presented p text lengths) (fieldsHeader strict w h)))
+      (written (b .answer)) old)
   presence-left t p q e f m = rw (e, f) m
 
   pub absent-left : (x : Written) → b ≡ record { to = length new; answer = x } → Emits (plainHeader w h) (written x) old new
       → Left strict text lengths new b (Emits (bind (presented Absent text lengths) (fieldsHeader strict w h)) (written (b .answer)) old)
   unfolding fieldsBytes
   absent-left x e m =
-      none-left (ap (λ (y : PairsBegun). y .to) e) (subst (λ (r : Answer ℕ). Emits (plainHeader w h) r old new) (sym (ap (λ (y : PairsBegun). written (y .answer)) e)) m)
+      none-left (ap (λ (y : PairsBegun). y .to) e) (subst (λ (r : Answer ℕ). Emits (plainHeader w h) r old new)
+      (sym (ap (λ (y : PairsBegun). written (y .answer)) e)) m)

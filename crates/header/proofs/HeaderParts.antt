@@ -27,11 +27,13 @@ on-integer r x a k p e = ap (λ (y : Answer (ℕ × ℕ)). bind y k) (sym p ∙ 
 
 module _ (o : Settings) (s : List ℕ) (fix start : ℕ) where
   -- the sizes by themselves
-  height-outline : (f : Fields × ℕ) (w : ℕ × ℕ) → map outline (readHeight o s fix start f w) ≡ outlineHeight (o .shortest) s fix (spanOf start f) w
+  height-outline : (f : Fields × ℕ) (w : ℕ × ℕ) → map outline (readHeight o s fix start f w)
+      ≡ outlineHeight (o .shortest) s fix (spanOf start f) w
   height-outline f w = go (readMbi (o .shortest) s (w .1))
     where
       pick : (h : ℕ × ℕ) (t : Bool)
-          → map outline (if t (refuses 8 (h .1)) (gives (record { width = w .0; height = h .0; fix = fix; fields = f .0; start = start; sizes = f .1; body = h .1 })))
+          → map outline (if t (refuses 8 (h .1)) (gives (record
+          { width = w .0; height = h .0; fix = fix; fields = f .0; start = start; sizes = f .1; body = h .1 })))
           ≡ if t (refuses 8 (h .1)) (gives (record { width = w .0; height = h .0; fix = fix; fields = spanOf start f; body = h .1 }))
       pick h true = refl
       pick h false = refl
@@ -46,7 +48,8 @@ module _ (o : Settings) (s : List ℕ) (fix start : ℕ) where
   sizes-outline : (f : Fields × ℕ) → map outline (readSizes o s fix start f) ≡ outlineSizes (o .shortest) s fix (spanOf start f) (f .1)
   sizes-outline f = go (readMbi (o .shortest) s (f .1))
     where
-      go : (x : Answer (ℕ × ℕ)) → map outline (bind x (readHeight o s fix start f)) ≡ bind x (outlineHeight (o .shortest) s fix (spanOf start f))
+      go : (x : Answer (ℕ × ℕ)) → map outline (bind x (readHeight o s fix start f))
+          ≡ bind x (outlineHeight (o .shortest) s fix (spanOf start f))
       go (gives w) = height-outline f w
       go (refuses code offset) = refl
 
@@ -73,7 +76,8 @@ module _ (o : Settings) (s : List ℕ) (fix start : ℕ) where
       each (refuses code offset) e = refl
 
   -- go on from what reading the fields answered
-  pub on-fields : (strict follow : Bool) (kind : ℕ) (r x : ExtRead) → fieldsRead r ≡ map (spanOf start) (readFields strict follow kind s start) → r ≡ x
+  pub on-fields : (strict follow : Bool) (kind : ℕ) (r x : ExtRead) → fieldsRead r
+      ≡ map (spanOf start) (readFields strict follow kind s start) → r ≡ x
       → map outline (bind (readFields strict follow kind s start) (readSizes o s fix start)) ≡ bind (fieldsRead x) sizesAfter
   on-fields strict follow kind r x p e =
       after-fields strict follow kind ∙ ap (λ (a : Answer Span). bind a sizesAfter) (sym p ∙ ap fieldsRead e)
@@ -85,7 +89,8 @@ unfolding readFields
 fields-end strict false kind s at r f p e = zero-one (cc)
 fields-end strict true kind s at r f p e = each (readFields strict true kind s at) refl (sym p ∙ ap fieldsRead e)
   where
-    each : (x : Answer (Fields × ℕ)) → readFields strict true kind s at ≡ x → map (spanOf at) x ≡ fieldsRead (ExtRead.Fields f) → f .start + f .len ≤ length s
+    each : (x : Answer (Fields × ℕ)) → readFields strict true kind s at ≡ x → map (spanOf at) x ≡ fieldsRead (ExtRead.Fields f)
+        → f .start + f .len ≤ length s
     each (gives y) q z =
         let b = fields-bound strict true kind s at y q in
         let i = span-is strict kind s at y q in

@@ -34,19 +34,23 @@ pick-other true x x′ y p e = p e
 pick-other false x x′ y p e = refl
 
 module _ (o : Settings) (s ρ : List ℕ) where
-  pub integer-prefix : (at : ℕ) → decided (readMbi (o .shortest) s at) ≡ true → readMbi (o .shortest) (s ++ ρ) at ≡ readMbi (o .shortest) s at
-  integer-prefix at e = mbi-prefix (o .shortest) s ρ at (λ p q. let z = subst (λ (x : Answer (ℕ × ℕ)). decided x ≡ true) q e in zero-one (cc))
+  pub integer-prefix : (at : ℕ) → decided (readMbi (o .shortest) s at) ≡ true → readMbi (o .shortest) (s ++ ρ) at
+      ≡ readMbi (o .shortest) s at
+  integer-prefix at e = mbi-prefix (o .shortest) s ρ at (λ p q. let z = subst (λ (x : Answer (ℕ × ℕ)). decided x ≡ true) q e in zero-one
+      (cc))
 
   fix-prefix : (at : ℕ) → decided (readFix o s at) ≡ true → readFix o (s ++ ρ) at ≡ readFix o s at
   fix-prefix at e = go (leb (length s) at) refl e
     where
-      after-prefix : (fix start : ℕ) → decided (readAfterFix o s fix start) ≡ true → readAfterFix o (s ++ ρ) fix start ≡ readAfterFix o s fix start
+      after-prefix : (fix start : ℕ) → decided (readAfterFix o s fix start) ≡ true → readAfterFix o (s ++ ρ) fix start
+          ≡ readAfterFix o s fix start
       after-prefix fix start =
           bind-prefix _ _ _ _ (fields-prefix (o .classes) (o .honoured && fieldsFollow fix) (kindBits fix) s ρ start)
           (λ f. bind-prefix _ _ _ _ (integer-prefix (f .1)) (λ w. bind-prefix _ _ _ _ (integer-prefix (w .1)) (λ h q. refl)))
 
       go : (t : Bool) → leb (length s) at ≡ t
-          → decided (if t (refuses 6 at) (if (o .fixZero && ltb 0 (getD s at 0)) (refuses 7 at) (readAfterFix o s (getD s at 0) (at + 1)))) ≡ true
+          → decided (if t (refuses 6 at) (if (o .fixZero && ltb 0 (getD s at 0)) (refuses 7 at)
+          (readAfterFix o s (getD s at 0) (at + 1)))) ≡ true
           → readFix o (s ++ ρ) at
           ≡ if t (refuses 6 at) (if (o .fixZero && ltb 0 (getD s at 0)) (refuses 7 at) (readAfterFix o s (getD s at 0) (at + 1)))
       go true p q = zero-one (cc)

@@ -26,13 +26,24 @@ use Rattle.header.specs.Write.{fixByte, sizeBytes, headerBytes}
 -- the header that is shown, its fields being of so many bytes
 abbrev pub shown : ℕ → ℕ → Fields → ℕ → Header
 shown w h f n =
-    record { width = w; height = h; fix = fixByte f; fields = f; start = 2; sizes = 2 + n; body = 2 + n + length (mbiBytes w) + length (mbiBytes h) }
+    record {
+      width = w;
+      height = h;
+      fix = fixByte f;
+      fields = f;
+      start = 2;
+      sizes = 2 + n;
+      body = 2 + n + length (mbiBytes w) + length
+          (mbiBytes h);
+    }
 
 -- a reader that takes fields f written strictly or not: every reader where there are none
 abbrev pub Fitting : Settings → Bool → Fields → Type 0
 Fitting o strict none = Unit {0}
-Fitting o strict (bitfield octets) = Readable (bitfield octets) × (o .fixZero ≡ false) × (o .honoured ≡ true) × (o .classes ≡ true → strict ≡ true)
-Fitting o strict (reserved kind octet) = Readable (reserved kind octet) × (o .fixZero ≡ false) × (o .honoured ≡ true) × (o .classes ≡ true → strict ≡ true)
+Fitting o strict (bitfield octets) = Readable (bitfield octets) × (o .fixZero ≡ false) × (o .honoured ≡ true)
+    × (o .classes ≡ true → strict ≡ true)
+Fitting o strict (reserved kind octet) = Readable (reserved kind octet) × (o .fixZero ≡ false) × (o .honoured ≡ true)
+    × (o .classes ≡ true → strict ≡ true)
 Fitting o strict (pairs ps) = Readable (pairs ps) × (o .fixZero ≡ false) × (o .honoured ≡ true) × (o .classes ≡ true → strict ≡ true)
 
 module _ (o : Settings) (strict : Bool) (w h : ℕ) (f : Fields) (bytes τ : List ℕ) where
@@ -52,21 +63,26 @@ module _ (o : Settings) (strict : Bool) (w h : ℕ) (f : Fields) (bytes τ : Lis
 
   type-back : readMbi (o .shortest) file 0 ≡ gives (0, 1)
   unfolding mbiBytes groups
-  type-back = ap (λ (l : List ℕ). readMbi (o .shortest) l 0) at-fields ∙ read-written (o .shortest) [] 0 (fixByte f ∷ (bytes ++ (sizeBytes w h ++ τ))) (omega arith)
+  type-back = ap (λ (l : List ℕ). readMbi (o .shortest) l 0) at-fields
+      ∙ read-written (o .shortest) [] 0 (fixByte f ∷ (bytes ++ (sizeBytes w h ++ τ))) (omega arith)
 
   width-back : w < 4294967296 → readMbi (o .shortest) file (2 + length bytes) ≡ gives (w, 2 + length bytes + length (mbiBytes w))
   width-back b =
       let e : suc (suc (length bytes)) ≡ 2 + length bytes = omega arith in
       ap (λ (l : List ℕ). readMbi (o .shortest) l (2 + length bytes)) at-width
-      ∙ subst (λ (n : ℕ). readMbi (o .shortest) ((0 ∷ fixByte f ∷ bytes) ++ (mbiBytes w ++ (mbiBytes h ++ τ))) n ≡ gives (w, n + length (mbiBytes w))) e
+      ∙ subst (λ (n : ℕ). readMbi (o .shortest) ((0 ∷ fixByte f ∷ bytes) ++ (mbiBytes w ++ (mbiBytes h ++ τ))) n
+      ≡ gives (w, n + length (mbiBytes w))) e
       (read-written (o .shortest) (0 ∷ fixByte f ∷ bytes) w (mbiBytes h ++ τ) b)
 
   height-back : h < 4294967296
-      → readMbi (o .shortest) file (2 + length bytes + length (mbiBytes w)) ≡ gives (h, 2 + length bytes + length (mbiBytes w) + length (mbiBytes h))
+      → readMbi (o .shortest) file (2 + length bytes + length (mbiBytes w))
+      ≡ gives (h, 2 + length bytes + length (mbiBytes w) + length (mbiBytes h))
   height-back b =
-      let e : length ((0 ∷ fixByte f ∷ bytes) ++ mbiBytes w) ≡ 2 + length bytes + length (mbiBytes w) = omega (arith, length-append (0 ∷ fixByte f ∷ bytes) (mbiBytes w)) in
+      let e : length ((0 ∷ fixByte f ∷ bytes) ++ mbiBytes w)
+      ≡ 2 + length bytes + length (mbiBytes w) = omega (arith, length-append (0 ∷ fixByte f ∷ bytes) (mbiBytes w)) in
       ap (λ (l : List ℕ). readMbi (o .shortest) l (2 + length bytes + length (mbiBytes w))) at-height
-      ∙ subst (λ (n : ℕ). readMbi (o .shortest) (((0 ∷ fixByte f ∷ bytes) ++ mbiBytes w) ++ (mbiBytes h ++ τ)) n ≡ gives (h, n + length (mbiBytes h))) e
+      ∙ subst (λ (n : ℕ). readMbi (o .shortest) (((0 ∷ fixByte f ∷ bytes) ++ mbiBytes w) ++ (mbiBytes h ++ τ)) n
+      ≡ gives (h, n + length (mbiBytes h))) e
       (read-written (o .shortest) ((0 ∷ fixByte f ∷ bytes) ++ mbiBytes w) h τ b)
 
   -- the fields, where the reader takes them
@@ -81,8 +97,10 @@ reserved-bits : (kind : ℕ) → (kind ≡ 1) ⊎ (kind ≡ 2) → (leb 128 (128
 reserved-bits kind p = (le-leb 128 (128 + kind * 32) (omega arith), ⊎-elim (λ k. omega arith) (λ k. omega arith) p)
 
 -- the fields as the FixHeader byte announces them
-fields-back : (o : Settings) (strict : Bool) (w h : ℕ) (f : Fields) (bytes τ : List ℕ) → Fitting o strict f → fieldsBytes strict f ≡ gives bytes
-    → readFields (o .classes) (o .honoured && fieldsFollow (fixByte f)) (kindBits (fixByte f)) (file o strict w h f bytes τ) 2 ≡ gives (f, 2 + length bytes)
+fields-back : (o : Settings) (strict : Bool) (w h : ℕ) (f : Fields) (bytes τ : List ℕ) → Fitting o strict f → fieldsBytes strict f
+    ≡ gives bytes
+    → readFields (o .classes) (o .honoured && fieldsFollow (fixByte f)) (kindBits (fixByte f)) (file o strict w h f bytes τ) 2
+    ≡ gives (f, 2 + length bytes)
 unfolding readFields fieldsBytes
 fields-back o strict w h none bytes τ p e =
     let b : [] ≡ bytes = cc in
@@ -125,10 +143,12 @@ header-back o strict w h f bytes τ wz wb hz hb p e =
 pair : Pair
 pair = record { identifier = 0x6B ∷ []; value = 0x31 ∷ 0x32 ∷ [] }
 
-example-fields : readHeader (extInner true) (headerBytes 0xE0 (0x12 ∷ 0x6B ∷ 0x31 ∷ 0x32 ∷ []) 9 2 ++ (0xFF ∷ [])) ≡ gives (shown 9 2 (pairs (pair ∷ [])) 4)
+example-fields : readHeader (extInner true) (headerBytes 0xE0 (0x12 ∷ 0x6B ∷ 0x31 ∷ 0x32 ∷ []) 9 2 ++ (0xFF ∷ []))
+    ≡ gives (shown 9 2 (pairs (pair ∷ [])) 4)
 unfolding fieldsBytes pairsBytes checkPair all isAlphaDigit pair
 example-fields =
-    header-back (extInner true) true 9 2 (pairs (pair ∷ [])) (0x12 ∷ 0x6B ∷ 0x31 ∷ 0x32 ∷ []) (0xFF ∷ []) (omega arith) (omega arith) (omega arith) (omega arith)
+    header-back (extInner true) true 9 2 (pairs (pair ∷ [])) (0x12 ∷ 0x6B ∷ 0x31 ∷ 0x32 ∷ []) (0xFF ∷ []) (omega arith) (omega arith)
+    (omega arith) (omega arith)
     ((omega arith, tt), refl, refl, λ z. refl) refl
 
 example-plain : readHeader (inner true) (headerBytes 0 [] 9 2 ++ (0xFF ∷ [])) ≡ gives (shown 9 2 none 0)

@@ -153,7 +153,8 @@ module _ (o : Settings) (σ : List ℕ) (st : State) (e : steps o start σ ≡ m
 
   bytes-step : (b : ℕ) (τ : List ℕ) → fieldBytes o (σ ++ b ∷ τ) ≡ after o (σ ++ b ∷ τ) (zone st) (stepOf o st b) τ
   bytes-step b τ =
-      rest-start o (σ ++ b ∷ τ) ∙ rest-steps o (σ ++ b ∷ τ) σ (b ∷ τ) start st reachable-start e ∙ rest-step o (σ ++ b ∷ τ) τ st b reachable-so
+      rest-start o (σ ++ b ∷ τ) ∙ rest-steps o (σ ++ b ∷ τ) σ (b ∷ τ) start st reachable-start e
+      ∙ rest-step o (σ ++ b ∷ τ) τ st b reachable-so
 
   -- the one-byte law
   pub grown : (b : ℕ) (τ : List ℕ) (x : Step) → stepOf o st b ≡ x → Follow x τ → Grown o σ b τ (stores st (length σ) x)

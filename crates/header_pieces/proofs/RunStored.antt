@@ -167,7 +167,8 @@ module _ (o : Settings) (bytes piece ext₀ : List ℕ) (at kept i : ℕ) (r : H
       inside-bytes o σ ρ (g .reached .state) (ran .next) (g .reached .reached) there (g .reached .represents .reachable)
       (ran .represents .reachable) n in
       let m =
-      inside-room o σ ρ (g .reached .state) (ran .next) (g .reached .reached) there (g .reached .represents .reachable) (ran .represents .reachable)
+      inside-room o σ ρ (g .reached .state) (ran .next) (g .reached .reached) there (g .reached .represents .reachable)
+      (ran .represents .reachable)
       n in
       let s : length (fieldBytes o (σ ++ ρ)) ≡ length (fieldBytes o σ) + length ρ = ap length b ∙ length-append (fieldBytes o σ) ρ in
       (b, a .keeps .stored (omega (arith, g .reached .keptIs)))

@@ -45,7 +45,8 @@ module _ (o : Settings) (s : List ℕ) where
 
   sizes : (fix at : ℕ) (f : Fields × ℕ) → map outline (readSizes o s fix at f) ≡ sizesFrom o fix (spanOf at f) (f .1) (drop (f .1) s)
   sizes fix at f =
-      then outline (readMbi (o .shortest) s (f .1)) _ (λ w. afterWidth o fix (spanOf at f) (w .0) (w .1) (drop (w .1) s)) (λ w e. height fix at f w)
+      then outline (readMbi (o .shortest) s (f .1)) _ (λ w. afterWidth o fix (spanOf at f) (w .0) (w .1) (drop (w .1) s))
+      (λ w e. height fix at f w)
       ∙ sym (integer-mbi (o .shortest) s (f .1) (afterWidth o fix (spanOf at f)))
 
   -- fields that follow

@@ -7,7 +7,8 @@ use Rattle.error.specs.Answer.{refuses, isEnd}
 use Rattle.mbi.specs.Read.{integer}
 use Rattle.ext.specs.Internal.Bytewise.{octets, octet, pairsFrom}
 use Rattle.header.specs.Settings.{Settings, inner}
-use Rattle.header_reader.specs.Internal.Machine.{State, inType, atFix, inOctets, atOctet, atPair, inIdentifier, inValue, inWidth, inHeight, fixFrom, resume, start}
+use Rattle.header_reader.specs.Internal.Machine.{State, inType, atFix, inOctets, atOctet, atPair, inIdentifier, inValue, inWidth}
+use Rattle.header_reader.specs.Internal.Machine.{inHeight, fixFrom, resume, start}
 
 -- the code and the offset of an input that ends at a state
 abbrev pub endCode : State → ℕ

@@ -17,7 +17,8 @@ use Rattle.ext.specs.Internal.Bytewise.{octets, octet, pairsFrom, identifierFro
 use Rattle.ext.proofs.Spans.{spanTo, spans}
 use Rattle.header.specs.Settings.{Settings, extInner}
 use Rattle.header.specs.Read.{Outline, outline, readHeader}
-use Rattle.header_reader.specs.Internal.Machine.{State, inType, atFix, inOctets, atOctet, atPair, inIdentifier, inValue, inWidth, inHeight, start, Step, more, done, refused, onByte, stepOf, steps}
+use Rattle.header_reader.specs.Internal.Machine.{State, inType, atFix, inOctets, atOctet, atPair, inIdentifier, inValue, inWidth}
+use Rattle.header_reader.specs.Internal.Machine.{inHeight, start, Step, more, done, refused, onByte, stepOf, steps}
 use Rattle.header_reader.specs.Known.{spanAtFix, readSpan, unknown, known, knownBy, fieldsKnown, knownIn}
 use Rattle.header_reader.specs.Internal.Pieces.{onward}
 use Rattle.header_reader.proofs.Machine.{steps-cons}

@@ -11,7 +11,8 @@ use Rattle.ext.specs.Kinds.{fieldsFollow, kindBits}
 use Rattle.ext.specs.Internal.Bytewise.{octets, octet, pairsFrom, fieldsFrom, valueFault}
 use Rattle.header.specs.Settings.{Settings}
 use Rattle.header.specs.Read.{Outline}
-use Rattle.header_reader.specs.Internal.Machine.{State, inType, atFix, inOctets, atOctet, atPair, inIdentifier, inValue, inWidth, inHeight, Step, more, done, refused, onByte, fixFrom, resume, stepOf, steps, after}
+use Rattle.header_reader.specs.Internal.Machine.{State, inType, atFix, inOctets, atOctet, atPair, inIdentifier, inValue, inWidth}
+use Rattle.header_reader.specs.Internal.Machine.{inHeight, Step, more, done, refused, onByte, fixFrom, resume, stepOf, steps, after}
 use Rattle.header_reader.specs.Internal.Pieces.{onward}
 
 module _ (o : Settings) (τ : List ℕ) where
@@ -59,7 +60,8 @@ module _ (o : Settings) where
   steps-cons st b σ = go (stepOf o st b)
     where
       go : (x : Step)
-          → (elim x as (λ q. Step) [ more st′ ↦ steps o st′ σ | done h ↦ done h | refused code offset ↦ refused code offset ]) ≡ onward o x σ
+          → (elim x as (λ q. Step) [ more st′ ↦ steps o st′ σ | done h ↦ done h | refused code offset ↦ refused code offset ])
+          ≡ onward o x σ
       go (more st′) = refl
       go (done h) = refl
       go (refused code offset) = refl

@@ -104,7 +104,8 @@ fix : ReaderStepped (reader (Phase.AtFix 1)) 0 (HeaderStep.More (reader (Phase.I
 unfolding stepOf
 fix = takes (Phase.AtFix 1) 0 (PhaseStep.More (Phase.InWidth 0 HeaderFields.Absent (begun 2))) refl
 
-width : ReaderStepped (reader (Phase.InWidth 0 HeaderFields.Absent (begun 2))) 9 (HeaderStep.More (reader (Phase.InHeight 0 HeaderFields.Absent 9 (begun 3))))
+width : ReaderStepped (reader (Phase.InWidth 0 HeaderFields.Absent (begun 2))) 9
+    (HeaderStep.More (reader (Phase.InHeight 0 HeaderFields.Absent 9 (begun 3))))
 unfolding stepOf readByte
 width = takes (Phase.InWidth 0 HeaderFields.Absent (begun 2)) 9 (PhaseStep.More (Phase.InHeight 0 HeaderFields.Absent 9 (begun 3))) refl
 

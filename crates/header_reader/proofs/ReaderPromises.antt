@@ -8,7 +8,8 @@ use Rattle.error.specs.Answer.{refusal}
 use Rattle.error.specs.declared.WbmpError.{WbmpError}
 use Rattle.laws.proofs.Tests.{zero-one}
 use Rattle.header.specs.Settings.{Settings, settings}
-use Rattle.header_reader.specs.Internal.Machine.{State, inType, atFix, inOctets, atOctet, atPair, inIdentifier, inValue, inWidth, inHeight, Step, inFields, stepOf, resume}
+use Rattle.header_reader.specs.Internal.Machine.{State, inType, atFix, inOctets, atOctet, atPair, inIdentifier, inValue, inWidth}
+use Rattle.header_reader.specs.Internal.Machine.{inHeight, Step, inFields, stepOf, resume}
 use Rattle.header_reader.specs.Internal.Represents.{fieldsState, state, Reachable, Answers, ReaderStepped, ReaderEnded}
 use Rattle.header_reader.specs.Known.{unknown, knownIn}
 use Rattle.header_reader.specs.Internal.Phase.{moved, Bounded, Decides}

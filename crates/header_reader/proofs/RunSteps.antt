@@ -14,7 +14,8 @@ use Rattle.header.specs.Settings.{Settings, settings}
 use Rattle.header_reader.specs.Internal.Machine.{State, inOctets, atPair, inIdentifier, inValue, inFields, Step, more, stepOf, steps}
 use Rattle.header_reader.specs.Internal.Represents.{fieldsState, state, Represents}
 use Rattle.header_reader.specs.Internal.Pieces.{onward}
-use Rattle.header_reader.specs.Internal.Run.{fieldsStart, Inside, RunReached, ReaderRuns, FieldsRuns, OctetsAhead, Continued, PairsAhead}
+use Rattle.header_reader.specs.Internal.Run.{fieldsStart, Inside, RunReached, ReaderRuns, FieldsRuns, OctetsAhead, Continued}
+use Rattle.header_reader.specs.Internal.Run.{PairsAhead}
 use Rattle.header_reader.specs.declared.phase.FieldsPhase.{FieldsPhase}
 use Rattle.header_reader.specs.declared.phase.PairChain.{PairChain}
 use Rattle.header_reader.specs.declared.phase.Phase.{Phase}
@@ -34,7 +35,8 @@ octet-step o fix start at b n h = simp (lt-leb (start + 4096) at n, le-ltb b 128
 octet-only : (o : Settings) (fix start at b : ℕ) → at < start + 4096 → 128 ≤ b
     → steps o (inOctets fix start at) (b ∷ []) ≡ more (inOctets fix start (at + 1))
 unfolding steps
-octet-only o fix start at b n h = steps-cons o (inOctets fix start at) b [] ∙ ap (λ (x : Step). onward o x []) (octet-step o fix start at b n h)
+octet-only o fix start at b n h = steps-cons o (inOctets fix start at) b []
+    ∙ ap (λ (x : Step). onward o x []) (octet-step o fix start at b n h)
 
 module _ (most : ℕ) (piece : List ℕ) where
   pub octets-none : OctetsAhead most piece 0
@@ -82,13 +84,15 @@ module _ (o : Settings) (off : o .classes ≡ false) (fix start pairs : ℕ) whe
       ∙ ap (λ (m : ℕ). more (atPair fix start m (pairs + 1))) k
 
   identifier-step : (at begun left size b : ℕ) → 1 < left
-      → stepOf o (inIdentifier fix start at pairs begun left size true 0) b ≡ more (inIdentifier fix start (at + 1) pairs begun (left - 1) size true 0)
+      → stepOf o (inIdentifier fix start at pairs begun left size true 0) b
+      ≡ more (inIdentifier fix start (at + 1) pairs begun (left - 1) size true 0)
   unfolding stepOf identifierFault
   identifier-step at begun left size b h = simp (lt-ltb 1 left h, off)
 
   -- the bytes of an identifier
   identifier : (ρ : List ℕ) (at begun left size : ℕ) → length ρ ≡ left → 0 < left
-      → steps o (inIdentifier fix start at pairs begun left size true 0) ρ ≡ more (inValue fix start (at + left) pairs (at + left) size true 0)
+      → steps o (inIdentifier fix start at pairs begun left size true 0) ρ
+      ≡ more (inValue fix start (at + left) pairs (at + left) size true 0)
   unfolding steps stepOf identifierFault
   identifier [] at begun left size n h = absurd (omega arith)
   identifier (b ∷ []) at begun left size n h =
@@ -105,8 +109,13 @@ module _ (o : Settings) (off : o .classes ≡ false) (fix start pairs : ℕ) whe
       → stepOf o (atPair fix start at pairs) b ≡ more (inIdentifier fix start (at + 1) pairs (at + 1) (b / 16 % 8) (b % 16) true 0)
   unfolding stepOf
   pair-step at b size k h =
-      simp
-      (lt-leb (start + 4096) at h, ne-eqb (b / 16 % 8) 0 (λ e. omega (arith, k .identifier)), ne-eqb (b % 16) 0 (λ e. omega (arith, k .value)), le-leb 128 b (k .again))
+      simp (
+        lt-leb (start + 4096) at h,
+        ne-eqb (b / 16 % 8) 0 (λ e. omega (arith, k .identifier)),
+        ne-eqb (b % 16) 0
+            (λ e. omega (arith, k .value)),
+        le-leb 128 b (k .again),
+      )
 
   -- a pair: its first byte, its identifier and its value
   pair : (at b size : ℕ) (ρ : List ℕ) → Continued b size → at < start + 4096 → length ρ + 1 ≡ size
@@ -213,7 +222,8 @@ module _ (r : HeaderReader) (piece : List ℕ) where
         does = λ o st h.
             let is : fieldsState p ≡ st = sym (ap state e) ∙ h .phaseIs in
             let run : FieldsRuns o st piece x =
-            subst (λ (k : State). FieldsRuns o k piece x) is (subst (λ (k : Settings). FieldsRuns k (fieldsState p) piece x) (h .modeIs) a) in
+            subst (λ (k : State). FieldsRuns o k piece x) is
+            (subst (λ (k : Settings). FieldsRuns k (fieldsState p) piece x) (h .modeIs) a) in
             record {
               next = fieldsState (x .phase);
               represents =

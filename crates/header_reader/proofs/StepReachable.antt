@@ -14,7 +14,8 @@ use Rattle.ext.specs.Classes.{isChar, isAlphaDigit}
 use Rattle.ext.specs.Kinds.{fieldsFollow, kindBits}
 use Rattle.ext.specs.Internal.Bytewise.{identifierFault, valueFault}
 use Rattle.header.specs.Settings.{Settings}
-use Rattle.header_reader.specs.Internal.Machine.{State, inType, atFix, inOctets, atOctet, atPair, inIdentifier, inValue, inWidth, inHeight, start, Step, more, done, refused, onByte, stepOf, steps}
+use Rattle.header_reader.specs.Internal.Machine.{State, inType, atFix, inOctets, atOctet, atPair, inIdentifier, inValue, inWidth}
+use Rattle.header_reader.specs.Internal.Machine.{inHeight, start, Step, more, done, refused, onByte, stepOf, steps}
 use Rattle.header_reader.specs.Internal.Represents.{Reachable}
 use Rattle.header_reader.specs.Internal.Pieces.{onward}
 use Rattle.header_reader.proofs.Machine.{steps-cons}
@@ -90,7 +91,8 @@ module _ (o : Settings) where
   pub reachable-steps : (σ : List ℕ) (st : State) → Reachable st → ReachableStep (steps o st σ)
   unfolding steps
   reachable-steps [] st s = s
-  reachable-steps (b ∷ σ) st s = subst⁻¹ ReachableStep (steps-cons o st b σ) (go (stepOf o st b) (reachable-step st b s) (λ t. reachable-steps σ t))
+  reachable-steps (b ∷ σ) st s = subst⁻¹ ReachableStep (steps-cons o st b σ)
+      (go (stepOf o st b) (reachable-step st b s) (λ t. reachable-steps σ t))
     where
       go : (x : Step) → ReachableStep x → ((t : State) → Reachable t → ReachableStep (steps o t σ)) → ReachableStep (onward o x σ)
       go (more t) h ih = ih t h

@@ -12,7 +12,8 @@ use Rattle.ext.specs.Kinds.{Span, spanOf, fieldsFollow, kindBits}
 use Rattle.ext.specs.Read.{readFields}
 use Rattle.header.specs.Settings.{Settings}
 use Rattle.header.specs.Read.{extSpan}
-use Rattle.header_reader.specs.Internal.Machine.{State, inType, atFix, inOctets, atOctet, atPair, inIdentifier, inValue, inWidth, inHeight}
+use Rattle.header_reader.specs.Internal.Machine.{State, inType, atFix, inOctets, atOctet, atPair, inIdentifier, inValue, inWidth}
+use Rattle.header_reader.specs.Internal.Machine.{inHeight}
 use Rattle.header_reader.specs.Internal.Represents.{Represents}
 use Rattle.header_reader.specs.declared.FieldsSeen.{FieldsSeen}
 use Rattle.header_reader.specs.declared.reader.HeaderReader.{HeaderReader}

@@ -1,6 +1,6 @@
 -- `by_value::encode_gray8` meets its contract: a walk of its MIR, by hand. The records that count are lent to `encoder::encode_gray8`
--- for a lifetime that is made for the call (`LentFront.antt`); the other arguments go on as they came. All that the proof knows of the functions
--- called is that each meets its contract.
+-- for a lifetime that is made for the call (`LentFront.antt`); the other arguments go on as they came. All that the proof knows of the
+-- functions called is that each meets its contract.
 -- Assumes nothing.
 use mathlib.Core.Path.{_≡_, refl}
 use Prim.Native.Nat.{ℕ, min}
@@ -21,9 +21,11 @@ use ghost.Atoms.{Atoms, sem}
 use contract.Monad.{Fun, fact}
 use contract.Lifetimes.{Lfts, Shares, AllOutlive}
 use contract.Running.{givenOf, tables, tablesOf}
-use types.Kit.{Given, Item, ‵, raw, _⊛_, some, later, ⋆, _$_, _∵_, !, qed, by, move, drop, cut, use1, split, join, pick, fsplit, fjoin, show, frame, await, updating, now as at-once, done}
+use types.Kit.{Given, Item, ‵, raw, _⊛_, some, later, ⋆, _$_, _∵_, !, qed, by, move, drop, cut, use1, split, join, pick, fsplit, fjoin}
+use types.Kit.{show, frame, await, updating, now as at-once, done}
 use types.Part.{agg, whole, sub, look-in}
-use types.Run.{look, init, forget, stop, hop, fld, from, load, addr, of-opd, and-then, no-more, assigns, land, returns, enter, alloc1, alloc0, params1, pass1, pass0, free1, free0}
+use types.Run.{look, init, forget, stop, hop, fld, from, load, addr, of-opd, and-then, no-more, assigns, land, returns, enter, alloc1}
+use types.Run.{alloc0, params1, pass1, pass0, free1, free0}
 use sound.WpLaws.{FmC, fmOf}
 use denote.RattleType.{RattleType, flat, owns}
 use denote.Laws.{Is, Ises, Are, Spells, Tellss, valss, shows}
@@ -74,10 +76,43 @@ abbrev rows : Lfts 4 → List RattleType
 rows κs = typesAt (f.signature .params) κs
 
 abbrev vals : (κs : Lfts 4) → Spells (rows κs)
-vals κs = (uint-vals w32, (uint-vals w32, (uint-vals w64, (slice-vals, ((λ (c : EncodeOptions). O′.lowered c ∷ []), (slice-vals, (list-vals, (uint-vals w64, (slice-vals, (slice-vals, tt))))))))))
+vals κs = (
+  uint-vals w32,
+  (
+    uint-vals w32,
+    (
+      uint-vals w64,
+      (
+        slice-vals,
+        ((λ (c : EncodeOptions). O′.lowered c ∷ []), (slice-vals, (list-vals, (uint-vals w64, (slice-vals, (slice-vals, tt)))))),
+      ),
+    ),
+  ),
+)
 
 tells : (κs : Lfts 4) → Tellss (rows κs) (Ises (rows κs)) (vals κs)
-tells κs = (uint-tells w32, (uint-tells w32, (uint-tells w64, (shr-slice-tells (named 0) (κs .0) u8, (O′.lowers .val-is, (shr-slice-tells (named 1) (κs .1 .0) u8, (list-tells, (uint-tells w64, (mut-slice-tells (named 2) (κs .1 .1 .0) i16, (mut-slice-tells (named 3) (κs .1 .1 .1 .0) u8, tt))))))))))
+tells κs = (
+  uint-tells w32,
+  (
+    uint-tells w32,
+    (
+      uint-tells w64,
+      (
+        shr-slice-tells (named 0) (κs .0) u8,
+        (
+          O′.lowers .val-is,
+          (
+            shr-slice-tells (named 1) (κs .1 .0) u8,
+            (
+              list-tells,
+              (uint-tells w64, (mut-slice-tells (named 2) (κs .1 .1 .0) i16, (mut-slice-tells (named 3) (κs .1 .1 .1 .0) u8, tt))),
+            ),
+          ),
+        ),
+      ),
+    ),
+  ),
+)
 
 module _ {M : Type 1} (𝓤 : URA M) (H : Heap 𝓤) (A : Atoms 𝓤) (mem : Memory → SProp 𝓤) (run : Routine → Fun 𝓤) where
   -- the contract of the function called, and the bridge's
@@ -88,7 +123,8 @@ module _ {M : Type 1} (𝓤 : URA M) (H : Heap 𝓤) (A : Atoms 𝓤) (mem : Mem
   F = tripleOf 𝓤 H A f.signature (f.spec 𝓤 H A mem run)
 
 module _ {M : Type 1} (𝓤 : URA M) (H : Heap 𝓤) (A : Atoms 𝓤) (W : Given 𝓤 H A) (mem : Memory → SProp 𝓤) (run : Routine → Fun 𝓤)
-    (κs : Lfts 4) (qs : Shares 4) (bounds : AllOutlive 4 [] κs) (a : Args f.signature κs) (are : Are (rows κs) (Ises (rows κs)) a (valss (rows κs) (vals κs) a)) where
+    (κs : Lfts 4) (qs : Shares 4) (bounds : AllOutlive 4 [] κs) (a : Args f.signature κs)
+    (are : Are (rows κs) (Ises (rows κs)) a (valss (rows κs) (vals κs) a)) where
   abbrev at : Vals f.signature κs
   at = valss (rows κs) (vals κs) a
 
@@ -111,7 +147,8 @@ module _ {M : Type 1} (𝓤 : URA M) (H : Heap 𝓤) (A : Atoms 𝓤) (W : Given
 
   -- on entry: the tokens, and what the parameters own
   abbrev Toks : Item 𝓤
-  Toks = ‵ (flft (κs .0) (qs .0)) ⊛ ‵ (flft (κs .1 .0) (qs .1 .0)) ⊛ ‵ (flft (κs .1 .1 .0) (qs .1 .1 .0)) ⊛ ‵ (flft (κs .1 .1 .1 .0) (qs .1 .1 .1 .0)) ⊛ ‵ ftrue
+  Toks = ‵ (flft (κs .0) (qs .0)) ⊛ ‵ (flft (κs .1 .0) (qs .1 .0)) ⊛ ‵ (flft (κs .1 .1 .0) (qs .1 .1 .0))
+      ⊛ ‵ (flft (κs .1 .1 .1 .0) (qs .1 .1 .1 .0)) ⊛ ‵ ftrue
 
   abbrev Owns : Fml
   Owns = owns (rows κs) a at
@@ -131,7 +168,22 @@ module _ {M : Type 1} (𝓤 : URA M) (H : Heap 𝓤) (A : Atoms 𝓤) (W : Given
     passed = (a .0, (a .1 .0, (a .1 .1 .0, (a .1 .1 .1 .0, (a .1 .1 .1 .1 .0, (a .1 .1 .1 .1 .1 .0, (x, a .1 .1 .1 .1 .1 .1 .1 .1)))))))
 
     abbrev at′ : Vals g.signature κs′
-    at′ = (at .0, (at .1 .0, (at .1 .1 .0, (at .1 .1 .1 .0, (at .1 .1 .1 .1 .0, (at .1 .1 .1 .1 .1 .0, (sliceVal (l, 0) (min pairs 8) ∷ [], at .1 .1 .1 .1 .1 .1 .1 .1)))))))
+    at′ = (
+      at .0,
+      (
+        at .1 .0,
+        (
+          at .1 .1 .0,
+          (
+            at .1 .1 .1 .0,
+            (
+              at .1 .1 .1 .1 .0,
+              (at .1 .1 .1 .1 .1 .0, (sliceVal (l, 0) (min pairs 8) ∷ [], at .1 .1 .1 .1 .1 .1 .1 .1)),
+            ),
+          ),
+        ),
+      ),
+    )
 
     abbrev to : G 𝓤 H A mem run .Ghost
     to = ((κs′, (qs .0, (qs .1 .0, (fullShare, qs .1 .1))), tt, passed, at′), tt)
@@ -141,14 +193,18 @@ module _ {M : Type 1} (𝓤 : URA M) (H : Heap 𝓤) (A : Atoms 𝓤) (W : Given
 
     asks : ent 𝓤 (⋆ 𝓤 H A Lent) (G 𝓤 H A mem run .pre to)
     asks =
-        qed W Lent ∵ split ! $ move ! (1 ∷ []) $ split ! $ move ! (4 ∷ 1 ∷ []) $ join ! $ move ! (1 ∷ 0 ∷ []) $ join ! $ move ! (1 ∷ 0 ∷ []) $
+        qed W Lent ∵ split ! $ move ! (1 ∷ []) $ split ! $ move ! (4 ∷ 1 ∷ []) $ join ! $ move ! (1 ∷ 0 ∷ []) $ join ! $
+        move ! (1 ∷ 0 ∷ []) $
         join ! $
         -- [the tokens; what the parameters own; the slice]
-        move ! (1 ∷ []) $ fsplit ! $ move ! (1 ∷ []) $ fsplit ! $ move ! (1 ∷ []) $ fsplit ! $ move ! (1 ∷ []) $ fsplit ! $ move ! (1 ∷ []) $
+        move ! (1 ∷ []) $ fsplit ! $ move ! (1 ∷ []) $ fsplit ! $ move ! (1 ∷ []) $ fsplit ! $ move ! (1 ∷ []) $ fsplit ! $
+        move ! (1 ∷ []) $
         fsplit ! $ move ! (1 ∷ []) $ fsplit ! $ move ! (1 ∷ []) $
-        fsplit ! $ drop ! $ fsplit ! $ drop ! $ move ! (8 ∷ 0 ∷ []) $ fjoin ! $ move ! (1 ∷ 0 ∷ []) $ fjoin ! $ move ! (1 ∷ 0 ∷ []) $ fjoin ! $
+        fsplit ! $ drop ! $ fsplit ! $ drop ! $ move ! (8 ∷ 0 ∷ []) $ fjoin ! $ move ! (1 ∷ 0 ∷ []) $ fjoin ! $ move ! (1 ∷ 0 ∷ []) $
+        fjoin ! $
         move ! (1 ∷ 0 ∷ []) $ fjoin ! $ move ! (1 ∷ 0 ∷ []) $ fjoin ! $
-        move ! (1 ∷ 0 ∷ []) $ fjoin ! $ move ! (1 ∷ 0 ∷ []) $ fjoin ! $ move ! (1 ∷ 0 ∷ []) $ join ! $ nothing ! $ move ! (1 ∷ 0 ∷ []) $ done !
+        move ! (1 ∷ 0 ∷ []) $ fjoin ! $ move ! (1 ∷ 0 ∷ []) $ fjoin ! $ move ! (1 ∷ 0 ∷ []) $ join ! $ nothing ! $ move ! (1 ∷ 0 ∷ []) $
+        done !
 
     abbrev Said : Written → Lasts g.ended κs′ passed → Type 0
     Said r ws = Promise r (ws .1 .1 .1 .1 .1 .1 .1 .1 .0) (ws .1 .1 .1 .1 .1 .1 .1 .0)
@@ -156,19 +212,22 @@ module _ {M : Type 1} (𝓤 : URA M) (H : Heap 𝓤) (A : Atoms 𝓤) (W : Given
     -- what the function called hands back with the machine value u
     abbrev Came : Val → Item 𝓤
     Came u = later (some (λ (r : Written).
-        ((‵ (flft (κs .0) (qs .0)) ⊛ ‵ (flft (κs .1 .0) (qs .1 .0)) ⊛ ‵ (flft (ν ∷ []) fullShare) ⊛ ‵ (flft (κs .1 .1 .0) (qs .1 .1 .0)) ⊛ ‵ (flft (κs .1 .1 .1 .0) (qs .1 .1 .1 .0)) ⊛ ‵ ftrue) ⊛ ‵ (Wr.the-row .own r (u ∷ [])))
+        ((‵ (flft (κs .0) (qs .0)) ⊛ ‵ (flft (κs .1 .0) (qs .1 .0)) ⊛ ‵ (flft (ν ∷ []) fullShare) ⊛ ‵ (flft (κs .1 .1 .0) (qs .1 .1 .0))
+        ⊛ ‵ (flft (κs .1 .1 .1 .0) (qs .1 .1 .1 .0)) ⊛ ‵ ftrue) ⊛ ‵ (Wr.the-row .own r (u ∷ [])))
         ⊛ some (λ (ws : Lasts g.ended κs′ passed). ‵ (lasts g.ended κs′ passed ws) ⊛ raw (fact 𝓤 (Said r ws)))))
 
     -- what is had where it returns
     abbrev Ended : (r : Written) (u : Val) (ws : Lasts g.ended κs′ passed) → List (Item 𝓤)
-    Ended r u ws = ‵ (Wr.the-row .own r (u ∷ [])) ∷ (‵ (flft (κs .1 .1 .0) (qs .1 .1 .0)) ⊛ ‵ (flft (κs .1 .1 .1 .0) (qs .1 .1 .1 .0)) ⊛ ‵ ftrue)
+    Ended r u ws = ‵ (Wr.the-row .own r (u ∷ [])) ∷ (‵ (flft (κs .1 .1 .0) (qs .1 .1 .0)) ⊛ ‵ (flft (κs .1 .1 .1 .0) (qs .1 .1 .1 .0))
+        ⊛ ‵ ftrue)
         ∷ ‵ (flft (κs .1 .0) (qs .1 .0)) ∷ ‵ (flft (κs .0) (qs .0)) ∷ ‵ (lasts g.ended κs′ passed ws) ∷ []
 
     exits : (r : Written) (u : Val) (ws : Lasts g.ended κs′ passed) → Said r ws
         → ent 𝓤 (⋆ 𝓤 H A (Ended r u ws)) (F 𝓤 H A mem run .post bound u)
     exits r u ws e =
         qed W (Ended r u ws) ∵ updating ! $ at-once ! $
-        show ! (λ (r : Written). sep 𝓤 (Back 𝓤 H A f.signature (bound .0) u r) (ensured 𝓤 H A f.ended (f.clauses 𝓤 H A mem run) κs a tt r)) r $
+        show ! (λ (r : Written). sep 𝓤 (Back 𝓤 H A f.signature (bound .0) u r)
+        (ensured 𝓤 H A f.ended (f.clauses 𝓤 H A mem run) κs a tt r)) r $
         move ! (2 ∷ 1 ∷ []) $ join ! $ move ! (2 ∷ 0 ∷ []) $ join ! $ join ! $ frame ! $
         show ! (λ (ws′ : Lasts f.ended κs a). sep 𝓤 (sem 𝓤 H A (lasts f.ended κs a ws′))
         (fact 𝓤 (Promise r (ws′ .1 .1 .1 .1 .1 .1 .1 .1 .1 .0) (ws′ .1 .1 .1 .1 .1 .1 .1 .1 .0)))) (tt, ws) $
@@ -181,7 +240,8 @@ module _ {M : Type 1} (𝓤 : URA M) (H : Heap 𝓤) (A : Atoms 𝓤) (W : Given
     walk =
         qed W (Toks ∷ ‵ Owns ∷ []) ∵ enter ! (𝓣 .C) (𝓣 .Λ) code.function (flat (rows κs) at) _ $
         alloc1 ! (λ l₀. alloc1 ! (λ l₁. alloc1 ! (λ l₂. alloc1 ! (λ l₃. alloc1 ! (λ l₄. alloc1 ! (λ l₅. alloc1 ! (λ l₆. alloc1 ! (λ l₇.
-        alloc1 ! (λ l₈. alloc1 ! (λ l₉. alloc1 ! (λ l₁₀. alloc1 ! (λ l₁₁. alloc1 ! (λ l₁₂. alloc1 ! (λ l₁₃. alloc1 ! (λ l₁₄. alloc1 ! (λ l₁₅.
+        alloc1 ! (λ l₈. alloc1 ! (λ l₉. alloc1 ! (λ l₁₀. alloc1 !
+        (λ l₁₁. alloc1 ! (λ l₁₂. alloc1 ! (λ l₁₃. alloc1 ! (λ l₁₄. alloc1 ! (λ l₁₅.
         alloc1 ! (λ l₁₆. alloc1 ! (λ l₁₇. alloc1 ! (λ l₁₈. alloc0 ! $ params1 ! $
         pass1 ! (init ! 34 refl (tt, record { fits = are .0 .1 })) $ pass1 ! (init ! 32 refl (tt, record { fits = are .1 .0 .1 })) $
         pass1 ! (init ! 30 refl (tt, record { fits = are .1 .1 .0 .1 })) $
@@ -199,34 +259,45 @@ module _ {M : Type 1} (𝓤 : URA M) (H : Heap 𝓤) (A : Atoms 𝓤) (W : Given
         assigns ! (addr ! (from ! (stop !))) (from ! (stop !)) (init ! 10 refl (tt, tt)) $
         assigns ! (agg ! (and-then ! (reads ! 10 refl) (and-then ! (reads ! 12 refl) (no-more !)))) (from ! (stop !))
         (init ! 8 refl (tt, (tt, (record { fits = counted-fits pairs }, tt)))) $
-        assigns ! (addr ! (from ! (fld ! refl (hop ! (look-in ! 18 (sub ! 0 refl (whole !))) (stop !))))) (from ! (stop !)) (init ! 6 refl (tt, tt)) $
-        assigns ! (agg ! (and-then ! (reads ! 6 refl) (and-then ! (load ! (from ! (fld ! refl (stop !))) (look-in ! 18 (sub ! 1 refl (whole !)))) (no-more !))))
+        assigns ! (addr ! (from ! (fld ! refl (hop ! (look-in ! 18 (sub ! 0 refl (whole !))) (stop !))))) (from ! (stop !))
+        (init ! 6 refl (tt, tt)) $
+        assigns ! (agg ! (and-then ! (reads ! 6 refl) (and-then !
+        (load ! (from ! (fld ! refl (stop !))) (look-in ! 18 (sub ! 1 refl (whole !)))) (no-more !))))
         (from ! (stop !)) (init ! 4 refl (tt, (tt, (record { fits = are .1 .1 .1 .1 .1 .1 .1 .1 .0 .0 .1 .0 }, tt)))) $
-        assigns ! (addr ! (from ! (fld ! refl (hop ! (look-in ! 16 (sub ! 0 refl (whole !))) (stop !))))) (from ! (stop !)) (init ! 2 refl (tt, tt)) $
-        assigns ! (agg ! (and-then ! (reads ! 2 refl) (and-then ! (load ! (from ! (fld ! refl (stop !))) (look-in ! 16 (sub ! 1 refl (whole !)))) (no-more !))))
+        assigns ! (addr ! (from ! (fld ! refl (hop ! (look-in ! 16 (sub ! 0 refl (whole !))) (stop !))))) (from ! (stop !))
+        (init ! 2 refl (tt, tt)) $
+        assigns ! (agg ! (and-then ! (reads ! 2 refl) (and-then !
+        (load ! (from ! (fld ! refl (stop !))) (look-in ! 16 (sub ! 1 refl (whole !)))) (no-more !))))
         (from ! (stop !)) (init ! 0 refl (tt, (tt, (record { fits = are .1 .1 .1 .1 .1 .1 .1 .1 .1 .0 .0 .1 .0 }, tt)))) $
         move ! (14 ∷ []) $
-        lends-front R 8 l₁₁ pairs xs ! tt tt (LL.makes T.the-type T′.the-plain 𝓤 H A) (lowered xs) (are .1 .1 .1 .1 .1 .1 .0) long (lit< tt, lit< tt)
+        lends-front R 8 l₁₁ pairs xs ! tt tt (LL.makes T.the-type T′.the-plain 𝓤 H A) (lowered xs) (are .1 .1 .1 .1 .1 .1 .0) long
+        (lit< tt, lit< tt)
         _ (counted-long pairs xs long) (λ ν γ.
         move ! (40 ∷ 41 ∷ 0 ∷ 1 ∷ []) $ cut (Lent l₁₁ ν γ) (raw (G 𝓤 H A mem run .pre (to l₁₁ ν γ)) ∷ []) _ (asks l₁₁ ν γ) $
         calls-at ! fm (G 𝓤 H A mem run) k-g (to l₁₁ ν γ)
-        (and-then ! (reads ! 35 refl) (and-then ! (reads ! 33 refl) (and-then ! (reads ! 31 refl) (and-then ! (reads ! 29 refl) (and-then ! (reads ! 27 refl)
-        (and-then ! (reads ! 25 refl) (and-then ! (reads ! 10 refl) (and-then ! (reads ! 6 refl) (and-then ! (reads ! 2 refl) (no-more !)))))))))) (λ u.
+        (and-then ! (reads ! 35 refl) (and-then ! (reads ! 33 refl)
+        (and-then ! (reads ! 31 refl) (and-then ! (reads ! 29 refl) (and-then ! (reads ! 27 refl)
+        (and-then ! (reads ! 25 refl) (and-then ! (reads ! 10 refl)
+        (and-then ! (reads ! 6 refl) (and-then ! (reads ! 2 refl) (no-more !)))))))))) (λ u.
         use1 W (Came l₁₁ ν γ u) (id⊢ 𝓤 _) $ await ! tt $ pick ! (λ r. split ! $ move ! (1 ∷ []) $ pick ! (λ ws.
         split ! $ move ! (1 ∷ []) $ heard ! (Said l₁₁ ν γ r ws) (λ e. move ! (1 ∷ []) $ split ! $ split ! $ move ! (1 ∷ []) $ split ! $
         move ! (1 ∷ []) $ split ! $
         -- [ν; the tokens; the result; the last lists; the lender's part; …]
         move ! (0 ∷ 6 ∷ []) $ front-back R 8 l₁₁ pairs xs ! tt long $ move ! (4 ∷ []) $
         peeks ! Wr.the-row (Is Wr.the-row) (shows 𝓤 H A Wr.the-row) r (u ∷ []) (λ is.
-        land ! (from ! (stop !)) (init ! 41 refl (EL.lawful Wr.the-type Wr′.the-laws 𝓤 H A W tt .typed r _ is .0)) $ returns ! (look ! 41 refl) $
+        land ! (from ! (stop !)) (init ! 41 refl (EL.lawful Wr.the-type Wr′.the-laws 𝓤 H A W tt .typed r _ is .0)) $
+        returns ! (look ! 41 refl) $
         forget ! 6 refl $ forget ! 8 refl $ forget ! 10 refl $ forget ! 12 refl $ forget ! 14 refl $ forget ! 16 refl $ forget ! 18 refl $
         forget ! 21 refl $ forget ! 23 refl $ forget ! 25 refl $ forget ! 27 refl $ forget ! 29 refl $ forget ! 31 refl $ forget ! 33 refl $
         forget ! 35 refl $ forget ! 37 refl $ forget ! 39 refl $ forget ! 41 refl $
-        move ! (41 ∷ 42 ∷ []) $ free1 ! $ move ! (39 ∷ 40 ∷ []) $ free1 ! $ move ! (37 ∷ 38 ∷ []) $ free1 ! $ move ! (35 ∷ 36 ∷ []) $ free1 ! $
+        move ! (41 ∷ 42 ∷ []) $ free1 ! $ move ! (39 ∷ 40 ∷ []) $ free1 ! $ move ! (37 ∷ 38 ∷ []) $ free1 ! $ move ! (35 ∷ 36 ∷ []) $
+        free1 ! $
         move ! (33 ∷ 34 ∷ []) $ free1 ! $ move ! (31 ∷ 32 ∷ []) $ free1 ! $
-        move ! (29 ∷ 30 ∷ []) $ free1 ! $ move ! (27 ∷ 28 ∷ []) $ free1 ! $ move ! (25 ∷ 26 ∷ []) $ free1 ! $ move ! (23 ∷ 24 ∷ []) $ free1 ! $
+        move ! (29 ∷ 30 ∷ []) $ free1 ! $ move ! (27 ∷ 28 ∷ []) $ free1 ! $ move ! (25 ∷ 26 ∷ []) $ free1 ! $ move ! (23 ∷ 24 ∷ []) $
+        free1 ! $
         move ! (21 ∷ 22 ∷ []) $ free1 ! $ move ! (1 ∷ 20 ∷ []) $ free1 ! $
-        move ! (17 ∷ 18 ∷ []) $ free1 ! $ move ! (15 ∷ 16 ∷ []) $ free1 ! $ move ! (13 ∷ 14 ∷ []) $ free1 ! $ move ! (11 ∷ 12 ∷ []) $ free1 ! $
+        move ! (17 ∷ 18 ∷ []) $ free1 ! $ move ! (15 ∷ 16 ∷ []) $ free1 ! $ move ! (13 ∷ 14 ∷ []) $ free1 ! $ move ! (11 ∷ 12 ∷ []) $
+        free1 ! $
         move ! (9 ∷ 10 ∷ []) $ free1 ! $ move ! (7 ∷ 8 ∷ []) $ free1 ! $
         move ! (5 ∷ 6 ∷ []) $ free1 ! $ free0 ! $ by ! (exits l₁₁ ν γ r u ws e))))))))))))))))))))))))))
 
@@ -245,5 +316,6 @@ encode-gray8-spec 𝓤 H 𝓜 𝓖 𝓡 =
     entered 𝓤 H (F 𝓤 H (𝓖 .A) (𝓜 .mem) (𝓡 .run))
     (tables 𝓤 H 𝓜 𝓡 code.env .C) (tables 𝓤 H 𝓜 𝓡 code.env .Λ) #f code.function (code.unfolded 𝓤 H 𝓜 𝓡)
     (meets 𝓤 H (𝓖 .A) (givenOf 𝓤 H 𝓜 𝓖) (𝓜 .mem) (𝓡 .run) (tablesOf 𝓤 H 𝓜 (tables 𝓤 H 𝓜 𝓡 code.env))
-    (cited 𝓤 H (Counted 𝓤 H (𝓖 .A) (𝓜 .mem) (𝓡 .run)) 𝓜 𝓡 code.env #counted counted-def.routine code.calls-by-value·counted (counted-thm.met 𝓤 H 𝓜 𝓖 𝓡))
+    (cited 𝓤 H (Counted 𝓤 H (𝓖 .A) (𝓜 .mem) (𝓡 .run)) 𝓜 𝓡 code.env #counted counted-def.routine code.calls-by-value·counted
+    (counted-thm.met 𝓤 H 𝓜 𝓖 𝓡))
     (cited 𝓤 H (G 𝓤 H (𝓖 .A) (𝓜 .mem) (𝓡 .run)) 𝓜 𝓡 code.env #g g-def.routine code.calls-encoder·encode-gray8 (g-thm.met 𝓤 H 𝓜 𝓖 𝓡)))

@@ -1,6 +1,6 @@
 -- `by_value::open` meets its contract: a walk of its MIR, by hand. The records that count are lent to `encode_session::EncodeSession::open`
--- for a lifetime that is made for the call (`LentFront.antt`); the other arguments go on as they came. All that the proof knows of the functions
--- called is that each meets its contract.
+-- for a lifetime that is made for the call (`LentFront.antt`); the other arguments go on as they came. All that the proof knows of the
+-- functions called is that each meets its contract.
 -- Assumes nothing.
 use mathlib.Core.Path.{_≡_, refl}
 use Prim.Native.Nat.{ℕ, min}
@@ -20,9 +20,11 @@ use ghost.Atoms.{Atoms, sem}
 use contract.Monad.{Fun, fact}
 use contract.Lifetimes.{Lfts, Shares, AllOutlive}
 use contract.Running.{givenOf, tables, tablesOf}
-use types.Kit.{Given, Item, ‵, raw, _⊛_, some, later, ⋆, _$_, _∵_, !, qed, by, move, drop, cut, use1, split, join, pick, fsplit, fjoin, show, frame, await, updating, now as at-once, done}
+use types.Kit.{Given, Item, ‵, raw, _⊛_, some, later, ⋆, _$_, _∵_, !, qed, by, move, drop, cut, use1, split, join, pick, fsplit, fjoin}
+use types.Kit.{show, frame, await, updating, now as at-once, done}
 use types.Part.{agg, whole, sub, look-in}
-use types.Run.{look, init, forget, stop, hop, fld, from, load, addr, of-opd, and-then, no-more, assigns, land, returns, enter, alloc1, alloc0, params1, pass1, pass0, free1, free0}
+use types.Run.{look, init, forget, stop, hop, fld, from, load, addr, of-opd, and-then, no-more, assigns, land, returns, enter, alloc1}
+use types.Run.{alloc0, params1, pass1, pass0, free1, free0}
 use sound.WpLaws.{FmC, fmOf}
 use denote.RattleType.{RattleType, flat, owns}
 use denote.Laws.{Is, Ises, Are, Spells, Tellss, valss, shows}
@@ -72,10 +74,37 @@ abbrev rows : Lfts 3 → List RattleType
 rows κs = typesAt (f.signature .params) κs
 
 abbrev vals : (κs : Lfts 3) → Spells (rows κs)
-vals κs = (uint-vals w32, (uint-vals w32, ((λ (c : EncodeOptions). O′.lowered c ∷ []), (slice-vals, (list-vals, (uint-vals w64, (slice-vals, (slice-vals, tt))))))))
+vals κs = (
+  uint-vals w32,
+  (
+    uint-vals w32,
+    (
+      (λ (c : EncodeOptions). O′.lowered c ∷ []),
+      (slice-vals, (list-vals, (uint-vals w64, (slice-vals, (slice-vals, tt))))),
+    ),
+  ),
+)
 
 tells : (κs : Lfts 3) → Tellss (rows κs) (Ises (rows κs)) (vals κs)
-tells κs = (uint-tells w32, (uint-tells w32, (O′.lowers .val-is, (shr-slice-tells (named 0) (κs .0) u8, (list-tells, (uint-tells w64, (shr-slice-tells (named 1) (κs .1 .0) i16, (mut-slice-tells (named 2) (κs .1 .1 .0) u8, tt))))))))
+tells κs = (
+  uint-tells w32,
+  (
+    uint-tells w32,
+    (
+      O′.lowers .val-is,
+      (
+        shr-slice-tells (named 0) (κs .0) u8,
+        (
+          list-tells,
+          (
+            uint-tells w64,
+            (shr-slice-tells (named 1) (κs .1 .0) i16, (mut-slice-tells (named 2) (κs .1 .1 .0) u8, tt)),
+          ),
+        ),
+      ),
+    ),
+  ),
+)
 
 module _ {M : Type 1} (𝓤 : URA M) (H : Heap 𝓤) (A : Atoms 𝓤) (mem : Memory → SProp 𝓤) (run : Routine → Fun 𝓤) where
   -- the contract of the function called, and the bridge's
@@ -86,7 +115,8 @@ module _ {M : Type 1} (𝓤 : URA M) (H : Heap 𝓤) (A : Atoms 𝓤) (mem : Mem
   F = tripleOf 𝓤 H A f.signature (f.spec 𝓤 H A mem run)
 
 module _ {M : Type 1} (𝓤 : URA M) (H : Heap 𝓤) (A : Atoms 𝓤) (W : Given 𝓤 H A) (mem : Memory → SProp 𝓤) (run : Routine → Fun 𝓤)
-    (κs : Lfts 3) (qs : Shares 3) (bounds : AllOutlive 3 [] κs) (a : Args f.signature κs) (are : Are (rows κs) (Ises (rows κs)) a (valss (rows κs) (vals κs) a)) where
+    (κs : Lfts 3) (qs : Shares 3) (bounds : AllOutlive 3 [] κs) (a : Args f.signature κs)
+    (are : Are (rows κs) (Ises (rows κs)) a (valss (rows κs) (vals κs) a)) where
   abbrev at : Vals f.signature κs
   at = valss (rows κs) (vals κs) a
 
@@ -104,7 +134,8 @@ module _ {M : Type 1} (𝓤 : URA M) (H : Heap 𝓤) (A : Atoms 𝓤) (W : Given
 
   -- what is promised of the result, and of out where it returns
   abbrev Promise : EncodeOpened → List ℕ → Type 0
-  Promise r os = Opens (opening (a .1 .1 .0) (a .0) (a .1 .0) (a .1 .1 .1 .0 .now) (flattened (take pairs xs))) (length (a .1 .1 .1 .1 .1 .1 .0 .now)) r
+  Promise r os = Opens (opening (a .1 .1 .0) (a .0) (a .1 .0) (a .1 .1 .1 .0 .now) (flattened (take pairs xs)))
+      (length (a .1 .1 .1 .1 .1 .1 .0 .now)) r
       (a .1 .1 .1 .1 .1 .1 .1 .0 .now) os
 
   -- on entry: the tokens, and what the parameters own
@@ -141,7 +172,8 @@ module _ {M : Type 1} (𝓤 : URA M) (H : Heap 𝓤) (A : Atoms 𝓤) (W : Given
     asks =
         qed W Lent ∵ split ! $ move ! (3 ∷ 1 ∷ []) $ join ! $ move ! (1 ∷ 0 ∷ []) $ join ! $
         -- [the tokens; what the parameters own; the slice]
-        move ! (1 ∷ []) $ fsplit ! $ move ! (1 ∷ []) $ fsplit ! $ move ! (1 ∷ []) $ fsplit ! $ move ! (1 ∷ []) $ fsplit ! $ move ! (1 ∷ []) $
+        move ! (1 ∷ []) $ fsplit ! $ move ! (1 ∷ []) $ fsplit ! $ move ! (1 ∷ []) $ fsplit ! $ move ! (1 ∷ []) $ fsplit ! $
+        move ! (1 ∷ []) $
         fsplit ! $ drop ! $ fsplit ! $ drop ! $ move ! (6 ∷ 0 ∷ []) $ fjoin ! $
         move ! (1 ∷ 0 ∷ []) $ fjoin ! $ move ! (1 ∷ 0 ∷ []) $ fjoin ! $ move ! (1 ∷ 0 ∷ []) $ fjoin ! $ move ! (1 ∷ 0 ∷ []) $ fjoin ! $
         move ! (1 ∷ 0 ∷ []) $ join ! $ nothing ! $ move ! (1 ∷ 0 ∷ []) $ done !
@@ -152,7 +184,8 @@ module _ {M : Type 1} (𝓤 : URA M) (H : Heap 𝓤) (A : Atoms 𝓤) (W : Given
     -- what the function called hands back with the machine value u
     abbrev Came : Val → Item 𝓤
     Came u = later (some (λ (r : EncodeOpened).
-        ((‵ (flft (κs .0) (qs .0)) ⊛ ‵ (flft (ν ∷ []) fullShare) ⊛ ‵ (flft (κs .1 .0) (qs .1 .0)) ⊛ ‵ (flft (κs .1 .1 .0) (qs .1 .1 .0)) ⊛ ‵ ftrue) ⊛ ‵ (E.the-row .own r (u ∷ [])))
+        ((‵ (flft (κs .0) (qs .0)) ⊛ ‵ (flft (ν ∷ []) fullShare) ⊛ ‵ (flft (κs .1 .0) (qs .1 .0)) ⊛ ‵ (flft (κs .1 .1 .0) (qs .1 .1 .0))
+        ⊛ ‵ ftrue) ⊛ ‵ (E.the-row .own r (u ∷ [])))
         ⊛ some (λ (ws : Lasts g.ended κs′ passed). ‵ (lasts g.ended κs′ passed ws) ⊛ raw (fact 𝓤 (Said r ws)))))
 
     -- what is had where it returns
@@ -164,7 +197,8 @@ module _ {M : Type 1} (𝓤 : URA M) (H : Heap 𝓤) (A : Atoms 𝓤) (W : Given
         → ent 𝓤 (⋆ 𝓤 H A (Ended r u ws)) (F 𝓤 H A mem run .post bound u)
     exits r u ws e =
         qed W (Ended r u ws) ∵ updating ! $ at-once ! $
-        show ! (λ (r : EncodeOpened). sep 𝓤 (Back 𝓤 H A f.signature (bound .0) u r) (ensured 𝓤 H A f.ended (f.clauses 𝓤 H A mem run) κs a tt r)) r $
+        show ! (λ (r : EncodeOpened). sep 𝓤 (Back 𝓤 H A f.signature (bound .0) u r)
+        (ensured 𝓤 H A f.ended (f.clauses 𝓤 H A mem run) κs a tt r)) r $
         move ! (2 ∷ 1 ∷ []) $ join ! $ join ! $ frame ! $
         show ! (λ (ws′ : Lasts f.ended κs a). sep 𝓤 (sem 𝓤 H A (lasts f.ended κs a ws′))
         (fact 𝓤 (Promise r (ws′ .1 .1 .1 .1 .1 .1 .1 .0)))) (tt, ws) $
@@ -177,7 +211,8 @@ module _ {M : Type 1} (𝓤 : URA M) (H : Heap 𝓤) (A : Atoms 𝓤) (W : Given
     walk =
         qed W (Toks ∷ ‵ Owns ∷ []) ∵ enter ! (𝓣 .C) (𝓣 .Λ) code.function (flat (rows κs) at) _ $
         alloc1 ! (λ l₀. alloc1 ! (λ l₁. alloc1 ! (λ l₂. alloc1 ! (λ l₃. alloc1 ! (λ l₄. alloc1 ! (λ l₅. alloc1 ! (λ l₆. alloc1 ! (λ l₇.
-        alloc1 ! (λ l₈. alloc1 ! (λ l₉. alloc1 ! (λ l₁₀. alloc1 ! (λ l₁₁. alloc1 ! (λ l₁₂. alloc1 ! (λ l₁₃. alloc1 ! (λ l₁₄. alloc0 ! $ params1 ! $
+        alloc1 ! (λ l₈. alloc1 ! (λ l₉. alloc1 ! (λ l₁₀. alloc1 !
+        (λ l₁₁. alloc1 ! (λ l₁₂. alloc1 ! (λ l₁₃. alloc1 ! (λ l₁₄. alloc0 ! $ params1 ! $
         pass1 ! (init ! 26 refl (tt, record { fits = are .0 .1 })) $ pass1 ! (init ! 24 refl (tt, record { fits = are .1 .0 .1 })) $
         pass1 ! (init ! 22 refl (LL.lawful O.the-type O′.the-laws 𝓤 H A W .typed (a .1 .1 .0) _ (are .1 .1 .0) .0)) $
         pass1 ! (init ! 20 refl (tt, (tt, (record { fits = are .1 .1 .1 .0 .0 .1 .0 }, tt)))) $
@@ -192,15 +227,19 @@ module _ {M : Type 1} (𝓤 : URA M) (H : Heap 𝓤) (A : Atoms 𝓤) (W : Given
         assigns ! (addr ! (from ! (stop !))) (from ! (stop !)) (init ! 6 refl (tt, tt)) $
         assigns ! (agg ! (and-then ! (reads ! 6 refl) (and-then ! (reads ! 8 refl) (no-more !)))) (from ! (stop !))
         (init ! 4 refl (tt, (tt, (record { fits = counted-fits pairs }, tt)))) $
-        assigns ! (addr ! (from ! (fld ! refl (hop ! (look-in ! 12 (sub ! 0 refl (whole !))) (stop !))))) (from ! (stop !)) (init ! 2 refl (tt, tt)) $
-        assigns ! (agg ! (and-then ! (reads ! 2 refl) (and-then ! (load ! (from ! (fld ! refl (stop !))) (look-in ! 12 (sub ! 1 refl (whole !)))) (no-more !))))
+        assigns ! (addr ! (from ! (fld ! refl (hop ! (look-in ! 12 (sub ! 0 refl (whole !))) (stop !))))) (from ! (stop !))
+        (init ! 2 refl (tt, tt)) $
+        assigns ! (agg ! (and-then ! (reads ! 2 refl) (and-then !
+        (load ! (from ! (fld ! refl (stop !))) (look-in ! 12 (sub ! 1 refl (whole !)))) (no-more !))))
         (from ! (stop !)) (init ! 0 refl (tt, (tt, (record { fits = are .1 .1 .1 .1 .1 .1 .1 .0 .0 .1 .0 }, tt)))) $
         move ! (10 ∷ []) $
-        lends-front R 8 l₉ pairs xs ! tt tt (LL.makes T.the-type T′.the-plain 𝓤 H A) (lowered xs) (are .1 .1 .1 .1 .0) long (lit< tt, lit< tt)
+        lends-front R 8 l₉ pairs xs ! tt tt (LL.makes T.the-type T′.the-plain 𝓤 H A) (lowered xs) (are .1 .1 .1 .1 .0) long
+        (lit< tt, lit< tt)
         _ (counted-long pairs xs long) (λ ν γ.
         move ! (32 ∷ 33 ∷ 0 ∷ 1 ∷ []) $ cut (Lent l₉ ν γ) (raw (G 𝓤 H A mem run .pre (to l₉ ν γ)) ∷ []) _ (asks l₉ ν γ) $
         calls-at ! fm (G 𝓤 H A mem run) k-g (to l₉ ν γ)
-        (and-then ! (reads ! 27 refl) (and-then ! (reads ! 25 refl) (and-then ! (reads ! 23 refl) (and-then ! (reads ! 21 refl) (and-then ! (reads ! 6 refl)
+        (and-then ! (reads ! 27 refl) (and-then ! (reads ! 25 refl)
+        (and-then ! (reads ! 23 refl) (and-then ! (reads ! 21 refl) (and-then ! (reads ! 6 refl)
         (and-then ! (reads ! 15 refl) (and-then ! (reads ! 2 refl) (no-more !)))))))) (λ u.
         use1 W (Came l₉ ν γ u) (id⊢ 𝓤 _) $ await ! tt $ pick ! (λ r. split ! $ move ! (1 ∷ []) $ pick ! (λ ws.
         split ! $ move ! (1 ∷ []) $ heard ! (Said l₉ ν γ r ws) (λ e. move ! (1 ∷ []) $ split ! $ split ! $ move ! (1 ∷ []) $ split ! $
@@ -210,9 +249,11 @@ module _ {M : Type 1} (𝓤 : URA M) (H : Heap 𝓤) (A : Atoms 𝓤) (W : Given
         land ! (from ! (stop !)) (init ! 32 refl (LL.lawful E.the-type E′.the-laws 𝓤 H A W .typed r _ is .0)) $ returns ! (look ! 32 refl) $
         forget ! 5 refl $ forget ! 7 refl $ forget ! 9 refl $ forget ! 11 refl $ forget ! 13 refl $ forget ! 16 refl $ forget ! 18 refl $
         forget ! 20 refl $ forget ! 22 refl $ forget ! 24 refl $ forget ! 26 refl $ forget ! 28 refl $ forget ! 30 refl $ forget ! 32 refl $
-        move ! (32 ∷ 33 ∷ []) $ free1 ! $ move ! (30 ∷ 31 ∷ []) $ free1 ! $ move ! (28 ∷ 29 ∷ []) $ free1 ! $ move ! (26 ∷ 27 ∷ []) $ free1 ! $
+        move ! (32 ∷ 33 ∷ []) $ free1 ! $ move ! (30 ∷ 31 ∷ []) $ free1 ! $ move ! (28 ∷ 29 ∷ []) $ free1 ! $ move ! (26 ∷ 27 ∷ []) $
+        free1 ! $
         move ! (24 ∷ 25 ∷ []) $ free1 ! $ move ! (22 ∷ 23 ∷ []) $ free1 ! $
-        move ! (20 ∷ 21 ∷ []) $ free1 ! $ move ! (18 ∷ 19 ∷ []) $ free1 ! $ move ! (16 ∷ 17 ∷ []) $ free1 ! $ move ! (1 ∷ 15 ∷ []) $ free1 ! $
+        move ! (20 ∷ 21 ∷ []) $ free1 ! $ move ! (18 ∷ 19 ∷ []) $ free1 ! $ move ! (16 ∷ 17 ∷ []) $ free1 ! $ move ! (1 ∷ 15 ∷ []) $
+        free1 ! $
         move ! (12 ∷ 13 ∷ []) $ free1 ! $ move ! (10 ∷ 11 ∷ []) $ free1 ! $
         move ! (8 ∷ 9 ∷ []) $ free1 ! $ move ! (6 ∷ 7 ∷ []) $ free1 ! $ move ! (4 ∷ 5 ∷ []) $ free1 ! $ free0 ! $
         by ! (exits l₉ ν γ r u ws e))))))))))))))))))))))
@@ -232,5 +273,7 @@ open-spec 𝓤 H 𝓜 𝓖 𝓡 =
     entered 𝓤 H (F 𝓤 H (𝓖 .A) (𝓜 .mem) (𝓡 .run))
     (tables 𝓤 H 𝓜 𝓡 code.env .C) (tables 𝓤 H 𝓜 𝓡 code.env .Λ) #f code.function (code.unfolded 𝓤 H 𝓜 𝓡)
     (meets 𝓤 H (𝓖 .A) (givenOf 𝓤 H 𝓜 𝓖) (𝓜 .mem) (𝓡 .run) (tablesOf 𝓤 H 𝓜 (tables 𝓤 H 𝓜 𝓡 code.env))
-    (cited 𝓤 H (Counted 𝓤 H (𝓖 .A) (𝓜 .mem) (𝓡 .run)) 𝓜 𝓡 code.env #counted counted-def.routine code.calls-by-value·counted (counted-thm.met 𝓤 H 𝓜 𝓖 𝓡))
-    (cited 𝓤 H (G 𝓤 H (𝓖 .A) (𝓜 .mem) (𝓡 .run)) 𝓜 𝓡 code.env #g g-def.routine code.calls-encode-session·EncodeSession·open (g-thm.met 𝓤 H 𝓜 𝓖 𝓡)))
+    (cited 𝓤 H (Counted 𝓤 H (𝓖 .A) (𝓜 .mem) (𝓡 .run)) 𝓜 𝓡 code.env #counted counted-def.routine code.calls-by-value·counted
+    (counted-thm.met 𝓤 H 𝓜 𝓖 𝓡))
+    (cited 𝓤 H (G 𝓤 H (𝓖 .A) (𝓜 .mem) (𝓡 .run)) 𝓜 𝓡 code.env #g g-def.routine code.calls-encode-session·EncodeSession·open
+    (g-thm.met 𝓤 H 𝓜 𝓖 𝓡)))

@@ -32,9 +32,12 @@ use Rattle.by_value.proofs.write_ext_fields.Code as code
 is-spelled : spelled #g ≡ code.function
 is-spelled = refl
 
-meets : {M : Type 1} (𝓤 : URA M) (H : Heap 𝓤) (A : Atoms 𝓤) (W : Given 𝓤 H A) (mem : Memory → SProp 𝓤) (run : Routine → Fun 𝓤) (𝓣 : Tables 𝓤 H)
-    → Triple 𝓤 (𝓣 .C #counted) (Counted 𝓤 H A mem run) → Triple 𝓤 (𝓣 .C #g) (G 𝓤 H A false) → Meets 𝓤 H A f.signature (WpFn 𝓤 H (𝓣 .C) (𝓣 .Λ) code.function) (f.spec 𝓤 H A mem run)
-meets 𝓤 H A W mem run 𝓣 k-counted k-g = subst (λ (E : Fn). Triple 𝓤 (WpFn 𝓤 H (𝓣 .C) (𝓣 .Λ) E) (F 𝓤 H A false)) is-spelled (both.meets 𝓤 H A W mem run false #g 𝓣 k-counted k-g)
+meets : {M : Type 1} (𝓤 : URA M) (H : Heap 𝓤) (A : Atoms 𝓤) (W : Given 𝓤 H A) (mem : Memory → SProp 𝓤) (run : Routine → Fun 𝓤)
+    (𝓣 : Tables 𝓤 H)
+    → Triple 𝓤 (𝓣 .C #counted) (Counted 𝓤 H A mem run) → Triple 𝓤 (𝓣 .C #g) (G 𝓤 H A false)
+    → Meets 𝓤 H A f.signature (WpFn 𝓤 H (𝓣 .C) (𝓣 .Λ) code.function) (f.spec 𝓤 H A mem run)
+meets 𝓤 H A W mem run 𝓣 k-counted k-g = subst (λ (E : Fn). Triple 𝓤 (WpFn 𝓤 H (𝓣 .C) (𝓣 .Λ) E) (F 𝓤 H A false)) is-spelled
+    (both.meets 𝓤 H A W mem run false #g 𝓣 k-counted k-g)
 
 pub write-ext-fields-spec : {M : Type 1} → stated.statement M
 unfolding code.routine tablesOf
@@ -42,5 +45,6 @@ write-ext-fields-spec 𝓤 H 𝓜 𝓖 𝓡 =
     entered 𝓤 H (F 𝓤 H (𝓖 .A) false)
     (tables 𝓤 H 𝓜 𝓡 code.env .C) (tables 𝓤 H 𝓜 𝓡 code.env .Λ) #f code.function (code.unfolded 𝓤 H 𝓜 𝓡)
     (meets 𝓤 H (𝓖 .A) (givenOf 𝓤 H 𝓜 𝓖) (𝓜 .mem) (𝓡 .run) (tablesOf 𝓤 H 𝓜 (tables 𝓤 H 𝓜 𝓡 code.env))
-    (cited 𝓤 H (Counted 𝓤 H (𝓖 .A) (𝓜 .mem) (𝓡 .run)) 𝓜 𝓡 code.env #counted counted-def.routine code.calls-by-value·counted (counted-thm.met 𝓤 H 𝓜 𝓖 𝓡))
+    (cited 𝓤 H (Counted 𝓤 H (𝓖 .A) (𝓜 .mem) (𝓡 .run)) 𝓜 𝓡 code.env #counted counted-def.routine code.calls-by-value·counted
+    (counted-thm.met 𝓤 H 𝓜 𝓖 𝓡))
     (cited 𝓤 H (G 𝓤 H (𝓖 .A) false) 𝓜 𝓡 code.env #g g-def.routine code.calls-ext-write·write-ext-fields (g-thm.met 𝓤 H 𝓜 𝓖 𝓡)))

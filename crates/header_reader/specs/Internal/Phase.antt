@@ -6,7 +6,8 @@ use lib.Dec.{eqb}
 use Rattle.error.specs.Choice.{if}
 use Rattle.ext.specs.Kinds.{Span}
 use Rattle.header.specs.Read.{parsed}
-use Rattle.header_reader.specs.Internal.Machine.{State, inType, atFix, inOctets, atOctet, atPair, inIdentifier, inValue, inWidth, inHeight, Step, more, done, refused, found, toWidth}
+use Rattle.header_reader.specs.Internal.Machine.{State, inType, atFix, inOctets, atOctet, atPair, inIdentifier, inValue, inWidth}
+use Rattle.header_reader.specs.Internal.Machine.{inHeight, Step, more, done, refused, found, toWidth}
 use Rattle.header_reader.specs.Internal.Represents.{fieldsState, state}
 use Rattle.header_reader.specs.declared.phase.FieldsPhase.{FieldsPhase}
 use Rattle.header_reader.specs.declared.phase.PairChain.{PairChain}

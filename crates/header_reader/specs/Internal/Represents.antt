@@ -7,7 +7,8 @@ use Rattle.error.specs.Answer.{isEnd, refusal}
 use Rattle.error.specs.declared.WbmpError.{WbmpError}
 use Rattle.header.specs.Settings.{Settings, settings}
 use Rattle.header.specs.Read.{extSpan, parsed}
-use Rattle.header_reader.specs.Internal.Machine.{State, inType, atFix, inOctets, atOctet, atPair, inIdentifier, inValue, inWidth, inHeight, Step, more, done, refused, stepOf, resume}
+use Rattle.header_reader.specs.Internal.Machine.{State, inType, atFix, inOctets, atOctet, atPair, inIdentifier, inValue, inWidth}
+use Rattle.header_reader.specs.Internal.Machine.{inHeight, Step, more, done, refused, stepOf, resume}
 use Rattle.header_reader.specs.declared.phase.FieldsPhase.{FieldsPhase}
 use Rattle.header_reader.specs.declared.phase.Phase.{Phase}
 use Rattle.header_reader.specs.declared.reader.HeaderReader.{HeaderReader}

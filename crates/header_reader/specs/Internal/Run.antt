@@ -6,7 +6,8 @@ use mathlib.Core.List.{List, []}
 use mathlib.Core.Logic.{_⊎_}
 use lib.ListN.{length, take}
 use Rattle.header.specs.Settings.{Settings}
-use Rattle.header_reader.specs.Internal.Machine.{State, inType, atFix, inOctets, atOctet, atPair, inIdentifier, inValue, inWidth, inHeight, inFields, more, steps}
+use Rattle.header_reader.specs.Internal.Machine.{State, inType, atFix, inOctets, atOctet, atPair, inIdentifier, inValue, inWidth}
+use Rattle.header_reader.specs.Internal.Machine.{inHeight, inFields, more, steps}
 use Rattle.header_reader.specs.Internal.Represents.{fieldsState, Represents}
 use Rattle.header_reader.specs.declared.run.PairsRun.{PairsRun}
 use Rattle.header_reader.specs.declared.run.FieldsRun.{FieldsRun}

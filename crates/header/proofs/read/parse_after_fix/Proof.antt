@@ -15,12 +15,15 @@ use Rattle.header.proofs.read.parse_after_fix.Tie as tie
 
 fields-read : (c : tie.After-read-fields) (x : ExtRead) → c .read-fields .result ≡ x
     → let a = c .before .before .before .args in
-    map outline (readAfterFix (settings (a .mode)) (now (a .bytes)) (a .fix) (a .at)) ≡ bind (fieldsRead x) (sizesAfter (settings (a .mode)) (now (a .bytes)) (a .fix) (a .at))
+    map outline (readAfterFix (settings (a .mode)) (now (a .bytes)) (a .fix) (a .at))
+    ≡ bind (fieldsRead x) (sizesAfter (settings (a .mode)) (now (a .bytes)) (a .fix) (a .at))
 fields-read c x e =
     let a = c .before .before .before .args in
     let o = settings (a .mode) in
-    ap (λ (t : Bool). map outline (bind (readFields (o .classes) (t && fieldsFollow (a .fix)) (kindBits (a .fix)) (now (a .bytes)) (a .at)) (readSizes o (now (a .bytes)) (a .fix) (a .at)))) (c .before .if1 .taken)
-    ∙ on-fields o (now (a .bytes)) (a .fix) (a .at) (o .classes) (fieldsFollow (a .fix)) (kindBits (a .fix)) (c .read-fields .result) x (c .read-fields .ensures) e
+    ap (λ (t : Bool). map outline (bind (readFields (o .classes) (t && fieldsFollow (a .fix)) (kindBits (a .fix)) (now (a .bytes))
+    (a .at)) (readSizes o (now (a .bytes)) (a .fix) (a .at)))) (c .before .if1 .taken)
+    ∙ on-fields o (now (a .bytes)) (a .fix) (a .at) (o .classes) (fieldsFollow (a .fix)) (kindBits (a .fix)) (c .read-fields .result) x
+    (c .read-fields .ensures) e
 
 read-fields-requires : tie.Need-read-fields-requires
 read-fields-requires c κs = search needs
@@ -67,7 +70,8 @@ returns-4 c =
     let a = c .before .before .before .args in
     let o = settings (a .mode) in
     c .parse-sizes3 .ensures
-    ∙ sym (ap (λ (t : Bool). map outline (bind (readFields (o .classes) (t && fieldsFollow (a .fix)) (kindBits (a .fix)) (now (a .bytes)) (a .at)) (readSizes o (now (a .bytes)) (a .fix) (a .at)))) (c .before .if1 .left)
+    ∙ sym (ap (λ (t : Bool). map outline (bind (readFields (o .classes) (t && fieldsFollow (a .fix)) (kindBits (a .fix)) (now (a .bytes))
+    (a .at)) (readSizes o (now (a .bytes)) (a .fix) (a .at)))) (c .before .if1 .left)
     ∙ no-fields o (now (a .bytes)) (a .fix) (a .at) (o .classes) (kindBits (a .fix)))
 
 pub parse-after-fix-spec : {M : Type 1} → statement M

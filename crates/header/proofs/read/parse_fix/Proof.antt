@@ -25,7 +25,12 @@ refused-requires-2 c κs = search needs
 returns-2 : tie.Need-returns-2
 returns-2 c =
     let t = c .before .before in
-    ap meaning (c .refused2 .ensures) ∙ sym (simp (lt-leb _ _ (t .before .before .if1 .left), t .if2 .taken, lt-ltb 0 _ (c .before .if3 .taken)))
+    ap meaning (c .refused2 .ensures) ∙ sym (simp (
+      lt-leb _ _ (t .before .before .if1 .left),
+      t .if2 .taken,
+      lt-ltb 0 _
+          (c .before .if3 .taken),
+    ))
 
 add-parse-after-fix : tie.Need-add-parse-after-fix
 add-parse-after-fix c = search needs
@@ -38,7 +43,8 @@ returns-3 c =
     let j = c .before in
     let a = j .before .before .before .before .args in
     let b = getD (now (a .bytes)) (a .at) 0 in
-    let q : (a .mode .«fix_zero» && ltb 0 b) ≡ false = ⊎-elim (λ w. simp (w .0 .taken, le-ltb 0 b (w .1 .left))) (λ w. simp (w .left)) (j .if2 .came) in
+    let q : (a .mode .«fix_zero» && ltb 0 b) ≡ false = ⊎-elim (λ w. simp (w .0 .taken, le-ltb 0 b (w .1 .left))) (λ w. simp (w .left))
+    (j .if2 .came) in
     c .parse-after-fix .ensures ∙ sym (simp (lt-leb _ _ (j .before .before .if1 .left), q))
 
 pub parse-fix-spec : {M : Type 1} → statement M

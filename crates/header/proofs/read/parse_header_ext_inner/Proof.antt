@@ -14,7 +14,8 @@ parse-header-mode-requires : tie.Need-parse-header-mode-requires
 parse-header-mode-requires c κs = search needs
 
 returns : tie.Need-returns
-returns c = c .parse-header-mode .ensures ∙ ap (λ (o : Settings). map outline (readHeader o (now (c .before .before .before .args .bytes)))) (c .before .ext-inner .ensures)
+returns c = c .parse-header-mode .ensures ∙ ap (λ (o : Settings). map outline
+    (readHeader o (now (c .before .before .before .args .bytes)))) (c .before .ext-inner .ensures)
 
 pub parse-header-ext-inner-spec : {M : Type 1} → statement M
 parse-header-ext-inner-spec =

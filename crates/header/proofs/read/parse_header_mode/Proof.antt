@@ -29,7 +29,8 @@ returns c =
     let r = v .before .before in
     let a = r .before .before .args in
     c .parse-fix .ensures
-    ∙ sym (type-on (settings (a .mode)) (now (a .bytes)) (r .read-integer .result) _ (r .read-integer .ensures) (v .value .given .1) ∙ simp (eq-eqb _ _ (c .before .if1 .taken)))
+    ∙ sym (type-on (settings (a .mode)) (now (a .bytes)) (r .read-integer .result) _ (r .read-integer .ensures) (v .value .given .1)
+    ∙ simp (eq-eqb _ _ (c .before .if1 .taken)))
 
 returns-2 : tie.Need-returns-2
 returns-2 c =
@@ -37,7 +38,8 @@ returns-2 c =
     let r = v .before .before in
     let a = r .before .before .args in
     ap meaning (c .refused .ensures)
-    ∙ sym (type-on (settings (a .mode)) (now (a .bytes)) (r .read-integer .result) _ (r .read-integer .ensures) (v .value .given .1) ∙ simp (ne-eqb _ _ (c .before .if1 .left)))
+    ∙ sym (type-on (settings (a .mode)) (now (a .bytes)) (r .read-integer .result) _ (r .read-integer .ensures) (v .value .given .1)
+    ∙ simp (ne-eqb _ _ (c .before .if1 .left)))
 
 returns-3 : tie.Need-returns-3
 returns-3 c =

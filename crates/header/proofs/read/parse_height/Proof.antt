@@ -12,7 +12,8 @@ use Rattle.header.proofs.read.parse_height.Tie as tie
 
 height-read : (c : tie.After-read-integer) (x : MbiRead) → c .read-integer .result ≡ x
     → let a = c .before .before .args in
-    outlineHeight (a .shortest) (now (a .bytes)) (a .fix) (extSpan (a .fields)) (a .width, a .at) ≡ bind (integerRead x) (sized (a .fix) (extSpan (a .fields)) (a .width))
+    outlineHeight (a .shortest) (now (a .bytes)) (a .fix) (extSpan (a .fields)) (a .width, a .at)
+    ≡ bind (integerRead x) (sized (a .fix) (extSpan (a .fields)) (a .width))
 height-read c x e =
     let a = c .before .before .args in
     on-integer (c .read-integer .result) x _ (sized (a .fix) (extSpan (a .fields)) (a .width)) (c .read-integer .ensures) e
@@ -29,7 +30,8 @@ refused-requires c κs = search needs
 returns : tie.Need-returns
 returns c =
     let v = c .before .before .before in
-    ap meaning (c .refused .ensures) ∙ sym (height-read (v .before .before) _ (v .value .given .1) ∙ simp (eq-eqb _ _ (c .before .if1 .taken)))
+    ap meaning (c .refused .ensures) ∙ sym (height-read (v .before .before) _ (v .value .given .1)
+    ∙ simp (eq-eqb _ _ (c .before .if1 .taken)))
 
 refused-requires-2 : tie.Need-refused-requires-2
 refused-requires-2 c κs = search needs

@@ -11,10 +11,12 @@ use Rattle.header.proofs.read.parse_sizes.Tie as tie
 
 sizes-read : (c : tie.After-read-integer) (x : MbiRead) → c .read-integer .result ≡ x
     → let a = c .before .before .args in
-    outlineSizes (a .shortest) (now (a .bytes)) (a .fix) (extSpan (a .fields)) (a .at) ≡ bind (integerRead x) (outlineHeight (a .shortest) (now (a .bytes)) (a .fix) (extSpan (a .fields)))
+    outlineSizes (a .shortest) (now (a .bytes)) (a .fix) (extSpan (a .fields)) (a .at)
+    ≡ bind (integerRead x) (outlineHeight (a .shortest) (now (a .bytes)) (a .fix) (extSpan (a .fields)))
 sizes-read c x e =
     let a = c .before .before .args in
-    on-integer (c .read-integer .result) x _ (outlineHeight (a .shortest) (now (a .bytes)) (a .fix) (extSpan (a .fields))) (c .read-integer .ensures) e
+    on-integer (c .read-integer .result) x _ (outlineHeight (a .shortest) (now (a .bytes)) (a .fix) (extSpan (a .fields)))
+    (c .read-integer .ensures) e
 
 read-integer-requires : tie.Need-read-integer-requires
 read-integer-requires c κs = search needs

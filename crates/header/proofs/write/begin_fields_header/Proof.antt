@@ -53,7 +53,8 @@ returns c =
     let z = c .before .before .before in
     let a = z .before .before .before .before .before .before .before .args in (
       none-within (now (a .out)) _ _ _ _ (c .none-begun .ensures) (c .before .refused .ensures),
-      λ strict lengths h. lent-short strict (a .width) (a .height) _ _ lengths (now (a .out)) _ _ _ (c .none-begun .ensures) (c .before .refused .ensures) (checked z strict lengths h)
+      λ strict lengths h. lent-short strict (a .width) (a .height) _ _ lengths (now (a .out)) _ _ _ (c .none-begun .ensures)
+          (c .before .refused .ensures) (checked z strict lengths h)
           (omega (arith, c .before .before .if1 .taken, z .sizes-len .ensures)),
     )
 
@@ -71,7 +72,8 @@ returns-2 c =
     let z = c .before .before .before .before in
     let a = z .before .before .before .before .before .before .before .args in (
       none-within (now (a .out)) _ _ _ _ (c .none-begun2 .ensures) (c .before .refused2 .ensures),
-      λ strict lengths h. lent-short strict (a .width) (a .height) _ _ lengths (now (a .out)) _ _ _ (c .none-begun2 .ensures) (c .before .refused2 .ensures) (checked z strict lengths h)
+      λ strict lengths h. lent-short strict (a .width) (a .height) _ _ lengths (now (a .out)) _ _ _ (c .none-begun2 .ensures)
+          (c .before .refused2 .ensures) (checked z strict lengths h)
           (omega (arith, c .before .before .if2 .taken, c .before .before .before .if1 .left, z .sizes-len .ensures)),
     )
 
@@ -117,8 +119,12 @@ add-t13 c =
     let e = p .before .before .before in
     let a = e .before .before .before .before .before .before .before .before .before .args in
     let two : 2 ≤ length (now (a .out)) = omega (arith, e .before .if1 .left) in
-    let most : length (now (a .out)) < 2 ^ 64 = omega (arith, e .before .before .before .before .before .before .before .before .before .good) in
-    fits-two _ (p .put-sizes .last .1 .1 .0) (b .last .1 .1 .1 .0) _ (b .ensures .0) (b .kept .1 .1 .1 .0) (simp length-set at (p .put-sizes .kept .1 .1 .0)) two most
+    let most : length (now (a .out)) < 2 ^ 64 = omega (
+      arith,
+      e .before .before .before .before .before .before .before .before .before .good,
+    ) in
+    fits-two _ (p .put-sizes .last .1 .1 .0) (b .last .1 .1 .1 .0) _ (b .ensures .0) (b .kept .1 .1 .1 .0)
+    (simp length-set at (p .put-sizes .kept .1 .1 .0)) two most
 
 add-t17 : tie.Need-add-t17
 add-t17 c = search needs
@@ -132,7 +138,9 @@ none-begun-requires-3 c κs = search needs
 same-length : tie.Need-same-length
 same-length c =
     let p = c .before .before .before .before .before .before .before in
-    same-len-mid 2 (length (p .put-sizes .last .1 .1 .0) - 2) (p .put-sizes .last .1 .1 .0) (c .before .before .before .begin-fields .last .1 .1 .1 .0) (c .before .before .before .begin-fields .kept .1 .1 .1 .0) ∙ simp length-set at (p .put-sizes .kept .1 .1 .0)
+    same-len-mid 2 (length (p .put-sizes .last .1 .1 .0) - 2) (p .put-sizes .last .1 .1 .0)
+    (c .before .before .before .begin-fields .last .1 .1 .1 .0) (c .before .before .before .begin-fields .kept .1 .1 .1 .0)
+    ∙ simp length-set at (p .put-sizes .kept .1 .1 .0)
 
 returns-3 : tie.Need-returns-3
 returns-3 c =
@@ -142,11 +150,17 @@ returns-3 c =
     let z = e .before .before in
     let a = z .before .before .before .before .before .before .before .args in
     let n : ℕ = z .before .before .len .given .0 .0 in
-    let kept = same-len-mid 2 (length (p .put-sizes .last .1 .1 .0) - 2) (p .put-sizes .last .1 .1 .0) (b .last .1 .1 .1 .0) (b .kept .1 .1 .1 .0) ∙ simp length-set at (p .put-sizes .kept .1 .1 .0) in (
-      bytes-within (now (a .out)) (putMid 2 (length (p .put-sizes .last .1 .1 .0) - 2) (p .put-sizes .last .1 .1 .0) (b .last .1 .1 .1 .0)) (record { to = 2 + b .result .to; answer = Written.Bytes (2 + z .sizes-len .result + n) }) (2 + length (sizeBytes (a .width) (a .height)) + n) (ap (λ (x : ℕ). gives (2 + x + n)) (z .sizes-len .ensures)) (omega arith) (omega (arith, e .if2 .left, e .before .if1 .left, z .sizes-len .ensures)) kept,
-      λ strict lengths h. lent-left strict (a .width) (a .height) (kindNumber (a .ext-type)) (now (a .text)) lengths (now (a .out)) (p .put-sizes .last .1 .1 .0) (b .last .1 .1 .1 .0) n (b .result) _
+    let kept = same-len-mid 2 (length (p .put-sizes .last .1 .1 .0) - 2) (p .put-sizes .last .1 .1 .0) (b .last .1 .1 .1 .0)
+    (b .kept .1 .1 .1 .0) ∙ simp length-set at (p .put-sizes .kept .1 .1 .0) in (
+      bytes-within (now (a .out)) (putMid 2 (length (p .put-sizes .last .1 .1 .0) - 2) (p .put-sizes .last .1 .1 .0)
+          (b .last .1 .1 .1 .0)) (record { to = 2 + b .result .to; answer = Written.Bytes (2 + z .sizes-len .result + n) })
+          (2 + length (sizeBytes (a .width) (a .height)) + n) (ap (λ (x : ℕ). gives (2 + x + n)) (z .sizes-len .ensures))
+          (omega arith) (omega (arith, e .if2 .left, e .before .if1 .left, z .sizes-len .ensures)) kept,
+      λ strict lengths h. lent-left strict (a .width) (a .height) (kindNumber (a .ext-type)) (now (a .text)) lengths (now (a .out))
+          (p .put-sizes .last .1 .1 .0) (b .last .1 .1 .1 .0) n (b .result) _
           (checked z strict lengths h) (omega (arith, e .if2 .left, e .before .if1 .left, z .sizes-len .ensures))
-          (p .put-sizes .ensures ∙ ap (λ (x : ℕ). sets (set (set (now (a .out)) 0 0) 1 x) (2 + n) (sizeBytes (a .width) (a .height))) (p .before .before .fix-byte .ensures))
+          (p .put-sizes .ensures ∙ ap (λ (x : ℕ). sets (set (set (now (a .out)) 0 0) 1 x) (2 + n) (sizeBytes (a .width) (a .height)))
+          (p .before .before .fix-byte .ensures))
           (b .kept .1 .1 .1 .0) refl (ap (λ (x : ℕ). gives (2 + x + n)) (z .sizes-len .ensures)) (b .ensures .1 strict lengths h),
     )
 
@@ -155,7 +169,8 @@ returns-4 c =
     let k = c .before .before .before .before in
     let a = k .before .before .before .args in (
       none-within (now (a .out)) _ _ _ _ (c .none-begun3 .ensures) refl,
-      λ strict lengths h. lent-refused strict (a .width) (a .height) _ _ lengths (now (a .out)) 0 0 _ _ (c .none-begun3 .ensures) (sym (ap fieldsLength (c .before .before .e .given .1)) ∙ k .check-fields .ensures strict lengths h),
+      λ strict lengths h. lent-refused strict (a .width) (a .height) _ _ lengths (now (a .out)) 0 0 _ _ (c .none-begun3 .ensures)
+          (sym (ap fieldsLength (c .before .before .e .given .1)) ∙ k .check-fields .ensures strict lengths h),
     )
 
 pub begin-fields-header-spec : {M : Type 1} → statement M

@@ -31,7 +31,8 @@ none-begun-requires-2 c κs = search needs
 returns-2 : tie.Need-returns-2
 returns-2 c =
     let a = c .before .before .before .before .before .before .args in
-    let t : (eqb (a .width) 0 || eqb (a .height) 0) ≡ true = simp (ne-eqb _ _ (c .before .before .before .if1 .left), eq-eqb _ _ (c .before .before .if2 .taken)) in (
+    let t : (eqb (a .width) 0 || eqb (a .height) 0) ≡ true = simp
+    (ne-eqb _ _ (c .before .before .before .if1 .left), eq-eqb _ _ (c .before .before .if2 .taken)) in (
       none-within (now (a .out)) _ _ _ _ (c .none-begun2 .ensures) (c .before .refused2 .ensures),
       λ strict lengths h. zero-left strict _ lengths (now (a .out)) _ _ _ _ (c .none-begun2 .ensures) (c .before .refused2 .ensures) t,
     )
@@ -61,9 +62,12 @@ returns-3 c =
     let e = m .before .before in
     let a = e .before .before .before .before .args in
     let t : (eqb (a .width) 0 || eqb (a .height) 0) ≡ false = simp (ne-eqb _ _ (e .before .if1 .left), ne-eqb _ _ (e .if2 .left)) in (
-      plain-within (a .width) (a .height) (now (a .out)) _ _ _ _ (c .none-begun3 .ensures) (w .write-header .kept .1 .1 .0) (w .write-header .ensures),
-      λ strict lengths h. presence-left strict (a .width) (a .height) (now (a .text)) lengths (now (a .out)) _ _ _ _ _ t (m .enum-told .given .1)
-          (absent-left strict (a .width) (a .height) (now (a .text)) lengths (now (a .out)) _ _ _ (c .none-begun3 .ensures) (w .write-header .ensures)),
+      plain-within (a .width) (a .height) (now (a .out)) _ _ _ _ (c .none-begun3 .ensures) (w .write-header .kept .1 .1 .0)
+          (w .write-header .ensures),
+      λ strict lengths h. presence-left strict (a .width) (a .height) (now (a .text)) lengths (now (a .out)) _ _ _ _ _ t
+          (m .enum-told .given .1)
+          (absent-left strict (a .width) (a .height) (now (a .text)) lengths (now (a .out)) _ _ _ (c .none-begun3 .ensures)
+          (w .write-header .ensures)),
     )
 
 same-length-2 : tie.Need-same-length-2
@@ -77,7 +81,8 @@ returns-4 c =
     let a = e .before .before .before .before .args in
     let t : (eqb (a .width) 0 || eqb (a .height) 0) ≡ false = simp (ne-eqb _ _ (e .before .if1 .left), ne-eqb _ _ (e .if2 .left)) in (
       w .begin-fields-header .ensures .0,
-      λ strict lengths h. presence-left strict (a .width) (a .height) (now (a .text)) lengths (now (a .out)) _ _ _ _ _ t (m .ext .given .1) (w .begin-fields-header .ensures .1 strict lengths h),
+      λ strict lengths h. presence-left strict (a .width) (a .height) (now (a .text)) lengths (now (a .out)) _ _ _ _ _ t
+          (m .ext .given .1) (w .begin-fields-header .ensures .1 strict lengths h),
     )
 
 pub begin-header-spec : {M : Type 1} → statement M

@@ -31,7 +31,8 @@ returns : tie.Need-returns
 returns c =
     let s = c .before .before .before .before .before .before in (
       omega arith,
-      emits-part (s .args .at) (now (s .args .out)) (mbiBytes (s .args .value)) _ _ (s .pre) (c .before .before .before .write-mbi-u32 .ensures),
+      emits-part (s .args .at) (now (s .args .out)) (mbiBytes (s .args .value)) _ _ (s .pre)
+          (c .before .before .before .write-mbi-u32 .ensures),
     )
 
 pub put-integer-spec : {M : Type 1} → statement M

@@ -25,7 +25,8 @@ returns c =
     let s = c .before .before .before .before .before .before .before .before .before in
     let p = c .before .before .before .before .before .before .put-integer in
     c .before .before .put-integer2 .ensures .1
-    ∙ rw (p .ensures .0, p .ensures .1) (sets-append (now (s .args .out)) (s .args .at) (mbiBytes (s .args .width)) (mbiBytes (s .args .height)))
+    ∙ rw (p .ensures .0, p .ensures .1) (sets-append (now (s .args .out)) (s .args .at) (mbiBytes (s .args .width))
+    (mbiBytes (s .args .height)))
 
 pub put-sizes-spec : {M : Type 1} → statement M
 put-sizes-spec =

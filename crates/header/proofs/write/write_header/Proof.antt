@@ -46,7 +46,8 @@ returns-2 c =
     let n = c .before .before .before .before .before in
     let e = header-length 0 [] (s .args .width) (s .args .height) in
     rw (c .before .before .put-sizes .ensures)
-    (header-put 0 [] (s .args .width) (s .args .height) (now (s .args .out)) (2 + n .sizes-len .result) (omega (arith, e, n .sizes-len .ensures)) (omega arith))
+    (header-put 0 [] (s .args .width) (s .args .height) (now (s .args .out)) (2 + n .sizes-len .result)
+    (omega (arith, e, n .sizes-len .ensures)) (omega arith))
 
 pub write-header-spec : {M : Type 1} → statement M
 write-header-spec =

@@ -1,5 +1,5 @@
--- `header::write::write_header_ext` meets its contract: a walk of its MIR, by hand. It calls `check_parameters`, `begin_header` and `put_parameters`, and lends out again to the
--- last two. All that the proof knows of them is that each meets its contract.
+-- `header::write::write_header_ext` meets its contract: a walk of its MIR, by hand. It calls `check_parameters`, `begin_header` and
+-- `put_parameters`, and lends out again to the last two. All that the proof knows of them is that each meets its contract.
 -- Assumes nothing.
 use mathlib.Core.Path.{_≡_, refl, sym, _∙_, ap, subst}
 use mathlib.Core.Bool.{Bool}
@@ -19,9 +19,11 @@ use prog.Wp.{Heap, WpFn, Tables}
 use ghost.Atoms.{Atoms}
 use contract.Monad.{Fun, fact}
 use contract.Running.{givenOf, tables, tablesOf}
-use types.Kit.{Given, Item, ‵, raw, _⊛_, some, later, ⋆, _$_, _∵_, !, qed, by, move, keep, drop, cut, use1, split, join, pick, rewrite, fsplit, fjoin, feqL, suffices, frame, await, done}
+use types.Kit.{Given, Item, ‵, raw, _⊛_, some, later, ⋆, _$_, _∵_, !, qed, by, move, keep, drop, cut, use1, split, join, pick, rewrite}
+use types.Kit.{fsplit, fjoin, feqL, suffices, frame, await, done}
 use types.Part.{agg, whole, sub, look-in}
-use types.Run.{look, init, forget, stop, hop, fld, from, load, addr, and-then, no-more, assigns, land, returns, enter, alloc1, alloc0, params1, pass1, pass0, free1, free0}
+use types.Run.{look, init, forget, stop, hop, fld, from, load, addr, and-then, no-more, assigns, land, returns, enter, alloc1, alloc0}
+use types.Run.{params1, pass1, pass0, free1, free0}
 use sound.WpLaws.{FmC, fmOf, WpFn-mono}
 use denote.RattleType.{RattleType, owns}
 use denote.Laws.{Is, shows}
@@ -40,7 +42,8 @@ use denote.Triple.Clauses.{ensured, lasts, Lasts}
 use denote.Triple.Entry.{Vals, Args, onEntry}
 use denote.Triple.Spec.{Meets, tripleOf}
 use denote.Triple.Table.{entered, cited}
-use denote.Triple.Walked.{says, Stays, stay-none, stay-none-slice, stay-slice, walkOf, goes-none, goes-none-slice, goes-slice, Walks, ends-at, walked, walk-meets}
+use denote.Triple.Walked.{says, Stays, stay-none, stay-none-slice, stay-slice, walkOf, goes-none, goes-none-slice, goes-slice, Walks}
+use denote.Triple.Walked.{ends-at, walked, walk-meets}
 use denote.Exit.{yes}
 use Rattle.error.specs.Answer.{written}
 use Rattle.error.specs.Emits.{Emits}
@@ -83,7 +86,22 @@ use Rattle.header.proofs.write.write_header_ext.Code as code
 use Rattle.header.proofs.write.write_header_ext.Code.Mir as body
 
 abbrev stayed : Stays (f.ended .signature .params) (f.ended .kept)
-stayed = (stay-none (λ _. u32) yes, (stay-none (λ _. u32) yes, (stay-none (λ _. K.the-row) yes, (stay-none-slice (0 ∷ []) tt (plain (λ _. u8)) yes, (stay-none-slice (1 ∷ []) tt (plain (λ _. T.the-row)) yes, (stay-none (λ _. bool) yes, (stay-slice (2 ∷ []) tt (plain (λ _. u8)), tt)))))))
+stayed = (
+  stay-none (λ _. u32) yes,
+  (
+    stay-none (λ _. u32) yes,
+    (
+      stay-none (λ _. K.the-row) yes,
+      (
+        stay-none-slice (0 ∷ []) tt (plain (λ _. u8)) yes,
+        (
+          stay-none-slice (1 ∷ []) tt (plain (λ _. T.the-row)) yes,
+          (stay-none (λ _. bool) yes, (stay-slice (2 ∷ []) tt (plain (λ _. u8)), tt)),
+        ),
+      ),
+    ),
+  ),
+)
 
 -- the function with its locals' types written out, so that each is not looked up again at each step of the walk
 abbrev ref : Ty
@@ -94,8 +112,11 @@ spelled = record {
   lifetimes = 3;
   outlives = [];
   params = 7;
-  locals = local Wr′.mir valueLocal ∷ local (tyInt w32) valueLocal ∷ local (tyInt w32) valueLocal ∷ local K′.mir valueLocal ∷ local (sliceTy (tyRef (named 0) imm (tyInt w8))) valueLocal ∷ local (sliceTy (tyRef (named 1) imm (pointee (T.the-row .written)))) valueLocal ∷ local tyBool valueLocal
-      ∷ local (sliceTy (tyRef (named 2) mut (tyInt w8))) valueLocal ∷ local F′.mir valueLocal ∷ local B′.mir valueLocal ∷ local ref valueLocal ∷ local (sliceTy ref) valueLocal ∷ local ref valueLocal ∷ local (sliceTy ref) valueLocal ∷ [];
+  locals = local Wr′.mir valueLocal ∷ local (tyInt w32) valueLocal ∷ local (tyInt w32) valueLocal ∷ local K′.mir valueLocal
+      ∷ local (sliceTy (tyRef (named 0) imm (tyInt w8))) valueLocal
+      ∷ local (sliceTy (tyRef (named 1) imm (pointee (T.the-row .written)))) valueLocal ∷ local tyBool valueLocal
+      ∷ local (sliceTy (tyRef (named 2) mut (tyInt w8))) valueLocal ∷ local F′.mir valueLocal ∷ local B′.mir valueLocal
+      ∷ local ref valueLocal ∷ local (sliceTy ref) valueLocal ∷ local ref valueLocal ∷ local (sliceTy ref) valueLocal ∷ [];
   body = body.t-1;
 }
 
@@ -107,7 +128,9 @@ abbrev Begin : {M : Type 1} (𝓤 : URA M) (H : Heap 𝓤) (A : Atoms 𝓤) (mem
 Begin 𝓤 H A mem run = tripleOf 𝓤 H A begin.signature (begin.spec 𝓤 H A mem run)
 
 module _ {M : Type 1} (𝓤 : URA M) (H : Heap 𝓤) (A : Atoms 𝓤) (W : Given 𝓤 H A) (mem : Memory → SProp 𝓤) (run : Routine → Fun 𝓤)
-    (κ₀ κ₁ κ₂ : Lft) (q₀ q₁ q₂ : Share) (wd : ℕ) (wd-fits : wd < 2 ^ 32) (ht : ℕ) (ht-fits : ht < 2 ^ 32) (c : ExtPresence) (is-c : Is K.the-row c (K′.lowered c ∷ [])) (y : RefT (List ℕ)) (x : RefT (List Parameter)) (strict : Bool) (b o : ℕ) (γ : GName) (os : List ℕ) where
+    (κ₀ κ₁ κ₂ : Lft) (q₀ q₁ q₂ : Share) (wd : ℕ) (wd-fits : wd < 2 ^ 32) (ht : ℕ) (ht-fits : ht < 2 ^ 32) (c : ExtPresence)
+    (is-c : Is K.the-row c (K′.lowered c ∷ [])) (y : RefT (List ℕ)) (x : RefT (List Parameter)) (strict : Bool) (b o : ℕ) (γ : GName)
+    (os : List ℕ) where
   abbrev ts : List ℕ
   ts = y .now
 
@@ -154,7 +177,8 @@ module _ {M : Type 1} (𝓤 : URA M) (H : Heap 𝓤) (A : Atoms 𝓤) (W : Given
   Toks = ‵ (flft κ₀ q₀) ⊛ ‵ (flft κ₁ q₁) ⊛ ‵ (flft κ₂ q₂) ⊛ ‵ ftrue
 
   abbrev Owns : Fml
-  Owns = owns (u32 ∷ u32 ∷ K.the-row ∷ ShrSlice (named 0) κ₀ u8 ∷ ShrSlice (named 1) κ₁ T.the-row ∷ bool ∷ MutSlice (named 2) κ₂ u8 ∷ []) a at
+  Owns = owns (u32 ∷ u32 ∷ K.the-row ∷ ShrSlice (named 0) κ₀ u8 ∷ ShrSlice (named 1) κ₁ T.the-row ∷ bool ∷ MutSlice (named 2) κ₂ u8
+      ∷ []) a at
 
   abbrev Apart : List ℕ → List (Item 𝓤)
   Apart l = ‵ (flft κ₀ q₀) ∷ ‵ (Ys κ₀ κ₁ q₀ q₁ y x) ∷ ‵ (flft κ₁ q₁) ∷ ‵ (Xs κ₀ κ₁ q₀ q₁ y x) ∷ ‵ (flft κ₂ q₂) ∷ ‵ (OutAt b o κ₂ γ l m) ∷ []
@@ -163,18 +187,23 @@ module _ {M : Type 1} (𝓤 : URA M) (H : Heap 𝓤) (A : Atoms 𝓤) (W : Given
   apart =
       qed W (Toks ∷ ‵ Owns ∷ []) ∵ split ! $ move ! (1 ∷ []) $ split ! $ move ! (1 ∷ []) $ split ! $
       -- [out's token; true; records'; text's; what they own]
-      move ! (4 ∷ []) $ fsplit ! $ move ! (1 ∷ []) $ fsplit ! $ move ! (1 ∷ []) $ fsplit ! $ move ! (1 ∷ []) $ fsplit ! $ move ! (1 ∷ []) $ fsplit ! $ move ! (1 ∷ []) $ fsplit ! $ move ! (1 ∷ []) $ fsplit ! $
+      move ! (4 ∷ []) $ fsplit ! $ move ! (1 ∷ []) $ fsplit ! $ move ! (1 ∷ []) $ fsplit ! $ move ! (1 ∷ []) $ fsplit ! $
+      move ! (1 ∷ []) $ fsplit ! $ move ! (1 ∷ []) $ fsplit ! $ move ! (1 ∷ []) $ fsplit ! $
       -- [out; true; strict; records; text; the presence; height; width; out's token; true; records'; text's]
       keep ! (11 ∷ 4 ∷ 10 ∷ 3 ∷ 8 ∷ 0 ∷ []) $ done !
 
   exits : (w : Written) (l : List ℕ) → GoodWritten w → length l ≡ m → Promise w l → ent 𝓤 (⋆ 𝓤 H A (Apart l)) (Post (Wr′.lowered w))
   exits w l is long e =
       qed W (Apart l) ∵
-      suffices ! _ (ends-at 𝓤 H A f.ended stayed (f.clauses 𝓤 H A mem run) W bound (Wr′.lowered w) w (tt, (tt, (tt, (tt, (tt, (tt, (l, tt))))))) (tt, (tt, (tt, (tt, (tt, (tt, (long, tt)))))))) $ says ! e $
+      suffices ! _ (ends-at 𝓤 H A f.ended stayed (f.clauses 𝓤 H A mem run) W bound (Wr′.lowered w) w
+      (tt, (tt, (tt, (tt, (tt, (tt, (l, tt))))))) (tt, (tt, (tt, (tt, (tt, (tt, (long, tt)))))))) $ says ! e $
       nothing ! $ move ! (5 ∷ 0 ∷ []) $ join ! $ move ! (3 ∷ 0 ∷ []) $ join ! $ move ! (1 ∷ 0 ∷ []) $ join ! $ frame ! $
       -- [text; records; out]
-      nothing ! $ move ! (3 ∷ 0 ∷ []) $ fjoin ! $ owned ! bool (Is bool) (bool-makes 𝓤 H A W) strict _ refl $ fjoin ! $ move ! (2 ∷ 0 ∷ []) $ fjoin ! $ move ! (1 ∷ 0 ∷ []) $ fjoin ! $
-      owned ! K.the-row (Is K.the-row) (EL.makes K.the-type K′.the-plain 𝓤 H A) c _ is-c $ fjoin ! $ owned ! u32 (Is u32) (uint-makes 𝓤 H A W w32) ht _ (refl, ht-fits) $ fjoin ! $ owned ! u32 (Is u32) (uint-makes 𝓤 H A W w32) wd _ (refl, wd-fits) $ fjoin ! $ frame ! $
+      nothing ! $ move ! (3 ∷ 0 ∷ []) $ fjoin ! $ owned ! bool (Is bool) (bool-makes 𝓤 H A W) strict _ refl $ fjoin ! $
+      move ! (2 ∷ 0 ∷ []) $ fjoin ! $ move ! (1 ∷ 0 ∷ []) $ fjoin ! $
+      owned ! K.the-row (Is K.the-row) (EL.makes K.the-type K′.the-plain 𝓤 H A) c _ is-c $ fjoin ! $
+      owned ! u32 (Is u32) (uint-makes 𝓤 H A W w32) ht _ (refl, ht-fits) $ fjoin ! $
+      owned ! u32 (Is u32) (uint-makes 𝓤 H A W w32) wd _ (refl, wd-fits) $ fjoin ! $ frame ! $
       owned ! Wr.the-row (Is Wr.the-row) (EL.makes Wr.the-type Wr′.the-plain 𝓤 H A) w _ is $ done !
 
   -- the call of `begin_header`, with out lent again for the lifetime ν under the name δ
@@ -183,22 +212,37 @@ module _ {M : Type 1} (𝓤 : URA M) (H : Heap 𝓤) (A : Atoms 𝓤) (W : Given
     passed = (wd, (ht, (c, (y, (r, (z δ os, tt))))))
 
     abbrev to : Begin 𝓤 H A mem run .Ghost
-    to = (((κ₀, (ν ∷ [], tt)), (q₀, (fullShare, tt)), tt, passed, (vint w32 wd ∷ [], (vint w32 ht ∷ [], (K′.lowered c ∷ [], (vy ∷ [], (F′.lowered r ∷ [], (vz ∷ [], tt))))))), tt)
+    to = (
+      (
+        (κ₀, (ν ∷ [], tt)),
+        (q₀, (fullShare, tt)),
+        tt,
+        passed,
+        (vint w32 wd ∷ [], (vint w32 ht ∷ [], (K′.lowered c ∷ [], (vy ∷ [], (F′.lowered r ∷ [], (vz ∷ [], tt)))))),
+      ),
+      tt,
+    )
 
-    asks : GoodFound r → ent 𝓤 (⋆ 𝓤 H A (‵ (flft κ₀ q₀) ∷ ‵ (flft (ν ∷ []) fullShare) ∷ ‵ (Ys κ₀ κ₁ q₀ q₁ y x) ∷ ‵ (OutAt b o (ν ∷ []) δ os m) ∷ [])) (Begin 𝓤 H A mem run .pre to)
+    asks : GoodFound r → ent 𝓤 (⋆ 𝓤 H A (‵ (flft κ₀ q₀) ∷ ‵ (flft (ν ∷ []) fullShare) ∷ ‵ (Ys κ₀ κ₁ q₀ q₁ y x)
+        ∷ ‵ (OutAt b o (ν ∷ []) δ os m) ∷ [])) (Begin 𝓤 H A mem run .pre to)
     asks is =
         qed W (‵ (flft κ₀ q₀) ∷ ‵ (flft (ν ∷ []) fullShare) ∷ ‵ (Ys κ₀ κ₁ q₀ q₁ y x) ∷ ‵ (OutAt b o (ν ∷ []) δ os m) ∷ []) ∵
-        nothing ! $ move ! (4 ∷ 0 ∷ []) $ fjoin ! $ owned ! F.the-row (Is F.the-row) (EL.makes F.the-type F′.the-plain 𝓤 H A) r _ is $ fjoin ! $ move ! (3 ∷ 0 ∷ []) $ fjoin ! $
-        owned ! K.the-row (Is K.the-row) (EL.makes K.the-type K′.the-plain 𝓤 H A) c _ is-c $ fjoin ! $ owned ! u32 (Is u32) (uint-makes 𝓤 H A W w32) ht _ (refl, ht-fits) $ fjoin ! $ owned ! u32 (Is u32) (uint-makes 𝓤 H A W w32) wd _ (refl, wd-fits) $ fjoin ! $
+        nothing ! $ move ! (4 ∷ 0 ∷ []) $ fjoin ! $ owned ! F.the-row (Is F.the-row) (EL.makes F.the-type F′.the-plain 𝓤 H A) r _ is $
+        fjoin ! $ move ! (3 ∷ 0 ∷ []) $ fjoin ! $
+        owned ! K.the-row (Is K.the-row) (EL.makes K.the-type K′.the-plain 𝓤 H A) c _ is-c $ fjoin ! $
+        owned ! u32 (Is u32) (uint-makes 𝓤 H A W w32) ht _ (refl, ht-fits) $ fjoin ! $
+        owned ! u32 (Is u32) (uint-makes 𝓤 H A W w32) wd _ (refl, wd-fits) $ fjoin ! $
         nothing ! $ move ! (3 ∷ 0 ∷ []) $ join ! $ move ! (2 ∷ 0 ∷ []) $ join ! $ join ! $ frame ! $ done !
 
     abbrev Said : PairsBegun → List ℕ → Type 0
     Said s l = BeginsHeader wd ht c ts r os l s
 
   -- what the calls ensure, together
-  together : (r : FieldsCheck) (s : PairsBegun) (w : Written) (l₁ l₂ : List ℕ) → ChecksPairs strict ts (flattened ys) r → BeginsHeader wd ht c ts r os l₁ s
+  together : (r : FieldsCheck) (s : PairsBegun) (w : Written) (l₁ l₂ : List ℕ) → ChecksPairs strict ts (flattened ys) r
+      → BeginsHeader wd ht c ts r os l₁ s
       → (w ≡ s .answer) × (l₂ ≡ putPairs ts (flattened ys) l₁ (putStart (s .to))) → Promise w l₂
-  together r s w l₁ l₂ e₁ e₂ e₃ = begun-put strict ts (flattened ys) os l₁ l₂ s (extHeader strict wd ht c ts (flattened ys)) w (e₂ .1 strict (flattened ys) e₁) e₃
+  together r s w l₁ l₂ e₁ e₂ e₃ = begun-put strict ts (flattened ys) os l₁ l₂ s (extHeader strict wd ht c ts (flattened ys)) w
+      (e₂ .1 strict (flattened ys) e₁) e₃
 
   kind-typed : IsTrue (hasTy K′.mir (K′.lowered c)) × WT (K′.lowered c)
   kind-typed = EL.lawful K.the-type K′.the-laws 𝓤 H A W tt .typed c _ is-c .0
@@ -209,60 +253,143 @@ module _ {M : Type 1} (𝓤 : URA M) (H : Heap 𝓤) (A : Atoms 𝓤) (W : Given
   answer-typed : (w : Written) → GoodWritten w → IsTrue (hasTy Wr′.mir (Wr′.lowered w)) × WT (Wr′.lowered w)
   answer-typed w is = EL.lawful Wr.the-type Wr′.the-laws 𝓤 H A W tt .typed w _ is .0
 
-  module _ (𝓣 : Tables 𝓤 H) (fm : FmC 𝓤 H (W .laws) (𝓣 .C)) (k-check : Triple 𝓤 (𝓣 .C #check) (Check 𝓤 H A mem run)) (k-begin : Triple 𝓤 (𝓣 .C #begin) (Begin 𝓤 H A mem run)) (k-put : Triple 𝓤 (𝓣 .C #put) (Put 𝓤 H A mem run))
+  module _ (𝓣 : Tables 𝓤 H) (fm : FmC 𝓤 H (W .laws) (𝓣 .C)) (k-check : Triple 𝓤 (𝓣 .C #check) (Check 𝓤 H A mem run))
+      (k-begin : Triple 𝓤 (𝓣 .C #begin) (Begin 𝓤 H A mem run)) (k-put : Triple 𝓤 (𝓣 .C #put) (Put 𝓤 H A mem run))
       (room₀ : Room u8 (length ts)) (room₁ : Room T.the-row (length ys)) (room : Room u8 m) where
     enters : ent 𝓤 (onEntry 𝓤 H A f.signature (κ₀, (κ₁, (κ₂, tt))) (q₀, (q₁, (q₂, tt))) a at) (WpFn 𝓤 H (𝓣 .C) (𝓣 .Λ) spelled vals Post)
     enters =
         qed W (Toks ∷ ‵ Owns ∷ []) ∵ enter ! (𝓣 .C) (𝓣 .Λ) spelled vals _ $
-        alloc1 ! (λ l₀. alloc1 ! (λ l₁. alloc1 ! (λ l₂. alloc1 ! (λ l₃. alloc1 ! (λ l₄. alloc1 ! (λ l₅. alloc1 ! (λ l₆. alloc1 ! (λ l₇. alloc1 ! (λ l₈. alloc1 ! (λ l₉. alloc1 ! (λ l₁₀. alloc1 ! (λ l₁₁. alloc1 ! (λ l₁₂. alloc1 ! (λ l₁₃. alloc0 ! $ params1 ! $
-        pass1 ! (init ! 24 refl (tt, record { fits = wd-fits })) $ pass1 ! (init ! 22 refl (tt, record { fits = ht-fits })) $ pass1 ! (init ! 20 refl kind-typed) $ pass1 ! (init ! 18 refl (tt, (tt, (record { fits = room₀ .0 }, tt)))) $ pass1 ! (init ! 16 refl (tt, (tt, (record { fits = room₁ .0 }, tt)))) $ pass1 ! (init ! 14 refl (tt, tt)) $ pass1 ! (init ! 12 refl (tt, (tt, (record { fits = room .0 }, tt)))) $ pass0 ! $
+        alloc1 ! (λ l₀. alloc1 ! (λ l₁. alloc1 ! (λ l₂. alloc1 !
+        (λ l₃. alloc1 ! (λ l₄. alloc1 ! (λ l₅. alloc1 ! (λ l₆. alloc1 !
+        (λ l₇. alloc1 ! (λ l₈. alloc1 ! (λ l₉. alloc1 !
+        (λ l₁₀. alloc1 ! (λ l₁₁. alloc1 ! (λ l₁₂. alloc1 ! (λ l₁₃. alloc0 ! $ params1 ! $
+        pass1 ! (init ! 24 refl (tt, record { fits = wd-fits })) $ pass1 ! (init ! 22 refl (tt, record { fits = ht-fits })) $
+        pass1 ! (init ! 20 refl kind-typed) $ pass1 ! (init ! 18 refl (tt, (tt, (record { fits = room₀ .0 }, tt)))) $
+        pass1 ! (init ! 16 refl (tt, (tt, (record { fits = room₁ .0 }, tt)))) $ pass1 ! (init ! 14 refl (tt, tt)) $
+        pass1 ! (init ! 12 refl (tt, (tt, (record { fits = room .0 }, tt)))) $ pass0 ! $
         move ! (28 ∷ 29 ∷ []) $ cut (Toks ∷ ‵ Owns ∷ []) (Apart os) _ apart $
         -- [text's token; text; records' token; records; out's token; out; _13; …; _12; …]: local i stands at 6 + 2 * (13 - i)
-        checks κ₀ κ₁ q₀ q₁ y x mem run ! fm k-check strict (λ i₀ i₁ i₂. and-then ! (load ! (from ! (stop !)) (look ! 23 refl)) (and-then ! (load ! (from ! (stop !)) (look ! 21 refl)) (and-then ! (load ! (from ! (stop !)) (look ! 19 refl)) (no-more !)))) (λ r is-r e₁.
+        checks κ₀ κ₁ q₀ q₁ y x mem run ! fm k-check strict (λ i₀ i₁ i₂. and-then ! (load ! (from ! (stop !)) (look ! 23 refl))
+        (and-then ! (load ! (from ! (stop !)) (look ! 21 refl)) (and-then ! (load ! (from ! (stop !)) (look ! 19 refl)) (no-more !))))
+        (λ r is-r e₁.
         land ! (from ! (stop !)) (init ! 16 refl (found-typed r is-r)) $
         -- `begin_header`
-        assigns ! (addr ! (from ! (fld ! refl (hop ! (look-in ! 18 (sub ! 0 refl (whole !))) (stop !))))) (from ! (stop !)) (init ! 12 refl (tt, tt)) $
-        assigns ! (agg ! (and-then ! (load ! (from ! (stop !)) (look ! 12 refl)) (and-then ! (load ! (from ! (fld ! refl (stop !))) (look-in ! 18 (sub ! 1 refl (whole !)))) (no-more !)))) (from ! (stop !)) (init ! 10 refl (tt, (tt, (record { fits = room .0 }, tt)))) $
-        move ! (1 ∷ []) $ use1 W (‵ (Ys κ₀ κ₁ q₀ q₁ y x) ⊛ ‵ (Ys κ₀ κ₁ q₀ q₁ y x)) (shr-slice-copy 𝓤 H A W (named 0) κ₀ u8 .twice y _) $ split ! $ move ! (5 ∷ 6 ∷ []) $ lends κ₂ q₂ b o γ m ! tt os refl (λ ν δ.
+        assigns ! (addr ! (from ! (fld ! refl (hop ! (look-in ! 18 (sub ! 0 refl (whole !))) (stop !))))) (from ! (stop !))
+        (init ! 12 refl (tt, tt)) $
+        assigns ! (agg ! (and-then ! (load ! (from ! (stop !)) (look ! 12 refl))
+        (and-then ! (load ! (from ! (fld ! refl (stop !))) (look-in ! 18 (sub ! 1 refl (whole !)))) (no-more !)))) (from ! (stop !))
+        (init ! 10 refl (tt, (tt, (record { fits = room .0 }, tt)))) $
+        move ! (1 ∷ []) $ use1 W (‵ (Ys κ₀ κ₁ q₀ q₁ y x) ⊛ ‵ (Ys κ₀ κ₁ q₀ q₁ y x)) (shr-slice-copy 𝓤 H A W (named 0) κ₀ u8 .twice y _) $
+        split ! $ move ! (5 ∷ 6 ∷ []) $ lends κ₂ q₂ b o γ m ! tt os refl (λ ν δ.
         -- [ν; out; what lends it; text; text; text's token; records' token; records; _13; …]
-        move ! (5 ∷ 0 ∷ 3 ∷ 1 ∷ []) $ cut (‵ (flft κ₀ q₀) ∷ ‵ (flft (ν ∷ []) fullShare) ∷ ‵ (Ys κ₀ κ₁ q₀ q₁ y x) ∷ ‵ (OutAt b o (ν ∷ []) δ os m) ∷ []) (raw (Begin 𝓤 H A mem run .pre (to ν δ r)) ∷ []) _ (asks ν δ r is-r) $
+        move ! (5 ∷ 0 ∷ 3 ∷ 1 ∷ []) $ cut (‵ (flft κ₀ q₀) ∷ ‵ (flft (ν ∷ []) fullShare) ∷ ‵ (Ys κ₀ κ₁ q₀ q₁ y x)
+        ∷ ‵ (OutAt b o (ν ∷ []) δ os m) ∷ []) (raw (Begin 𝓤 H A mem run .pre (to ν δ r)) ∷ []) _ (asks ν δ r is-r) $
         -- [what `begin_header` asks; what lends out; text; records' token; records; _13; …]: local i stands at 5 + 2 * (13 - i)
-        calls-at ! fm (Begin 𝓤 H A mem run) k-begin (to ν δ r) (and-then ! (load ! (from ! (stop !)) (look ! 29 refl)) (and-then ! (load ! (from ! (stop !)) (look ! 27 refl)) (and-then ! (load ! (from ! (stop !)) (look ! 25 refl)) (and-then ! (load ! (from ! (stop !)) (look ! 23 refl)) (and-then ! (load ! (from ! (stop !)) (look ! 15 refl)) (and-then ! (load ! (from ! (stop !)) (look ! 9 refl)) (no-more !))))))) (λ u.
-        use1 W (later (some (λ (s : PairsBegun). ((‵ (flft κ₀ q₀) ⊛ ‵ (flft (ν ∷ []) fullShare) ⊛ ‵ ftrue) ⊛ ‵ (B.the-row .own s (u ∷ []))) ⊛ raw (ensured 𝓤 H A begin.ended (begin.clauses 𝓤 H A mem run) (κ₀, (ν ∷ [], tt)) (passed ν δ r) tt s)))) (id⊢ 𝓤 _) $ await ! tt $ pick ! (λ s.
-        split ! $ move ! (1 ∷ []) $ use1 W (some (λ (ws : Lasts begin.ended (κ₀, (ν ∷ [], tt)) (passed ν δ r)). ‵ (lasts begin.ended (κ₀, (ν ∷ [], tt)) (passed ν δ r) ws) ⊛ raw (fact 𝓤 (Said ν δ r s (ws .1 .1 .1 .1 .1 .0))))) (id⊢ 𝓤 _) $ pick ! (λ ws.
-        split ! $ move ! (1 ∷ []) $ heard ! (Said ν δ r s (ws .1 .1 .1 .1 .1 .0)) (λ e₂. fsplit ! $ drop ! $ fsplit ! $ drop ! $ fsplit ! $ drop ! $ fsplit ! $ drop ! $ fsplit ! $ drop ! $ fsplit ! $ fsplit ! $ move ! (1 ∷ []) $ feqL ! (λ l. move ! (1 ∷ []) $ drop ! $
+        calls-at ! fm (Begin 𝓤 H A mem run) k-begin (to ν δ r)
+        (and-then ! (load ! (from ! (stop !)) (look ! 29 refl))
+        (and-then ! (load ! (from ! (stop !)) (look ! 27 refl))
+        (and-then ! (load ! (from ! (stop !)) (look ! 25 refl))
+        (and-then ! (load ! (from ! (stop !)) (look ! 23 refl))
+        (and-then ! (load ! (from ! (stop !)) (look ! 15 refl))
+        (and-then ! (load ! (from ! (stop !)) (look ! 9 refl)) (no-more !))))))) (λ u.
+        use1 W (later (some (λ (s : PairsBegun). ((‵ (flft κ₀ q₀) ⊛ ‵ (flft (ν ∷ []) fullShare) ⊛ ‵ ftrue)
+        ⊛ ‵ (B.the-row .own s (u ∷ []))) ⊛ raw (ensured 𝓤 H A begin.ended (begin.clauses 𝓤 H A mem run) (κ₀, (ν ∷ [], tt))
+        (passed ν δ r) tt s)))) (id⊢ 𝓤 _) $ await ! tt $ pick ! (λ s.
+        split ! $ move ! (1 ∷ []) $ use1 W (some (λ (ws : Lasts begin.ended (κ₀, (ν ∷ [], tt)) (passed ν δ r)). ‵
+        (lasts begin.ended (κ₀, (ν ∷ [], tt)) (passed ν δ r) ws) ⊛ raw (fact 𝓤 (Said ν δ r s (ws .1 .1 .1 .1 .1 .0))))) (id⊢ 𝓤 _) $
+        pick ! (λ ws.
+        split ! $ move ! (1 ∷ []) $ heard ! (Said ν δ r s (ws .1 .1 .1 .1 .1 .0))
+        (λ e₂. fsplit ! $ drop ! $ fsplit ! $ drop ! $ fsplit ! $ drop ! $ fsplit ! $ drop ! $ fsplit ! $ drop ! $ fsplit ! $
+        fsplit ! $ move ! (1 ∷ []) $ feqL ! (λ l. move ! (1 ∷ []) $ drop ! $
         -- [out's last list; the tokens and the result; what lends out; text; records' token; records; _13; …]
-        move ! (1 ∷ []) $ split ! $ move ! (1 ∷ []) $ peeks ! B.the-row (Is B.the-row) (shows 𝓤 H A B.the-row) s (u ∷ []) (λ is. drop ! $ split ! $ move ! (1 ∷ []) $ split ! $ move ! (1 ∷ []) $ drop ! $
+        move ! (1 ∷ []) $ split ! $ move ! (1 ∷ []) $ peeks ! B.the-row (Is B.the-row) (shows 𝓤 H A B.the-row) s (u ∷ [])
+        (λ is. drop ! $ split ! $ move ! (1 ∷ []) $ split ! $ move ! (1 ∷ []) $ drop ! $
         -- [ν; text's token; out's last list; what lends out; …]
         move ! (0 ∷ 2 ∷ 3 ∷ []) $ backs κ₂ q₂ b o γ m ! tt os (ws .1 .1 .1 .1 .1 .0) refl l room $ move ! (2 ∷ 3 ∷ 4 ∷ 5 ∷ []) $
-        land ! (from ! (stop !)) (init ! 14 refl (LL.lawful B.the-type B′.the-laws 𝓤 H A W .typed s _ is .0)) $ rewrite ! 14 (λ (w : Val). ‵ (fat fullShare B′.mir l₉ 0 w)) (ap only (B′.lowers .val-is s _ is)) refl $
+        land ! (from ! (stop !)) (init ! 14 refl (LL.lawful B.the-type B′.the-laws 𝓤 H A W .typed s _ is .0)) $
+        rewrite ! 14 (λ (w : Val). ‵ (fat fullShare B′.mir l₉ 0 w)) (ap only (B′.lowers .val-is s _ is)) refl $
         -- `put_parameters`
-        assigns ! (addr ! (from ! (fld ! refl (hop ! (look-in ! 18 (sub ! 0 refl (whole !))) (stop !))))) (from ! (stop !)) (init ! 8 refl (tt, tt)) $
-        assigns ! (agg ! (and-then ! (load ! (from ! (stop !)) (look ! 8 refl)) (and-then ! (load ! (from ! (fld ! refl (stop !))) (look-in ! 18 (sub ! 1 refl (whole !)))) (no-more !)))) (from ! (stop !)) (init ! 6 refl (tt, (tt, (record { fits = room .0 }, tt)))) $
-        puts κ₀ κ₁ q₀ q₁ y x κ₂ q₂ b o γ m mem run ! fm k-put room (ws .1 .1 .1 .1 .1 .0) l s (subst (Is B.the-row s) (B′.lowers .val-is s _ is) is)
-        (λ i₀ i₁ i₂ i₃. and-then ! (load ! (from ! (stop !)) (look ! 22 refl)) (and-then ! (load ! (from ! (stop !)) (look ! 20 refl)) (and-then ! (load ! (from ! (stop !)) (look ! 12 refl)) (and-then ! (load ! (from ! (stop !)) (look ! 4 refl)) (no-more !))))) (λ w l₂ is-w len e₃.
+        assigns ! (addr ! (from ! (fld ! refl (hop ! (look-in ! 18 (sub ! 0 refl (whole !))) (stop !))))) (from ! (stop !))
+        (init ! 8 refl (tt, tt)) $
+        assigns ! (agg ! (and-then ! (load ! (from ! (stop !)) (look ! 8 refl))
+        (and-then ! (load ! (from ! (fld ! refl (stop !))) (look-in ! 18 (sub ! 1 refl (whole !)))) (no-more !)))) (from ! (stop !))
+        (init ! 6 refl (tt, (tt, (record { fits = room .0 }, tt)))) $
+        puts κ₀ κ₁ q₀ q₁ y x κ₂ q₂ b o γ m mem run ! fm k-put room (ws .1 .1 .1 .1 .1 .0) l s
+        (subst (Is B.the-row s) (B′.lowers .val-is s _ is) is)
+        (λ i₀ i₁ i₂ i₃. and-then ! (load ! (from ! (stop !)) (look ! 22 refl))
+        (and-then ! (load ! (from ! (stop !)) (look ! 20 refl))
+        (and-then ! (load ! (from ! (stop !)) (look ! 12 refl))
+        (and-then ! (load ! (from ! (stop !)) (look ! 4 refl)) (no-more !))))) (λ w l₂ is-w len e₃.
         land ! (from ! (stop !)) (init ! 32 refl (answer-typed w is-w)) $
-        returns ! (look ! 32 refl) $ forget ! 6 refl $ forget ! 8 refl $ forget ! 10 refl $ forget ! 12 refl $ forget ! 14 refl $ forget ! 16 refl $ forget ! 18 refl $ forget ! 20 refl $ forget ! 22 refl $ forget ! 24 refl $ forget ! 26 refl $ forget ! 28 refl $ forget ! 30 refl $ forget ! 32 refl $
-        move ! (32 ∷ 33 ∷ []) $ free1 ! $ move ! (30 ∷ 31 ∷ []) $ free1 ! $ move ! (28 ∷ 29 ∷ []) $ free1 ! $ move ! (26 ∷ 27 ∷ []) $ free1 ! $ move ! (24 ∷ 25 ∷ []) $ free1 ! $ move ! (22 ∷ 23 ∷ []) $ free1 ! $ move ! (20 ∷ 21 ∷ []) $ free1 ! $ move ! (18 ∷ 19 ∷ []) $ free1 ! $ move ! (16 ∷ 17 ∷ []) $ free1 ! $
-        move ! (14 ∷ 15 ∷ []) $ free1 ! $ move ! (12 ∷ 13 ∷ []) $ free1 ! $ move ! (10 ∷ 11 ∷ []) $ free1 ! $ move ! (8 ∷ 9 ∷ []) $ free1 ! $ move ! (6 ∷ 7 ∷ []) $ free1 ! $ free0 ! $
+        returns ! (look ! 32 refl) $ forget ! 6 refl $ forget ! 8 refl $ forget ! 10 refl $ forget ! 12 refl $ forget ! 14 refl $
+        forget ! 16 refl $ forget ! 18 refl $ forget ! 20 refl $ forget ! 22 refl $ forget ! 24 refl $ forget ! 26 refl $
+        forget ! 28 refl $ forget ! 30 refl $ forget ! 32 refl $
+        move ! (32 ∷ 33 ∷ []) $ free1 ! $ move ! (30 ∷ 31 ∷ []) $ free1 ! $ move ! (28 ∷ 29 ∷ []) $ free1 ! $ move ! (26 ∷ 27 ∷ []) $
+        free1 ! $ move ! (24 ∷ 25 ∷ []) $ free1 ! $ move ! (22 ∷ 23 ∷ []) $ free1 ! $ move ! (20 ∷ 21 ∷ []) $ free1 ! $
+        move ! (18 ∷ 19 ∷ []) $ free1 ! $ move ! (16 ∷ 17 ∷ []) $ free1 ! $
+        move ! (14 ∷ 15 ∷ []) $ free1 ! $ move ! (12 ∷ 13 ∷ []) $ free1 ! $ move ! (10 ∷ 11 ∷ []) $ free1 ! $ move ! (8 ∷ 9 ∷ []) $
+        free1 ! $ move ! (6 ∷ 7 ∷ []) $ free1 ! $ free0 ! $
         by ! (exits w l₂ is-w len (together r s w (ws .1 .1 .1 .1 .1 .0) l₂ e₁ e₂ e₃)))))))))))))))))))))))))
 
     walk : ent 𝓤 (onEntry 𝓤 H A f.signature (κ₀, (κ₁, (κ₂, tt))) (q₀, (q₁, (q₂, tt))) a at) (WpFn 𝓤 H (𝓣 .C) (𝓣 .Λ) code.function vals Post)
-    walk = subst (λ (F : Fn). ent 𝓤 (onEntry 𝓤 H A f.signature (κ₀, (κ₁, (κ₂, tt))) (q₀, (q₁, (q₂, tt))) a at) (WpFn 𝓤 H (𝓣 .C) (𝓣 .Λ) F vals Post)) is-spelled enters
+    walk = subst (λ (F : Fn). ent 𝓤 (onEntry 𝓤 H A f.signature (κ₀, (κ₁, (κ₂, tt))) (q₀, (q₁, (q₂, tt))) a at)
+        (WpFn 𝓤 H (𝓣 .C) (𝓣 .Λ) F vals Post)) is-spelled enters
 
-module _ {M : Type 1} (𝓤 : URA M) (H : Heap 𝓤) (A : Atoms 𝓤) (W : Given 𝓤 H A) (mem : Memory → SProp 𝓤) (run : Routine → Fun 𝓤) (𝓣 : Tables 𝓤 H)
-    (k-check : Triple 𝓤 (𝓣 .C #check) (Check 𝓤 H A mem run)) (k-begin : Triple 𝓤 (𝓣 .C #begin) (Begin 𝓤 H A mem run)) (k-put : Triple 𝓤 (𝓣 .C #put) (Put 𝓤 H A mem run)) where
+module _ {M : Type 1} (𝓤 : URA M) (H : Heap 𝓤) (A : Atoms 𝓤) (W : Given 𝓤 H A) (mem : Memory → SProp 𝓤) (run : Routine → Fun 𝓤)
+    (𝓣 : Tables 𝓤 H)
+    (k-check : Triple 𝓤 (𝓣 .C #check) (Check 𝓤 H A mem run)) (k-begin : Triple 𝓤 (𝓣 .C #begin) (Begin 𝓤 H A mem run))
+    (k-put : Triple 𝓤 (𝓣 .C #put) (Put 𝓤 H A mem run)) where
   walks : Walks 𝓤 H A f.ended stayed (WpFn 𝓤 H (𝓣 .C) (𝓣 .Λ) code.function) (f.clauses 𝓤 H A mem run)
   walks = walked 𝓤 H A f.ended stayed (f.clauses 𝓤 H A mem run) (WpFn 𝓤 H (𝓣 .C) (𝓣 .Λ) code.function)
-      (λ κs. (uint-vals w32, (uint-vals w32, ((λ (c : ExtPresence). K′.lowered c ∷ []), (slice-vals, (slice-vals, (bool-vals, (slice-vals, tt))))))))
-      (λ κs. (uint-tells w32, (uint-tells w32, (K′.lowers .val-is, (shr-slice-tells (named 0) (κs .0) u8, (shr-slice-tells (named 1) (κs .1 .0) T.the-row, (bool-tells, (mut-slice-tells (named 2) (κs .1 .1 .0) u8, tt))))))))
+      (λ κs. (
+        uint-vals w32,
+        (
+          uint-vals w32,
+          (
+            (λ (c : ExtPresence). K′.lowered c ∷ []),
+            (slice-vals, (slice-vals, (bool-vals, (slice-vals, tt)))),
+          ),
+        ),
+      ))
+      (λ κs. (
+        uint-tells w32,
+        (
+          uint-tells w32,
+          (
+            K′.lowers .val-is,
+            (
+              shr-slice-tells (named 0) (κs .0) u8,
+              (
+                shr-slice-tells (named 1) (κs .1 .0) T.the-row,
+                (bool-tells, (mut-slice-tells (named 2) (κs .1 .1 .0) u8, tt)),
+              ),
+            ),
+          ),
+        ),
+      ))
       (λ κs qs bounds a g are. via 𝓤 _ (fst∗ 𝓤 _ (emp 𝓤))
-      (walk 𝓤 H A W mem run (κs .0) (κs .1 .0) (κs .1 .1 .0) (qs .0) (qs .1 .0) (qs .1 .1 .0) (a .0) (are .0 .1) (a .1 .0) (are .1 .0 .1) (a .1 .1 .0) (are .1 .1 .0) (a .1 .1 .1 .0) (a .1 .1 .1 .1 .0) (a .1 .1 .1 .1 .1 .0)
+      (walk 𝓤 H A W mem run (κs .0) (κs .1 .0) (κs .1 .1 .0) (qs .0) (qs .1 .0) (qs .1 .1 .0) (a .0) (are .0 .1) (a .1 .0) (are .1 .0 .1)
+      (a .1 .1 .0) (are .1 .1 .0) (a .1 .1 .1 .0) (a .1 .1 .1 .1 .0) (a .1 .1 .1 .1 .1 .0)
       (a .1 .1 .1 .1 .1 .1 .0 .ptr .0) (a .1 .1 .1 .1 .1 .1 .0 .ptr .1) (a .1 .1 .1 .1 .1 .1 .0 .name) (a .1 .1 .1 .1 .1 .1 .0 .now)
       𝓣 (fmOf 𝓤 H (W .laws) 𝓣) k-check k-begin k-put (are .1 .1 .1 .0 .0 .1) (are .1 .1 .1 .1 .0 .0 .1) (are .1 .1 .1 .1 .1 .1 .0 .0 .1)))
 
   meets : Meets 𝓤 H A f.signature (WpFn 𝓤 H (𝓣 .C) (𝓣 .Λ) code.function) (f.spec 𝓤 H A mem run)
-  meets = walk-meets 𝓤 H A f.ended stayed W (goes-none 𝓤 H A W 3 (λ _. u32) yes (λ κs x f. refl), (goes-none 𝓤 H A W 3 (λ _. u32) yes (λ κs x f. refl), (goes-none 𝓤 H A W 3 (λ _. K.the-row) yes (λ κs x f. refl), (goes-none-slice 𝓤 H A W 3 (0 ∷ []) tt (plain (λ _. u8)) yes, (goes-none-slice 𝓤 H A W 3 (1 ∷ []) tt (plain (λ _. T.the-row)) yes, (goes-none 𝓤 H A W 3 (λ _. bool) yes (λ κs x f. refl), (goes-slice 𝓤 H A W 3 2 tt (plain (λ _. u8)), tt)))))))
+  meets = walk-meets 𝓤 H A f.ended stayed W (
+    goes-none 𝓤 H A W 3 (λ _. u32) yes (λ κs x f. refl),
+    (
+      goes-none 𝓤 H A W 3 (λ _. u32) yes (λ κs x f. refl),
+      (
+        goes-none 𝓤 H A W 3 (λ _. K.the-row) yes (λ κs x f. refl),
+        (
+          goes-none-slice 𝓤 H A W 3 (0 ∷ []) tt (plain (λ _. u8)) yes,
+          (
+            goes-none-slice 𝓤 H A W 3 (1 ∷ []) tt (plain (λ _. T.the-row)) yes,
+            (goes-none 𝓤 H A W 3 (λ _. bool) yes (λ κs x f. refl), (goes-slice 𝓤 H A W 3 2 tt (plain (λ _. u8)), tt)),
+          ),
+        ),
+      ),
+    ),
+  )
       (f.clauses 𝓤 H A mem run) (WpFn 𝓤 H (𝓣 .C) (𝓣 .Λ) code.function) (WpFn-mono 𝓤 H (W .laws) 𝓣 code.function) walks
 
 pub write-header-ext-spec : {M : Type 1} → stated.statement M
@@ -271,6 +398,9 @@ write-header-ext-spec 𝓤 H 𝓜 𝓖 𝓡 =
     entered 𝓤 H (tripleOf 𝓤 H (𝓖 .A) f.signature (f.spec 𝓤 H (𝓖 .A) (𝓜 .mem) (𝓡 .run)))
     (tables 𝓤 H 𝓜 𝓡 code.env .C) (tables 𝓤 H 𝓜 𝓡 code.env .Λ) #f code.function (code.unfolded 𝓤 H 𝓜 𝓡)
     (meets 𝓤 H (𝓖 .A) (givenOf 𝓤 H 𝓜 𝓖) (𝓜 .mem) (𝓡 .run) (tablesOf 𝓤 H 𝓜 (tables 𝓤 H 𝓜 𝓡 code.env))
-    (cited 𝓤 H (Check 𝓤 H (𝓖 .A) (𝓜 .mem) (𝓡 .run)) 𝓜 𝓡 code.env #check check-def.routine code.calls-ext-write·check-parameters (check-thm.met 𝓤 H 𝓜 𝓖 𝓡))
-    (cited 𝓤 H (Begin 𝓤 H (𝓖 .A) (𝓜 .mem) (𝓡 .run)) 𝓜 𝓡 code.env #begin begin-def.routine code.calls-header·write·begin-header (begin-thm.met 𝓤 H 𝓜 𝓖 𝓡))
-    (cited 𝓤 H (Put 𝓤 H (𝓖 .A) (𝓜 .mem) (𝓡 .run)) 𝓜 𝓡 code.env #put put-def.routine code.calls-ext-write·put-parameters (put-thm.met 𝓤 H 𝓜 𝓖 𝓡)))
+    (cited 𝓤 H (Check 𝓤 H (𝓖 .A) (𝓜 .mem) (𝓡 .run)) 𝓜 𝓡 code.env #check check-def.routine code.calls-ext-write·check-parameters
+    (check-thm.met 𝓤 H 𝓜 𝓖 𝓡))
+    (cited 𝓤 H (Begin 𝓤 H (𝓖 .A) (𝓜 .mem) (𝓡 .run)) 𝓜 𝓡 code.env #begin begin-def.routine code.calls-header·write·begin-header
+    (begin-thm.met 𝓤 H 𝓜 𝓖 𝓡))
+    (cited 𝓤 H (Put 𝓤 H (𝓖 .A) (𝓜 .mem) (𝓡 .run)) 𝓜 𝓡 code.env #put put-def.routine code.calls-ext-write·put-parameters
+    (put-thm.met 𝓤 H 𝓜 𝓖 𝓡)))

@@ -18,7 +18,8 @@ same-length c = search needs
 returns : tie.Need-returns
 returns c =
     let b = c .before .before .before .before .before .before in
-    begun-put _ _ _ _ _ _ _ _ _ (b .begin-header .ensures .1 _ _ (b .before .before .check-lengths .ensures)) (c .before .before .put-lengths .ensures)
+    begun-put _ _ _ _ _ _ _ _ _ (b .begin-header .ensures .1 _ _ (b .before .before .check-lengths .ensures))
+    (c .before .before .put-lengths .ensures)
 
 pub write-header-ext-lengths-spec : {M : Type 1} → statement M
 write-header-ext-lengths-spec =

@@ -10,11 +10,21 @@ is-rfc2234-alpha-digit-requires c κs = search needs
 
 returns : tie.Need-returns
 unfolding valueFault
-returns c = simp (c .before .before .before .if1 .taken, eq-eqb _ _ (c .before .before .if2 .taken), sym (c .before .is-rfc2234-alpha-digit .ensures) ∙ c .if3 .taken)
+returns c = simp (
+  c .before .before .before .if1 .taken,
+  eq-eqb _ _ (c .before .before .if2 .taken),
+  sym
+      (c .before .is-rfc2234-alpha-digit .ensures) ∙ c .if3 .taken,
+)
 
 returns-2 : tie.Need-returns-2
 unfolding valueFault
-returns-2 c = simp (c .before .before .before .if1 .taken, eq-eqb _ _ (c .before .before .if2 .taken), sym (c .before .is-rfc2234-alpha-digit .ensures) ∙ c .if3 .left)
+returns-2 c = simp (
+  c .before .before .before .if1 .taken,
+  eq-eqb _ _ (c .before .before .if2 .taken),
+  sym
+      (c .before .is-rfc2234-alpha-digit .ensures) ∙ c .if3 .left,
+)
 
 returns-3 : tie.Need-returns-3
 unfolding valueFault

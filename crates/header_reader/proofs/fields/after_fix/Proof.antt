@@ -11,7 +11,8 @@ to-fields-requires : tie.Need-to-fields-requires
 to-fields-requires c κs = search needs
 
 returns : tie.Need-returns
-returns c = simp (c .before .before .if1 .taken, sym (c .before .before .before .from-byte .ensures .followIs) ∙ c .before .if2 .taken) (c .to-fields .ensures)
+returns c = simp (c .before .before .if1 .taken, sym (c .before .before .before .from-byte .ensures .followIs) ∙ c .before .if2 .taken)
+    (c .to-fields .ensures)
 
 to-width-requires : tie.Need-to-width-requires
 to-width-requires c κs = search needs

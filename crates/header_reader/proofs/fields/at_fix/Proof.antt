@@ -20,7 +20,8 @@ after-fix-requires c κs = search needs
 
 returns-2 : tie.Need-returns-2
 unfolding stepOf
-returns-2 c = ⊎-elim (λ w. simp (w .0 .taken, le-ltb _ _ (w .1 .left)) (c .after-fix .ensures)) (λ w. simp (w .left) (c .after-fix .ensures))
+returns-2 c = ⊎-elim (λ w. simp (w .0 .taken, le-ltb _ _ (w .1 .left)) (c .after-fix .ensures))
+    (λ w. simp (w .left) (c .after-fix .ensures))
     (c .before .if1 .came)
 
 pub at-fix-spec : {M : Type 1} → statement M

@@ -16,7 +16,12 @@ shrunk-requires c κs = search needs
 returns : tie.Need-returns
 unfolding stepOf
 returns c =
-    simp (lt-ltb _ _ (c .before .if1 .taken), c .before .before .before .before .identifier-fault .ensures, c .before .before .before .grown .ensures, c .shrunk .ensures)
+    simp (
+      lt-ltb _ _ (c .before .if1 .taken),
+      c .before .before .before .before .identifier-fault .ensures,
+      c .before .before .before .grown .ensures,
+      c .shrunk .ensures,
+    )
 
 returns-2 : tie.Need-returns-2
 unfolding stepOf

@@ -16,7 +16,12 @@ shrunk-requires c κs = search needs
 returns : tie.Need-returns
 unfolding stepOf
 returns c =
-    simp (lt-ltb _ _ (c .before .before .if1 .taken), c .before .before .before .before .value-fault .ensures, c .before .grown .ensures, c .shrunk .ensures)
+    simp (
+      lt-ltb _ _ (c .before .before .if1 .taken),
+      c .before .before .before .before .value-fault .ensures,
+      c .before .grown .ensures,
+      c .shrunk .ensures,
+    )
 
 add-t12 : tie.Need-add-t12
 add-t12 c = search needs
@@ -29,7 +34,8 @@ after-pair-requires c κs = search needs
 
 returns-2 : tie.Need-returns-2
 unfolding stepOf
-returns-2 c = simp (le-ltb _ _ (c .before .before .before .if1 .left), ← c .before .before .before .before .before .value-fault .ensures) (c .after-pair .ensures)
+returns-2 c = simp (le-ltb _ _ (c .before .before .before .if1 .left), ← c .before .before .before .before .before .value-fault .ensures)
+    (c .after-pair .ensures)
 
 pub in-value-spec : {M : Type 1} → statement M
 in-value-spec =

@@ -29,17 +29,28 @@ enum-known-e c = search needs
 
 returns : tie.Need-returns
 unfolding stepOf
-returns c = simp (byte-is (c .before .before .before .before .mbi-step .ensures) (c .before .before .v .given .1) (omega arith), c .grown .ensures)
+returns c = simp (
+  byte-is (c .before .before .before .before .mbi-step .ensures) (c .before .before .v .given .1) (omega arith),
+  c .grown .ensures,
+)
 
 returns-2 : tie.Need-returns-2
 unfolding stepOf
-returns-2 c = simp (byte-is (c .before .before .before .before .before .mbi-step .ensures) (c .before .before .before .v2 .given .1) (omega arith), eq-eqb _ _ (c .if1 .taken))
+returns-2 c = simp (
+  byte-is (c .before .before .before .before .before .mbi-step .ensures) (c .before .before .before .v2 .given .1)
+      (omega arith),
+  eq-eqb _ _ (c .if1 .taken),
+)
 
 returns-3 : tie.Need-returns-3
 unfolding stepOf
 returns-3 c =
-    simp
-    (byte-is (c .before .before .before .before .before .before .mbi-step .ensures) (c .before .before .before .before .v2 .given .1) (omega arith), ne-eqb _ _ (c .before .if1 .left), c .refuse .ensures)
+    simp (
+      byte-is (c .before .before .before .before .before .before .mbi-step .ensures) (c .before .before .before .before .v2 .given .1)
+          (omega arith),
+      ne-eqb _ _ (c .before .if1 .left),
+      c .refuse .ensures,
+    )
 
 returns-4 : tie.Need-returns-4
 unfolding stepOf

@@ -28,11 +28,18 @@ enum-known-e c = search needs
 
 returns : tie.Need-returns
 unfolding stepOf
-returns c = simp (byte-is (c .before .before .before .before .mbi-step .ensures) (c .before .before .v .given .1) (omega arith), c .grown .ensures)
+returns c = simp (
+  byte-is (c .before .before .before .before .mbi-step .ensures) (c .before .before .v .given .1) (omega arith),
+  c .grown .ensures,
+)
 
 returns-2 : tie.Need-returns-2
 unfolding stepOf
-returns-2 c = simp (byte-is (c .before .before .before .before .before .mbi-step .ensures) (c .before .before .before .v2 .given .1) (omega arith), c .start .ensures)
+returns-2 c = simp (
+  byte-is (c .before .before .before .before .before .mbi-step .ensures) (c .before .before .before .v2 .given .1)
+      (omega arith),
+  c .start .ensures,
+)
 
 returns-3 : tie.Need-returns-3
 unfolding stepOf

@@ -49,7 +49,8 @@ loop-again c =
     let l = c .before .before .before .before .before .loop in (
       l .inv .0,
       l .inv .1,
-      pairs-next _ _ _ _ _ (l .inv .2) (omega arith) (omega arith) (c .before .before .pair-size .ensures) (c .before .if1 .left) (omega arith),
+      pairs-next _ _ _ _ _ (l .inv .2) (omega arith) (omega arith) (c .before .before .pair-size .ensures) (c .before .if1 .left)
+          (omega arith),
     )
 
 returns-3 : tie.Need-returns-3 Inv-loop μ-loop

@@ -11,7 +11,8 @@ enum-known-phase : tie.Need-enum-known-phase
 enum-known-phase c = search needs
 
 run-octets-requires : tie.Need-run-octets-requires
-run-octets-requires c κs = subst (λ (p : FieldsPhase). Bounded (fieldsState p)) (c .before .phase .given .1) (c .before .before .before .before .pre)
+run-octets-requires c κs = subst (λ (p : FieldsPhase). Bounded (fieldsState p)) (c .before .phase .given .1)
+    (c .before .before .before .before .pre)
 
 enum-told : tie.Need-enum-told
 enum-told c = search needs
@@ -29,7 +30,8 @@ returns : tie.Need-returns
 returns c = phased (c .before .before .before .phase2 .given .1) (stayed (c .stay2 .ensures) _)
 
 run-pairs-requires : tie.Need-run-pairs-requires
-run-pairs-requires c κs = subst (λ (p : FieldsPhase). Bounded (fieldsState p)) (c .before .before .phase2 .given .1) (c .before .before .before .before .before .pre)
+run-pairs-requires c κs = subst (λ (p : FieldsPhase). Bounded (fieldsState p)) (c .before .before .phase2 .given .1)
+    (c .before .before .before .before .before .pre)
 
 enum-told-2 : tie.Need-enum-told-2
 enum-told-2 c = search needs

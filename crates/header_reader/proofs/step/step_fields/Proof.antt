@@ -28,7 +28,8 @@ enum-known-phase-4 : tie.Need-enum-known-phase-4
 enum-known-phase-4 c = search needs
 
 in-identifier-requires : tie.Need-in-identifier-requires
-in-identifier-requires c κs = subst (λ (p : FieldsPhase). Bounded (fieldsState p)) (c .before .phase4 .given .1) (c .before .before .before .pre)
+in-identifier-requires c κs = subst (λ (p : FieldsPhase). Bounded (fieldsState p)) (c .before .phase4 .given .1)
+    (c .before .before .before .pre)
 
 enum-known-phase-5 : tie.Need-enum-known-phase-5
 enum-known-phase-5 c = search needs
