@@ -52,7 +52,7 @@ use Rattle.rules.specs.Diffusion.{Direction, Scan, residualAt}
 use Rattle.quantize.specs.Finished.{setting}
 use Rattle.quantize.specs.Finished.{Setting, count, finished}
 use Rattle.rules.specs.Ordered.{bound, numbers}
-use Rattle.rules.proofs.OrderedNumbers.{table, table-right, product-form}
+use Rattle.ordered.proofs.OrderedNumbers.{table, table-right, product-form}
 use Rattle.quantize.proofs.FinishedGrows.{finished-prefix}
 use Rattle.quantize.proofs.FramesJoined.{finished-behind, scans-more}
 use Rattle.rules.proofs.ResidualRange.{residual-within}

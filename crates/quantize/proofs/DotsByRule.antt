@@ -16,10 +16,11 @@ use Rattle.rules.specs.Bits.{bit, appended}
 use Rattle.rules.specs.Ordered.{bound, knownSide}
 use Rattle.rules.specs.Rule.{threshold, ordered, meaning, knownRule, carries, roomy}
 use Rattle.rules.specs.Internal.Carry.{Carry, machineDot, next}
-use Rattle.rules.specs.Internal.Kernels.{rowCarry, rowBit, thresholdBit, orderedBit, carryOf, Diffuses}
+use Rattle.rules.specs.Internal.Kernels.{rowCarry, rowBit, thresholdBit, carryOf, Diffuses}
+use Rattle.ordered.specs.Internal.Sides.{orderedBit}
 use Rattle.quantize.specs.Internal.Turn.{ruleOf, Dotted, Served}
 use Rattle.rules.proofs.DigitsAppended.{appended-ext}
-use Rattle.rules.proofs.OrderedNumbers.{known-small, cell-front}
+use Rattle.ordered.proofs.OrderedNumbers.{known-small, cell-front}
 
 module _ (w y x : ℕ) (gray : List ℕ) (c : Carry) where
   pub threshold-carry : (t i : ℕ) → rowCarry (threshold t) w y x gray c i ≡ c

@@ -16,7 +16,8 @@ use Rattle.rules.specs.Rule.{Rule, threshold, dither, ordered, rightwards, mean
 use Rattle.quantize.specs.Finished.{Setting, frame, dotOf, finished, setting}
 use Rattle.rules.specs.Internal.Carry.{Carry}
 use Rattle.quantize.specs.Internal.Machine.{emitted}
-use Rattle.rules.specs.Internal.Kernels.{Table, carryOf}
+use Rattle.rules.specs.Internal.Kernels.{carryOf}
+use Rattle.ordered.specs.Internal.Sides.{Table}
 use Rattle.quantize.specs.Internal.Engine.{Begins, Keeps, Holds, Tabled, Opens}
 use Rattle.laws.proofs.Octets.{octets-by}
 use Rattle.rules.proofs.HeldRange.{Held}

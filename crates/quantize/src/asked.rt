@@ -1,6 +1,6 @@
 // What a setting asks for: a known side, and a work buffer where the rule keeps carries.
 use options::Quantize;
-use rules::known_side;
+use ordered::known_side;
 ghost use mathlib.Core.Path.{_≡_};
 ghost use Rattle.rules.specs.Rule.{meaning, knownRule};
 ghost use Rattle.rules.specs.Rule;

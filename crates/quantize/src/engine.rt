@@ -6,7 +6,7 @@ use crate::turn::fill_row;
 use crate::turn::samples_for_byte;
 use crate::turn::take;
 use options::Quantize;
-use rules::numbers;
+use ordered::numbers;
 ghost use mathlib.Core.Path.{_≡_};
 ghost use Rattle.quantize.specs.Internal.Engine.{Opens, Runs, Tabled, ranTo, spotOf, roomFor, behindFrames};
 ghost use Rattle.quantize.specs.Internal.Turn.{CanTake};

@@ -3,7 +3,7 @@ use options::Quantize;
 use rules::RowDots;
 use rules::dither_row_bytes;
 use rules::dither_row_dots;
-use rules::ordered_row_dots;
+use ordered::ordered_row_dots;
 use rules::threshold_row_bytes;
 use rules::threshold_row_dots;
 ghost use mathlib.Core.Path.{_≡_};

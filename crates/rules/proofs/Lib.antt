@@ -8,7 +8,6 @@ pub mod CarryRead
 pub mod DitherDotsLoop
 pub mod BelowGrows
 pub mod ResidualFreeBytes
-pub mod OrderedNumbers
 pub mod UptoList
 pub mod RowKept
 pub mod DitherBytesLoop

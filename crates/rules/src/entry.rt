@@ -1,8 +1,6 @@
 // The kernels as the engine calls them. Each asks nothing: it tests once a call what its kernel asks, and where that does not hold it alters nothing.
 use crate::dither::RowDots;
 use crate::dither::dither_dots;
-use crate::ordered::known_side;
-use crate::ordered::ordered_dots;
 use crate::row::dither_bytes;
 use crate::threshold::threshold_bytes;
 use crate::threshold::threshold_dots;
@@ -12,30 +10,17 @@ ghost use lib.ListN.{length};
 ghost use Rattle.rules.specs.Bits.{appended};
 ghost use Rattle.rules.specs.Rule.{dither};
 ghost use Rattle.rules.specs.Internal.Entry.{Tells, Where};
-ghost use Rattle.rules.specs.Internal.Kernels.{Packs, Matching, Diffusing, Diffuses, thresholdBit, thresholdBytes, orderedBit};
+ghost use Rattle.rules.specs.Internal.Kernels.{Packs, Diffusing, Diffuses, thresholdBit, thresholdBytes};
 ghost use Rattle.rules.specs.Internal.Row.{Filling, Bytes};
 
 // Whether there is room for n digits more.
-fn packs(begun: u32, n: usize) -> bool
+pub fn packs(begun: u32, n: usize) -> bool
     ensures { λ r. ⌜ Tells (Packs begun n) r ⌝ }
 {
     if 8 < n {
         return false;
     }
     begun < 256
-}
-
-// Whether n samples from a column on can be compared with the numbers of this side: a known side, and columns that can be counted.
-fn matching(side: u8, column: usize, n: usize, begun: u32) -> bool
-    ensures { λ r. ⌜ Tells (Matching side column n begun) r ⌝ }
-{
-    if !packs(begun, n) {
-        return false;
-    }
-    if !known_side(side) {
-        return false;
-    }
-    column <= 0xFFFF_FFFF_FFFF_FFFF - n
 }
 
 // Whether n samples from a column on stay within the row, and the residuals within their range and the work buffer.
@@ -144,21 +129,4 @@ pub fn dither_row_bytes(
         return dither_bytes(width, y, column, samples, out, corner, work);
     }
     corner
-}
-
-// The digits of `begun`, and then a dot for each sample, from a column of row y on. Answers `begun` where the side is unknown or the dots are no byte's.
-pub fn ordered_row_dots(
-    table: &[u8; 64],
-    side: u8,
-    y: usize,
-    column: usize,
-    gray: &[u8],
-    begun: u32,
-) -> u32
-    ensures { λ r. ⌜ Where (Matching side column (length (now (gray .entry))) begun) (r ≡ appended begun (orderedBit side (now (table .entry)) y column (now (gray .entry))) (length (now (gray .entry)))) (r ≡ begun) ⌝ }
-{
-    if matching(side, column, gray.len(), begun) {
-        return ordered_dots(table, side, y, column, gray, begun);
-    }
-    begun
 }

@@ -1,11 +1,11 @@
--- `quantize::ordered::numbers` meets its contract: the table for side 8 by its computed test, the others by the quarter rule.
+-- `ordered::table::numbers` meets its contract: the table for side 8 by its computed test, the others by the quarter rule.
 -- Assumes nothing.
 use mathlib.Core.Path.{refl}
 use mathlib.Core.Logic.{⊎-elim}
-use Rattle.rules.proofs.OrderedNumbers.{known-side, table-right}
+use Rattle.ordered.proofs.OrderedNumbers.{known-side, table-right}
 use borrow.Author.Needs.{needs}
-use Rattle.rules.proofs.ordered.numbers.Statement.{statement}
-use Rattle.rules.proofs.ordered.numbers.Tie as tie
+use Rattle.ordered.proofs.table.numbers.Statement.{statement}
+use Rattle.ordered.proofs.table.numbers.Tie as tie
 
 filled-requires : tie.Need-filled-requires
 filled-requires c κs = search needs

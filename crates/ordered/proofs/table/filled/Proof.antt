@@ -1,14 +1,14 @@
--- `quantize::ordered::filled` meets its contract.
+-- `ordered::table::filled` meets its contract.
 -- Assumes nothing.
 use Prim.Native.Nat.{ℕ, _-_, _*_, _/_, _%_, _^_, _≤_}
 use mathlib.Core.Path.{_≡_, refl, ap, _∙_, subst}
 use native.Mathlib.Omega.{arith}
 use lib.ListN.{length, take, length-set}
 use Rattle.rules.specs.Bits.{upto}
 use Rattle.rules.specs.Ordered.{number, numbers}
-use Rattle.rules.proofs.OrderedNumbers.{take-more, area-le}
-use Rattle.rules.proofs.ordered.filled.Statement.{statement}
-use Rattle.rules.proofs.ordered.filled.Tie as tie
+use Rattle.ordered.proofs.OrderedNumbers.{take-more, area-le}
+use Rattle.ordered.proofs.table.filled.Statement.{statement}
+use Rattle.ordered.proofs.table.filled.Tie as tie
 
 abbrev Inv-loop : tie.InvT-loop
 Inv-loop side table₀ area i₀ table i = (i ≤ area) × ((length table ≡ 64) × ((k : ℕ) → side ≡ 2 ^ k → take i table ≡ upto i (λ j. number k (j % 2 ^ k) (j / 2 ^ k))))

@@ -1,19 +1,19 @@
--- `quantize::ordered::cell` meets its contract. The measure is the side, which halves at each call.
+-- `ordered::table::cell` meets its contract. The measure is the side, which halves at each call.
 -- Assumes nothing.
 use Prim.Native.Nat.{ℕ, _+_, _*_, _/_, _≤_, _<_}
 use mathlib.Core.Path.{_≡_, subst}
 use native.Mathlib.Nat.{add-zero}
 use native.Mathlib.Omega.{arith}
 use Rattle.rules.specs.Ordered.{quarter}
-use Rattle.rules.specs.Internal.Kernels.{Cell}
-use Rattle.rules.proofs.OrderedNumbers.{cell-one, cell-more, cell-small, upper-left, upper-right, lower-left, lower-right}
+use Rattle.ordered.specs.Internal.Sides.{Cell}
+use Rattle.ordered.proofs.OrderedNumbers.{cell-one, cell-more, cell-small, upper-left, upper-right, lower-left, lower-right}
 use borrow.Fn.Kinds.{In}
 use borrow.Fn.PlainCycle.{Measures, is, falls, and}
-use Rattle.rules.proofs.ordered.cell.Reads as cell
-use Rattle.rules.proofs.ordered.cell.Kinds as cell-kinds
-use Rattle.rules.proofs.ordered.+cell.Lts-cell as cell-lts
-use Rattle.rules.proofs.ordered.+cell.{statement}
-use Rattle.rules.proofs.ordered.+cell.Tie.{close}
+use Rattle.ordered.proofs.table.cell.Reads as cell
+use Rattle.ordered.proofs.table.cell.Kinds as cell-kinds
+use Rattle.ordered.proofs.table.+cell.Lts-cell as cell-lts
+use Rattle.ordered.proofs.table.+cell.{statement}
+use Rattle.ordered.proofs.table.+cell.Tie.{close}
 
 abbrev μ-cell : Measures 0 cell-kinds.ps ℕ
 μ-cell κs a = a .0

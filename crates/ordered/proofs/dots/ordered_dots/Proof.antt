@@ -1,4 +1,4 @@
--- `quantize::ordered::ordered_dots` meets its contract: a dot more with each sample.
+-- `ordered::dots::ordered_dots` meets its contract: a dot more with each sample.
 -- Assumes nothing.
 use Prim.Native.Nat.{ℕ, _+_, _-_, _≤_, _<_}
 use mathlib.Core.Path.{_≡_, refl, ap, _∙_, sym, subst}
@@ -6,12 +6,12 @@ use native.Mathlib.Omega.{arith}
 use denote.Ref.{now}
 use lib.Dec.{leb}
 use lib.ListN.{length, getD}
 use Rattle.rules.specs.Bits.{bit, appended}
 use Rattle.rules.specs.Ordered.{bound, cell}
-use Rattle.rules.specs.Internal.Kernels.{orderedBit}
+use Rattle.ordered.specs.Internal.Sides.{orderedBit}
 use Rattle.rules.proofs.DigitsAppended.{bit-le, one-more, appended-fits}
-use Rattle.rules.proofs.ordered.ordered_dots.Statement.{statement}
-use Rattle.rules.proofs.ordered.ordered_dots.Tie as tie
+use Rattle.ordered.proofs.dots.ordered_dots.Statement.{statement}
+use Rattle.ordered.proofs.dots.ordered_dots.Tie as tie
 
 abbrev Inv-loop : tie.InvT-loop
 Inv-loop table side y column gray begun digits₀ i₀ digits i = (i ≤ length gray) × (digits ≡ appended begun (orderedBit side table y column gray) i)

@@ -1,13 +1,13 @@
--- `quantize::ordered::ordered_dot` meets its contract, by the product form of the rule.
+-- `ordered::dots::ordered_dot` meets its contract, by the product form of the rule.
 -- Assumes nothing.
 use Prim.Native.Nat.{_*_}
 use native.Mathlib.Nat.{mul-le-mul}
 use native.Mathlib.Omega.{arith}
 use Rattle.rules.proofs.DigitsAppended.{bit-yes, bit-no}
-use Rattle.rules.proofs.OrderedNumbers.{known-small, area-le, product-white, product-black}
+use Rattle.ordered.proofs.OrderedNumbers.{known-small, area-le, product-white, product-black}
 use borrow.Author.Needs.{needs}
-use Rattle.rules.proofs.ordered.ordered_dot.Statement.{statement}
-use Rattle.rules.proofs.ordered.ordered_dot.Tie as tie
+use Rattle.ordered.proofs.dots.ordered_dot.Statement.{statement}
+use Rattle.ordered.proofs.dots.ordered_dot.Tie as tie
 
 mul-least : tie.Need-mul-least
 mul-least c = search needs

@@ -1,10 +1,10 @@
--- `quantize::ordered::cell_at` meets its contract.
+-- `ordered::dots::cell_at` meets its contract.
 -- Assumes nothing.
 use native.Mathlib.Omega.{arith}
-use Rattle.rules.proofs.OrderedNumbers.{known-small, index-small}
+use Rattle.ordered.proofs.OrderedNumbers.{known-small, index-small}
 use borrow.Author.Needs.{needs}
-use Rattle.rules.proofs.ordered.cell_at.Statement.{statement}
-use Rattle.rules.proofs.ordered.cell_at.Tie as tie
+use Rattle.ordered.proofs.dots.cell_at.Statement.{statement}
+use Rattle.ordered.proofs.dots.cell_at.Tie as tie
 
 rem-i : tie.Need-rem-i
 rem-i c = known-small (c .args .side) (c .pre) .0

@@ -1,8 +1,8 @@
--- `rules::ordered::known_side` meets its contract.
+-- `ordered::table::known_side` meets its contract.
 -- Assumes nothing.
 use borrow.Author.Tests.{ne-eqb}
-use Rattle.rules.proofs.ordered.known_side.Statement.{statement}
-use Rattle.rules.proofs.ordered.known_side.Tie as tie
+use Rattle.ordered.proofs.table.known_side.Statement.{statement}
+use Rattle.ordered.proofs.table.known_side.Tie as tie
 
 returns : tie.Need-returns
 returns c = rw (c .if1 .taken)

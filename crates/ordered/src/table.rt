@@ -1,13 +1,8 @@
-// The ordered rule.
+// The numbers of the sides 2, 4 and 8.
 ghost use mathlib.Core.Path.{_≡_};
-ghost use Prim.Native.Nat.{ℕ, _+_, _*_, _^_, _≤_, _<_};
-ghost use lib.ListN.{length, take};
-ghost use lib.Dec.{leb};
-ghost use Rattle.rules.specs.Bits.{bit, appended};
-ghost use Rattle.rules.specs.Ordered.{bound, knownSide};
-ghost use Rattle.rules.specs.Ordered;
-ghost use mathlib.Core.Bool.{true};
-ghost use Rattle.rules.specs.Internal.Kernels.{Matching, Cell, Filled, Table, orderedBit};
+ghost use Prim.Native.Nat.{_≤_, _<_};
+ghost use Rattle.rules.specs.Ordered.{knownSide};
+ghost use Rattle.ordered.specs.Internal.Sides.{Cell, Filled, Table};
 
 // The numbers for side 8, row by row.
 const TABLE: [u8; 64] = [
@@ -133,46 +128,4 @@ pub fn numbers(side: u8) -> [u8; 64]
         return filled(4);
     }
     TABLE
-}
-
-// The number of a table at a column and a row of the image.
-fn cell_at(table: &[u8; 64], side: u8, x: usize, y: usize) -> u8
-    requires { ⌜ knownSide side ≡ true ⌝ }
-    ensures { λ r. ⌜ r ≡ Ordered.cell side (now (table .entry)) x y ⌝ }
-{
-    let s = side as usize;
-    let i = s * (y % s) + x % s;
-    table[i]
-}
-
-// The dot of a sample where n is the number: 1 where gray × side × side is at least 256 n + 128.
-fn ordered_dot(side: u8, n: u8, gray: u8) -> u32
-    requires { ⌜ knownSide side ≡ true ⌝ }
-    ensures { λ r. ⌜ r ≡ bit (leb (bound side n) gray) ⌝ }
-{
-    let s = side as u32;
-    let least = 256 * n as u32 + 128;
-    if least <= gray as u32 * (s * s) { 1 } else { 0 }
-}
-
-// The digits of `begun`, and then a dot for each sample, from a column of row y on.
-pub(crate) fn ordered_dots(
-    table: &[u8; 64],
-    side: u8,
-    y: usize,
-    column: usize,
-    gray: &[u8],
-    begun: u32,
-) -> u32
-    requires { ⌜ Matching side column (length (now gray)) begun ⌝ }
-    ensures { λ r. ⌜ r ≡ appended begun (orderedBit side (now (table .entry)) y column (now (gray .entry))) (length (now (gray .entry))) ⌝ }
-{
-    let mut digits = begun;
-    let mut i: usize = 0;
-    while i < gray.len() {
-        let n = cell_at(table, side, column + i, y);
-        digits = digits * 2 + ordered_dot(side, n, gray[i]);
-        i += 1;
-    }
-    digits
 }

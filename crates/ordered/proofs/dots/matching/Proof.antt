@@ -1,14 +1,14 @@
--- `rules::entry::matching` meets its contract.
+-- `ordered::dots::matching` meets its contract.
 -- Assumes nothing.
 use Prim.Native.Nat.{_-_}
 use mathlib.Core.Path.{sym, _∙_}
 use native.Mathlib.Omega.{arith}
 use borrow.Author.Needs.{needs}
 use borrow.Author.Tests.{not-true, not-false}
 use Rattle.rules.proofs.EntryTold.{told-no, told-le}
 use Rattle.rules.proofs.Signed.{never}
-use Rattle.rules.proofs.entry.matching.Statement.{statement}
-use Rattle.rules.proofs.entry.matching.Tie as tie
+use Rattle.ordered.proofs.dots.matching.Statement.{statement}
+use Rattle.ordered.proofs.dots.matching.Tie as tie
 
 packs-requires : tie.Need-packs-requires
 packs-requires c κs = search needs

@@ -1,10 +1,10 @@
--- `rules::entry::ordered_row_dots` meets its contract.
+-- `ordered::dots::ordered_row_dots` meets its contract.
 -- Assumes nothing.
 use mathlib.Core.Path.{refl}
 use borrow.Author.Needs.{needs}
 use Rattle.rules.proofs.EntryTold.{where-does, where-idles}
-use Rattle.rules.proofs.entry.ordered_row_dots.Statement.{statement}
-use Rattle.rules.proofs.entry.ordered_row_dots.Tie as tie
+use Rattle.ordered.proofs.dots.ordered_row_dots.Statement.{statement}
+use Rattle.ordered.proofs.dots.ordered_row_dots.Tie as tie
 
 matching-requires : tie.Need-matching-requires
 matching-requires c κs = search needs

@@ -12,11 +12,11 @@ use lib.ListN.{length, take, set}
 use lib.Seq.{getD-take, take-suc-set}
 use lib.Dec.{leb, eqb}
 use borrow.Author.Tests.{eqb-true, le-leb, lt-leb}
 use Rattle.rules.specs.Bits.{upto}
 use Rattle.rules.specs.Ordered.{quarter, number, numbers, bound, cell, knownSide}
-use Rattle.rules.specs.Internal.Kernels.{Cell}
+use Rattle.ordered.specs.Internal.Sides.{Cell}
 use Rattle.laws.proofs.Tests.{lt-or-le}
 use Rattle.rules.proofs.Signed.{never}
 
 -- ---- the quarters
 

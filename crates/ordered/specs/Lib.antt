@@ -1,0 +1,2 @@
+-- What the kernels of the ordered rule promise.
+pub mod Internal
