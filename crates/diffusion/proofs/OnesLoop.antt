@@ -1,17 +1,17 @@
 -- Rows of one sample, one after the other.
 -- Assumes nothing.
 use Prim.Native.Nat.{ℕ, _+_, _*_, _/_, _%_, _≤_, _<_}
-use mathlib.Core.Path.{_≡_, refl, sym, ap, _∙_, subst}
+use mathlib.Core.Path.{_≡_, sym, ap, _∙_, subst}
 use mathlib.Core.List.{List, [], _∷_}
 use native.Mathlib.Omega.{arith}
 use lib.ListN.{length, getD, set}
 use Rattle.rules.specs.Internal.Planes.{scanOf, ditherBit}
-use Rattle.diffusion.specs.Internal.Sums.{partOf, restOf, handedRight, valueBy, restBy, handedDown}
+use Rattle.diffusion.specs.Internal.Sums.{partOf, restOf, handedRight, valueBy, restBy}
 use Rattle.diffusion.specs.Internal.Rows.{rowOf}
 use Rattle.diffusion.specs.Internal.Planes.{PlaneLent, RowsWritten}
 use Rattle.diffusion.proofs.PlaneRows.{row-one}
 use Rattle.diffusion.proofs.RowsLoop.{HandedSums, first-sums, rows-none, ones-put, row-dots, next-sums}
-use Rattle.diffusion.proofs.SumsCorrect.{part-small, rest-small, one-down}
+use Rattle.diffusion.proofs.SumsCorrect.{part-small, one-down}
 
 -- the sums handed to a row of one dot, below one whose residual is held as b
 abbrev sumsBelow : ℕ → ℕ → ℕ

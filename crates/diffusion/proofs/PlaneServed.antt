@@ -1,6 +1,6 @@
 -- A plane that is written whole, or not at all.
 -- Assumes nothing.
-use Prim.Native.Nat.{ℕ, _+_, _*_, _≤_, _<_}
+use Prim.Native.Nat.{ℕ, _*_, _≤_, _<_}
 use mathlib.Core.Path.{_≡_, refl, sym, ap, ap₂, _∙_, subst}
 use mathlib.Core.Bool.{Bool, true, false, _&&_}
 use mathlib.Core.List.{List, _++_}
@@ -26,7 +26,9 @@ module _ (w h : ℕ) (gray out : List ℕ) (work : List ℤ) where
   refused e = record { written = sym (if-false is _ _ e); beyond = refl; unserved = λ f. refl }
 
   pub no-samples : length gray < w * h → DitherPlane w h gray out work out work
-  no-samples l = refused (ap (λ (t : Bool). t && (leb (h * rowBytes w) (length out) && leb w (length work))) (lt-leb (w * h) (length gray) l))
+  no-samples l =
+      refused
+      (ap (λ (t : Bool). t && (leb (h * rowBytes w) (length out) && leb w (length work))) (lt-leb (w * h) (length gray) l))
 
   pub no-room : length out < h * rowBytes w → DitherPlane w h gray out work out work
   no-room l =
@@ -69,7 +71,11 @@ pub no-columns : (w h : ℕ) (gray out : List ℕ) → w ≡ 0 → RowsWritten w
 unfolding upto
 no-columns w h gray out z =
     let e : h * rowBytes w ≡ 0 = ap (λ (n : ℕ). h * rowBytes n) z ∙ mul-zero h in
-    record { rows = ap (λ (n : ℕ). take n out) e ∙ ap (λ (n : ℕ). upto n (byteAt w (ditherBit w gray))) (sym e); behind = refl; long = refl }
+    record {
+      rows = ap (λ (n : ℕ). take n out) e ∙ ap (λ (n : ℕ). upto n (byteAt w (ditherBit w gray))) (sym e);
+      behind = refl;
+      long = refl;
+    }
 
 -- a plane of one column
 module _ (w h : ℕ) (one : w ≡ 1) where

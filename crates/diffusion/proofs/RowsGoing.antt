@@ -20,7 +20,7 @@ use Rattle.diffusion.specs.Internal.Rows.{rowOf}
 use Rattle.diffusion.specs.Internal.Planes.{handedTo, RowGiven, RowNext, PlaneLent, RowsWritten, PlainRows}
 use Rattle.diffusion.proofs.PlaneRows.{row-alone}
 use Rattle.diffusion.proofs.RowHanded.{next-plain}
-use Rattle.diffusion.proofs.RowsLoop.{HandedSums, first-sums, rows-none, rows-stay, RowsAt, row-there, row-room, row-bytes, row-next}
+use Rattle.diffusion.proofs.RowsLoop.{first-sums, rows-none, rows-stay, RowsAt, row-there, row-room, row-bytes, row-next}
 
 -- ---- plain rows from the top
 
@@ -47,10 +47,12 @@ module _ {w h : ℕ} {gray out₀ out : List ℕ} {at to y : ℕ} (lent : PlaneL
   plain-more bytes e p =
       let a : Plain row 0 (length row) = subst (λ (n : ℕ). Plain row 0 n) (sym row-is) (p .plain e) in
       let b : new ≡ rowOf (length row) (thresholdBit 128 row) =
-      subst (λ (n : ℕ). new ≡ rowOf n (thresholdBit 128 row)) (sym row-is) (row-alone w (thresholdBit 128 row) room new room-is (p .written e)) in
+      subst (λ (n : ℕ). new ≡ rowOf n (thresholdBit 128 row)) (sym row-is)
+      (row-alone w (thresholdBit 128 row) room new room-is (p .written e)) in
       row-next lent i l bytes true [] refl true new [] (next-plain row [] new (row-bytes lent i l bytes) [] a b refl)
 
-  pub plain-end : length new ≡ length (midOf to (to + rowBytes w - to) out) → PlainRows w h gray out₀ y (putMid to (to + rowBytes w - to) out new)
+  pub plain-end : length new ≡ length (midOf to (to + rowBytes w - to) out)
+      → PlainRows w h gray out₀ y (putMid to (to + rowBytes w - to) out new)
   plain-end e =
       record { most = i .most; level = i .given .are; written = rows-stay lent (i .written) l to new (i .toIs) (e ∙ room-is) }
 

@@ -20,7 +20,8 @@ fn level_sums(sums: &mut [i16])
     }
 }
 
-// Whether nothing is handed to the row, which `level` says, and it is black and white alone: then it is written. Otherwise the sums that are handed to it stand in the work buffer.
+// Whether nothing is handed to the row, which `level` says, and it is black and white alone: then it is written.
+// Otherwise the sums that are handed to it stand in the work buffer.
 fn begin_row(level: bool, gray: &[u8], work: &mut [i16], out: &mut [u8]) -> bool
     requires { ⌜ RowGiven level (now gray) (now work) (length (now out)) ⌝ }
     ensures { λ r. ⌜ RowBegun level (now (gray .entry)) (now (work .entry)) r (now (out .exit)) (now (work .exit)) ⌝ }

@@ -1,4 +1,4 @@
-use Prim.Native.Nat.{ℕ, _*_, _≤_}
+use Prim.Native.Nat.{ℕ}
 use mathlib.Core.Path.{_≡_, refl}
 use mathlib.Core.List.{List}
 use lib.IntN.{ℤ}
@@ -8,7 +8,8 @@ use lib.ListN.{length, drop}
 use Rattle.laws.proofs.Products.{product-below}
 use Rattle.diffusion.specs.Internal.Rows.{DitherPlane}
 use Rattle.diffusion.specs.Internal.Planes.{PlaneLent, RowsWritten}
-use Rattle.diffusion.proofs.PlaneServed.{no-samples, no-room, no-work, plane-served, no-columns, lent-ones, written-ones, rows-left, lent-left, rows-joined, rows-plain}
+use Rattle.diffusion.proofs.PlaneServed.{no-samples, no-room, no-work, plane-served, no-columns, lent-ones}
+use Rattle.diffusion.proofs.PlaneServed.{written-ones, rows-left, lent-left, rows-joined, rows-plain}
 use borrow.Author.Needs.{needs}
 use Rattle.diffusion.proofs.plane.dither_plane.Statement.{statement}
 use Rattle.diffusion.proofs.plane.dither_plane.Tie as tie
@@ -30,7 +31,8 @@ lent e =
 
 served : (e : tie.Else3) (out′ : List ℕ) (work′ : List ℤ)
     → let a = start e .args in
-    RowsWritten (a .width) (a .height) (now (a .gray)) (now (a .out)) (a .height) out′ → drop (a .width) work′ ≡ drop (a .width) (now (a .work))
+    RowsWritten (a .width) (a .height) (now (a .gray)) (now (a .out)) (a .height) out′
+    → drop (a .width) work′ ≡ drop (a .width) (now (a .work))
     → DitherPlane (a .width) (a .height) (now (a .gray)) (now (a .out)) (now (a .work)) out′ work′
 served e out′ work′ r b =
     let a = start e .args in

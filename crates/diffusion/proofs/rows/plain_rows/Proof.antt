@@ -1,10 +1,9 @@
-use Prim.Native.Nat.{ℕ, _+_, _-_, _≤_, _<_}
-use mathlib.Core.Path.{_≡_, refl, sym, ap, _∙_}
+use Prim.Native.Nat.{_+_, _-_, _≤_}
 use native.Mathlib.Omega.{arith}
 use borrow.Author.Needs.{needs}
 use denote.Ref.{now}
-use lib.ListN.{length, getD}
-use borrow.Author.Tests.{not-true, not-false}
+use lib.ListN.{length}
+use borrow.Author.Tests.{not-false}
 use Rattle.image.specs.Geometry.{rowBytes}
 use Rattle.diffusion.specs.Internal.Sums.{none}
 use Rattle.diffusion.proofs.RowsLoop.{RowsAt, row-there, row-room}
@@ -67,7 +66,8 @@ returns-rows : tie.Need-returns Inv-loop μ-loop
 returns-rows c =
     let p = c .before .before .before in
     let q = p .before .before .before in
-    plain-end (start q .pre) (q .before .loop .inv) (q .loop-test .taken) (p .plain-row .result) (p .plain-row .last .1 .1 .0) (p .plain-row .kept .1 .1 .0)
+    plain-end (start q .pre) (q .before .loop .inv) (q .loop-test .taken) (p .plain-row .result)
+    (p .plain-row .last .1 .1 .0) (p .plain-row .kept .1 .1 .0)
 
 same-length : tie.Need-same-length Inv-loop μ-loop
 same-length c = returns-rows c .written .long

@@ -1,9 +1,9 @@
-use Prim.Native.Nat.{ℕ, _+_, _-_, _≤_, _<_}
-use mathlib.Core.Path.{_≡_, refl, sym, ap, _∙_}
+use Prim.Native.Nat.{_+_, _-_, _≤_}
+use mathlib.Core.Path.{refl}
 use native.Mathlib.Omega.{arith}
 use borrow.Author.Needs.{needs}
 use denote.Ref.{now}
-use lib.ListN.{length, getD}
+use lib.ListN.{length}
 use Rattle.image.specs.Geometry.{rowBytes}
 use Rattle.diffusion.proofs.RowsLoop.{row-there, row-room}
 use Rattle.diffusion.proofs.RowsGoing.{RowsGoing, start-there, start-room, going-begun, going-given, going-next, going-end}
@@ -83,8 +83,13 @@ part-next-row-end-2 c = omega (arith, room (c .before .before .before .before))
 next-row-requires : tie.Need-next-row-requires Inv-loop μ-loop
 next-row-requires c κs =
     let q = c .before .before .before .before .before in
-    let d = q .before .before in
-    (d .before .right-table .ensures, (d .down-table .ensures, going-given (start q .pre .0 .0) (q .before .loop .inv) (q .loop-test .taken) (start q .pre .0 .1)))
+    let d = q .before .before in (
+      d .before .right-table .ensures,
+      (
+        d .down-table .ensures,
+        going-given (start q .pre .0 .0) (q .before .loop .inv) (q .loop-test .taken) (start q .pre .0 .1),
+      ),
+    )
 
 add-y : tie.Need-add-y Inv-loop μ-loop
 add-y c =
@@ -99,7 +104,8 @@ loop-again c =
     let n = c .before .before .before in
     let q = turn c in
     let k = q .before .before .before .before .before in
-    going-next (start q .pre .0 .0) (q .before .loop .inv) (q .loop-test .taken) (λ i. let f = k .shared-slice-known .given i in omega arith) _ _ _
+    going-next (start q .pre .0 .0) (q .before .loop .inv) (q .loop-test .taken)
+    (λ i. let f = k .shared-slice-known .given i in omega arith) _ _ _
     (n .next-row .kept .1 .1 .1 .1 .0) (n .next-row .ensures)
 
 same-length : tie.Need-same-length Inv-loop μ-loop
