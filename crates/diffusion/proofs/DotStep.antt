@@ -12,7 +12,7 @@ use lib.Signed.{nonNeg}
 use mir.Syntax.{w16}
 use mir.Val.{Fits}
 use Rattle.diffusion.specs.declared.row.Flow.{Flow}
-use Rattle.diffusion.specs.Internal.Sums.{partOf, restOf}
+use Rattle.diffusion.specs.Internal.Sums.{restOf}
 use Rattle.diffusion.specs.Internal.Rows.{RightTable, DownTable}
 use Rattle.diffusion.specs.Internal.Flow.{partsOf, DotLent, DotPassed}
 use Rattle.diffusion.proofs.SumsCorrect.{part-small, rest-small}
@@ -34,8 +34,8 @@ parts-lt v h =
     omega (arith, part-small 1 _ b, part-small 3 _ b, part-small 5 _ b)
 
 module _ (rights downs : List ℕ) (f : Flow) (v : ℕ) where
-  abbrev pub stepped : Flow
-  stepped =
+  abbrev pub flowBy : Flow
+  flowBy =
       record {
         right = getD rights v 0;
         down = f .down / 256 + getD downs v 0;
@@ -43,7 +43,7 @@ module _ (rights downs : List ℕ) (f : Flow) (v : ℕ) where
         digits = f .digits * 2 + v / 256;
       }
 
-  step-passed : RightTable rights → DownTable downs → v < 512 → DotPassed f v stepped
+  step-passed : RightTable rights → DownTable downs → v < 512 → DotPassed f v flowBy
   step-passed r d h =
       record {
         rightIs = r v h;
@@ -55,10 +55,11 @@ module _ (rights downs : List ℕ) (f : Flow) (v : ℕ) where
       }
 
 module _ (rights downs : List ℕ) (f : Flow) (gray : ℕ) (z sum : ℤ) (same : z ≡ sum) (lent : DotLent f sum) (byte : gray < 256) where
-  pub index-lt : gray + natAbs z + f .right < 512
-  index-lt = subst⁻¹ (λ (i : ℤ). gray + natAbs i + f .right < 512) same (omega (arith, lent .rightSmall, lent .sumSmall))
+  pub index-in : gray + natAbs z + f .right < 512
+  index-in = subst⁻¹ (λ (i : ℤ). gray + natAbs i + f .right < 512) same (omega (arith, lent .rightSmall, lent .sumSmall))
 
-  pub dot-passed : RightTable rights → DownTable downs → DotPassed f (gray + natAbs sum + f .right) (stepped rights downs f (gray + natAbs z + f .right))
+  pub dot-passed : RightTable rights → DownTable downs
+      → DotPassed f (gray + natAbs sum + f .right) (flowBy rights downs f (gray + natAbs z + f .right))
   dot-passed r d =
-      subst (λ (i : ℤ). DotPassed f (gray + natAbs i + f .right) (stepped rights downs f (gray + natAbs z + f .right))) same
-      (step-passed rights downs f (gray + natAbs z + f .right) r d index-lt)
+      subst (λ (i : ℤ). DotPassed f (gray + natAbs i + f .right) (flowBy rights downs f (gray + natAbs z + f .right))) same
+      (step-passed rights downs f (gray + natAbs z + f .right) r d index-in)

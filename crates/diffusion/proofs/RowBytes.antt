@@ -1,12 +1,12 @@
 -- A row's bytes, one after the other, and its last one.
 -- Assumes nothing.
-use Prim.Native.Nat.{ℕ, zero, suc, _+_, _-_, _*_, _/_, _%_, _^_, _≤_, _<_}
+use Prim.Native.Nat.{ℕ, _+_, _-_, _*_, _^_, _≤_, _<_}
 use mathlib.Core.Path.{_≡_, refl, sym, ap, _∙_, subst}
 use mathlib.Core.List.{List}
-use native.Mathlib.Nat.{zero-add, zero-mul, div-eq-of-lt, mod-eq-of-lt}
+use native.Mathlib.Nat.{zero-mul, div-eq-of-lt, mod-eq-of-lt}
 use native.Mathlib.Omega.{arith}
 use lib.IntN.{ℤ}
-use lib.ListN.{length, take, set, length-set}
+use lib.ListN.{length, set, length-set}
 use borrow.Author.Tests.{lt-ltb, le-ltb}
 use Rattle.image.specs.Geometry.{rowBytes}
 use Rattle.rules.specs.Bits.{upto, appended, digits}
@@ -35,9 +35,12 @@ module _ (w : ℕ) (d : ℕ → ℕ) (j : ℕ) where
   unfolding byteAt
   in-first h = rw (div-eq-of-lt h, mod-eq-of-lt h)
 
+  dots-in : (m : ℕ) → 8 * j + m ≤ w → digits (λ i. paddedBit w d 0 (8 * j + i)) m ≡ appended 0 (λ i. d (8 * j + i)) m
+  dots-in m h = appended-ext 0 (λ i. paddedBit w d 0 (8 * j + i)) (λ i. d (8 * j + i)) m (λ i l. dot-in (8 * j + i) (omega arith))
+
   -- eight dots
   pub byte-whole : 8 * j + 8 ≤ w → byteAt w d j ≡ appended 0 (λ i. d (8 * j + i)) 8
-  byte-whole h = in-first (omega arith) ∙ appended-ext 0 (λ i. paddedBit w d 0 (8 * j + i)) (λ i. d (8 * j + i)) 8 (λ i l. dot-in (8 * j + i) (omega arith))
+  byte-whole h = in-first (omega arith) ∙ dots-in 8 h
 
   -- the row's last dots, and zeros
   pub byte-end : 8 * j < w → w ≤ 8 * j + 8 → byteAt w d j ≡ appended 0 (λ i. d (8 * j + i)) (w - 8 * j) * 2 ^ (8 - (w - 8 * j))
@@ -47,7 +50,7 @@ module _ (w : ℕ) (d : ℕ → ℕ) (j : ℕ) where
       in-first (omega arith)
       ∙ ap (digits (λ i. paddedBit w d 0 (8 * j + i))) (sym e)
       ∙ digits-tail (λ i. paddedBit w d 0 (8 * j + i)) m (8 - m) (λ i l. dot-past (8 * j + i) (omega arith))
-      ∙ ap (λ (n : ℕ). n * 2 ^ (8 - m)) (appended-ext 0 (λ i. paddedBit w d 0 (8 * j + i)) (λ i. d (8 * j + i)) m (λ i l. dot-in (8 * j + i) (omega arith)))
+      ∙ ap (λ (n : ℕ). n * 2 ^ (8 - m)) (dots-in m (omega arith))
 
 -- ---- from the row's start on
 
@@ -75,7 +78,8 @@ module _ (gray : List ℕ) (old : List ℤ) (room : ℕ) (lent : RowLent gray ol
   unfolding upto
   bytes-start n out e l = rw e (record { at = row-start; outLong = l; written = refl })
 
-module _ (gray : List ℕ) (old : List ℤ) (n room : ℕ) (f : Flow) (out : List ℕ) (work : List ℤ) (p : BytesPassed gray old n room f out work) where
+module _ (gray : List ℕ) (old : List ℤ) (n room : ℕ) (f : Flow) (out : List ℕ) (work : List ℤ)
+    (p : BytesPassed gray old n room f out work) where
   -- the next byte's dots are lent
   pub byte-lent : length gray ≤ length old → 8 * n + 8 ≤ length gray → DotsLent gray (8 * n) (8 * n + 8) f work
   byte-lent h k =
@@ -85,12 +89,14 @@ module _ (gray : List ℕ) (old : List ℤ) (n room : ℕ) (f : Flow) (out : Lis
     eight : 8 * n + 8 - 8 * n ≡ 8
     eight = omega arith
 
-    pub byte-small : r .digits < 256
-    byte-small = subst (λ (m : ℕ). r .digits < 2 ^ m) eight (digits-small gray old (8 * n + 8) r work′ (d .at) (8 * n) (omega arith) (omega arith) (d .digitsIs))
+    pub digits-byte : r .digits < 256
+    digits-byte =
+        subst (λ (m : ℕ). r .digits < 2 ^ m) eight
+        (digits-small gray old (8 * n + 8) r work′ (d .at) (8 * n) (omega arith) (omega arith) (d .digitsIs))
 
     -- one byte more
-    pub byte-more : 8 * n + 8 ≤ length gray → n < room → BytesPassed gray old (n + 1) room r (set out n (r .digits)) work′
-    byte-more h k =
+    pub bytes-more : 8 * n + 8 ≤ length gray → n < room → BytesPassed gray old (n + 1) room r (set out n (r .digits)) work′
+    bytes-more h k =
         let e : 8 * n + 8 ≡ 8 * (n + 1) = omega arith in
         let f = dotBy gray (sumsOf old) in
         record {
@@ -101,7 +107,8 @@ module _ (gray : List ℕ) (old : List ℤ) (n room : ℕ) (f : Flow) (out : Lis
         }
 
 -- bytes after others
-pub record BytesRun (gray : List ℕ) (last n₀ : ℕ) (f₀ : Flow) (out₀ : List ℕ) (work₀ : List ℤ) (n : ℕ) (f : Flow) (out : List ℕ) (work : List ℤ) : Type 0 where
+pub record BytesRun (gray : List ℕ) (last n₀ : ℕ) (f₀ : Flow) (out₀ : List ℕ) (work₀ : List ℤ)
+    (n : ℕ) (f : Flow) (out : List ℕ) (work : List ℤ) : Type 0 where
   pub from : n₀ ≤ n
   pub to : n ≤ last
   pub passed : (old : List ℤ) (room : ℕ) → BytesPassed gray old n₀ room f₀ out₀ work₀ → BytesPassed gray old n room f out work

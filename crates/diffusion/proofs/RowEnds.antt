@@ -1,18 +1,18 @@
 -- A row's end: its last byte, the sum for its last column, and what it hands down in all.
 -- Assumes nothing.
 use Prim.Native.Nat.{ℕ, zero, suc, _+_, _-_, _*_, _/_, _%_, _^_, _≤_, _<_}
-use mathlib.Core.Path.{_≡_, refl, sym, ap, _∙_, subst}
+use mathlib.Core.Path.{_≡_, sym, ap, _∙_}
 use mathlib.Core.Bool.{Bool, true}
 use mathlib.Core.List.{List}
 use mathlib.Core.Logic.{⊎-elim}
 use native.Mathlib.Nat.{mod-eq-of-lt}
 use native.Mathlib.Omega.{arith}
 use lib.IntN.{ℤ, pos}
-use lib.ListN.{length, getD, take, drop, set, length-set, length-drop}
+use lib.ListN.{length, getD, drop, set, length-set, length-drop}
 use lib.Seq.{take-all, drop-set-lt, getD-drop, ext-getD, getD-set-same, getD-set-other}
 use borrow.Author.Tests.{lt-ltb, le-ltb}
 use Rattle.image.specs.Geometry.{rowBytes}
-use Rattle.rules.specs.Bits.{upto, appended}
+use Rattle.rules.specs.Bits.{upto}
 use Rattle.rules.specs.Packed.{byteAt}
 use Rattle.rules.proofs.Differences.{lt-or-le}
 use Rattle.rules.proofs.DigitsAppended.{shifted-lt}
@@ -20,7 +20,7 @@ use Rattle.rules.proofs.OrderedNumbers.{take-more}
 use Rattle.diffusion.specs.declared.row.Flow.{Flow}
 use Rattle.diffusion.specs.Internal.Sums.{partOf, restBy, restBefore, restAfter, handedDown, sumsOf, Level}
 use Rattle.diffusion.specs.Internal.Rows.{grayOf, dotBy, rowOf, RowLent, RowDithered}
-use Rattle.diffusion.specs.Internal.Flow.{owed, Still, RowAt, DotsLent, DotsPassed, BytesPassed}
+use Rattle.diffusion.specs.Internal.Flow.{owed, Still, DotsLent, DotsPassed, BytesPassed}
 use Rattle.diffusion.proofs.RowBytes.{byte-end}
 use Rattle.diffusion.proofs.RowGrows.{digits-small, owed-le}
 use Rattle.diffusion.proofs.SumsCorrect.{part-of-128}
@@ -53,7 +53,8 @@ module _ (w : ℕ) (g s : ℕ → ℕ) (still : (k : ℕ) → k < w → Still (r
   unfolding handedDown
   level-of x h = omega (arith, still x h .five, before-still x h, after-still x)
 
-module _ (gray : List ℕ) (old : List ℤ) (room : ℕ) (lent : RowLent gray old room) (f : Flow) (out : List ℕ) (work : List ℤ) (p : BytesPassed gray old ((length gray - 1) / 8) room f out work) where
+module _ (gray : List ℕ) (old : List ℤ) (room : ℕ) (lent : RowLent gray old room) (f : Flow) (out : List ℕ) (work : List ℤ)
+    (p : BytesPassed gray old ((length gray - 1) / 8) room f out work) where
   abbrev w : ℕ
   w = length gray
 
@@ -62,18 +63,25 @@ module _ (gray : List ℕ) (old : List ℤ) (room : ℕ) (lent : RowLent gray ol
 
   pub last-lent : DotsLent gray (8 * last) (length gray) f work
   last-lent =
-      record { old = old; at = p .at; kept = omega (arith, p .at .long, lent .kept); order = omega arith; oneByte = omega arith; inRow = omega arith }
+      record {
+        old = old;
+        at = p .at;
+        kept = omega (arith, p .at .long, lent .kept);
+        order = omega arith;
+        oneByte = omega arith;
+        inRow = omega arith;
+      }
 
   module _ (r : Flow) (work′ : List ℤ) (d : DotsPassed gray old (8 * last) (length gray) r work′) where
     last-small : r .digits < 2 ^ (w - 8 * last)
     last-small = digits-small gray old w r work′ (d .at) (8 * last) (omega arith) (omega arith) (d .digitsIs)
 
     -- the byte, in eight bits and in 32
-    pub byte-lt : r .digits * 2 ^ (8 - (length gray - 8 * last)) < 256
-    byte-lt = shifted-lt (r .digits) (w - 8 * last) (omega arith) last-small
+    pub shifted-small : r .digits * 2 ^ (8 - (length gray - 8 * last)) < 256
+    shifted-small = shifted-lt (r .digits) (w - 8 * last) (omega arith) last-small
 
-    pub byte-is : r .digits * 2 ^ (8 - (length gray - 8 * last)) % 4294967296 ≡ r .digits * 2 ^ (8 - (length gray - 8 * last))
-    byte-is = let l = byte-lt in mod-eq-of-lt (omega arith)
+    pub shifted-is : r .digits * 2 ^ (8 - (length gray - 8 * last)) % 4294967296 ≡ r .digits * 2 ^ (8 - (length gray - 8 * last))
+    shifted-is = let l = shifted-small in mod-eq-of-lt (omega arith)
 
     module _ (b : ℕ) (z : ℤ) (eb : b ≡ r .digits * 2 ^ (8 - (length gray - 8 * last))) (ez : z ≡ pos (r .down / 256 % 256 + 24)) where
       room-is : room ≡ last + 1
@@ -86,7 +94,8 @@ module _ (gray : List ℕ) (old : List ℤ) (room : ℕ) (lent : RowLent gray ol
           let q = room-is in
           sym (take-all (last + 1) (set out last b) (omega (arith, length-set out last b, p .outLong)))
           ∙ take-more out last b (byteAt w (dotBy gray (sumsOf old))) (omega (arith, p .outLong)) (p .written)
-          (eb ∙ ap (λ (n : ℕ). n * 2 ^ (8 - (w - 8 * last))) (d .digitsIs) ∙ sym (byte-end w (dotBy gray (sumsOf old)) last (omega arith) (omega arith)))
+          (eb ∙ ap (λ (n : ℕ). n * 2 ^ (8 - (w - 8 * last))) (d .digitsIs)
+          ∙ sym (byte-end w (dotBy gray (sumsOf old)) last (omega arith) (omega arith)))
           ∙ ap (λ (n : ℕ). upto n (byteAt w (dotBy gray (sumsOf old)))) e
 
       end-is : (k : ℕ) → k + 1 ≡ w → z ≡ pos (handedDown w (grayOf gray) (sumsOf old) k)
@@ -106,7 +115,8 @@ module _ (gray : List ℕ) (old : List ℤ) (room : ℕ) (lent : RowLent gray ol
                 (λ (m : x + 1 < w). getD-set-other work′ (w - 1) x z (pos 0) (λ e. omega arith) ∙ d .at .handed x m)
                 (λ (m : w ≤ x + 1).
                 let e : x ≡ w - 1 = omega arith in
-                ap (λ (k : ℕ). getD (set work′ (w - 1) z) k (pos 0)) e ∙ getD-set-same work′ (w - 1) z (pos 0) (omega arith) ∙ end-is x (omega arith))
+                ap (λ (k : ℕ). getD (set work′ (w - 1) z) k (pos 0)) e
+                ∙ getD-set-same work′ (w - 1) z (pos 0) (omega arith) ∙ end-is x (omega arith))
                 (lt-or-le (x + 1) w);
             beyond = drop-set-lt w work′ (w - 1) z (omega arith)
                 ∙ ext-getD (pos 0) (drop w work′) (drop w old) (length-drop w work′ ∙ ap (λ (n : ℕ). n - w) long ∙ sym (length-drop w old))

@@ -1,7 +1,7 @@
 -- A row's dots one after the other: what one dot more leaves.
 -- Assumes nothing.
 use Prim.Native.Nat.{ℕ, zero, suc, _+_, _-_, _*_, _/_, _%_, _^_, _≤_, _<_}
-use mathlib.Core.Path.{_≡_, refl, sym, ap, _∙_, subst}
+use mathlib.Core.Path.{_≡_, refl, sym, ap, _∙_, subst, subst⁻¹}
 use mathlib.Core.List.{List}
 use mathlib.Core.Logic.{⊎-elim}
 use native.Mathlib.Nat.{pow-suc, lt-of-lt-of-le}
@@ -11,15 +11,15 @@ use lib.IntN.{ℤ, pos, natAbs}
 use lib.ListN.{length, getD, set, length-set}
 use lib.Pow.{pow-mono}
 use lib.Seq.{getD-set-same, getD-set-other}
-use borrow.Author.Tests.{lt-ltb, le-ltb}
+use borrow.Author.Tests.{lt-ltb}
 use Rattle.rules.specs.Bits.{appended}
 use Rattle.rules.proofs.Differences.{lt-or-le}
 use Rattle.rules.proofs.DigitsAppended.{one-more}
 use Rattle.diffusion.specs.declared.row.Flow.{Flow}
-use Rattle.diffusion.specs.Internal.Sums.{partOf, restOf, handedRight, valueBy, restBy, restBefore, restAfter, handedDown, sumsOf, Sums}
+use Rattle.diffusion.specs.Internal.Sums.{partOf, restOf, handedRight, valueBy, restBy, restBefore, restAfter, handedDown, sumsOf}
 use Rattle.diffusion.specs.Internal.Rows.{grayOf, dotBy}
 use Rattle.diffusion.specs.Internal.Flow.{partsOf, DotLent, DotPassed, owed, Still, RowAt, DotsPassed}
-use Rattle.diffusion.proofs.SumsCorrect.{part-small, part-of-128, rest-small, right-small, value-small}
+use Rattle.diffusion.proofs.SumsCorrect.{part-small, rest-small, right-small, value-small}
 
 -- the parts' digits
 pub parts-still : (b : ℕ) → b ≤ 256 → partsOf b ≡ 534552 → Still b
@@ -30,21 +30,32 @@ parts-still b h e =
     record { one = omega arith; three = omega arith; five = omega arith }
 
 -- the number that the dot at column x stores on its left, where there is a column
-pub record Stored (work : List ℤ) (x n : ℕ) (work′ : List ℤ) : Type 0 where
+pub record SumStored (work : List ℤ) (x n : ℕ) (work′ : List ℤ) : Type 0 where
   pub long : length work′ ≡ length work
   pub there : (k : ℕ) → k + 1 ≡ x → getD work′ k (pos 0) ≡ pos n
   pub else : (k : ℕ) → (k + 1 ≡ x → ⊥) → getD work′ k (pos 0) ≡ getD work k (pos 0)
 
-pub stored-none : (work : List ℤ) (x n : ℕ) → x ≤ 0 → Stored work x n work
-stored-none work x n h = record { long = refl; there = λ k e. let z : ⊥ = omega arith in absurd z; else = λ k e. refl }
-
-pub stored-left : (work : List ℤ) (x n : ℕ) (z : ℤ) → 0 < x → x ≤ length work → z ≡ pos n → Stored work x n (set work (x - 1) z)
-stored-left work x n z h l e =
+pub sum-none : (work : List ℤ) (x n : ℕ) (work′ : List ℤ) → x ≤ 0 → work′ ≡ work → SumStored work x n work′
+sum-none work x n work′ h w =
     record {
-      long = length-set work (x - 1) z;
-      there = λ k o. let u : k ≡ x - 1 = omega arith in ap (λ (m : ℕ). getD (set work (x - 1) z) m (pos 0)) u ∙ getD-set-same work (x - 1) z (pos 0) (omega arith) ∙ e;
-      else = λ k o. getD-set-other work (x - 1) k z (pos 0) (λ u. o (omega arith));
+      long = ap length w;
+      there = λ k e. let z : ⊥ = omega arith in absurd z;
+      else = λ k e. ap (λ (l : List ℤ). getD l k (pos 0)) w;
     }
+
+pub sum-left : (work : List ℤ) (x n : ℕ) (z : ℤ) (work′ : List ℤ)
+    → 0 < x → x ≤ length work → z ≡ pos n → work′ ≡ set work (x - 1) z → SumStored work x n work′
+sum-left work x n z work′ h l e w =
+    record {
+      long = ap length w ∙ length-set work (x - 1) z;
+      there = λ k o.
+          let u : k ≡ x - 1 = omega arith in
+          at k w ∙ ap (λ (m : ℕ). getD (set work (x - 1) z) m (pos 0)) u ∙ getD-set-same work (x - 1) z (pos 0) (omega arith) ∙ e;
+      else = λ k o. at k w ∙ getD-set-other work (x - 1) k z (pos 0) (λ u. o (omega arith));
+    }
+  where
+    at : {l m : List ℤ} (k : ℕ) → l ≡ m → getD l k (pos 0) ≡ getD m k (pos 0)
+    at k p = ap (λ (l : List ℤ). getD l k (pos 0)) p
 
 -- m binary digits
 digits-lt : (f : ℕ → ℕ) (m : ℕ) → ((i : ℕ) → i < m → f i ≤ 1) → appended 0 f m < 2 ^ m
@@ -56,13 +67,23 @@ digits-lt f (suc m) h =
     rw (pow-suc 2 m) (omega arith)
 
 -- the flow at a byte's start
-pub begins : (gray : List ℕ) (old : List ℤ) (x : ℕ) (f : Flow) (work : List ℤ) → RowAt gray old x f work
+pub byte-begins : (gray : List ℕ) (old : List ℤ) (x : ℕ) (f : Flow) (work : List ℤ) → RowAt gray old x f work
     → DotsPassed gray old x x (record { right = f .right; down = f .down; stirred = f .stirred; digits = 0 }) work
 unfolding appended
-begins gray old x f work a =
+byte-begins gray old x f work a =
     let e : x - x ≡ 0 = omega arith in
     record {
-      at = record { bytes = a .bytes; given = a .given; inRow = a .inRow; long = a .long; rightIs = a .rightIs; downIs = a .downIs; handed = a .handed; ahead = a .ahead; still = a .still };
+      at = record {
+        bytes = a .bytes;
+        given = a .given;
+        inRow = a .inRow;
+        long = a .long;
+        rightIs = a .rightIs;
+        downIs = a .downIs;
+        handed = a .handed;
+        ahead = a .ahead;
+        still = a .still;
+      };
       digitsIs = rw e refl;
     }
 
@@ -99,7 +120,8 @@ module _ (gray : List ℕ) (old : List ℤ) (x : ℕ) (f : Flow) (work : List �
   pub digits-small : (b : ℕ) → b ≤ x → x ≤ b + 8 → f .digits ≡ appended 0 (λ i. dotBy gray s (b + i)) (x - b) → f .digits < 2 ^ (x - b)
   digits-small b h k e =
       let l = a .inRow in
-      subst (λ (n : ℕ). n < 2 ^ (x - b)) (sym e) (digits-lt (λ i. dotBy gray s (b + i)) (x - b) (λ i m. omega (arith, value-lt (b + i) (omega arith))))
+      subst (λ (n : ℕ). n < 2 ^ (x - b)) (sym e)
+      (digits-lt (λ i. dotBy gray s (b + i)) (x - b) (λ i m. omega (arith, value-lt (b + i) (omega arith))))
 
   -- ---- the next dot
 
@@ -165,7 +187,7 @@ module _ (gray : List ℕ) (old : List ℤ) (x : ℕ) (f : Flow) (work : List �
           (λ l. let o : k ≡ x = omega arith in rw o (parts-still (restOf (valueBy g s x)) (rest-le x more) (passed .calm e .1)))
           (lt-or-le k x)
 
-      module _ (work′ : List ℤ) (st : Stored work x (r .down % 256) work′) where
+      module _ (work′ : List ℤ) (st : SumStored work x (r .down % 256) work′) where
         pub row-more : RowAt gray old (x + 1) r work′
         unfolding restBefore
         row-more =
@@ -192,39 +214,46 @@ module _ (gray : List ℕ) (old : List ℤ) (x : ℕ) (f : Flow) (work : List �
             let o : b + (x - b) ≡ x = omega arith in
             record {
               at = row-more;
-              digitsIs = passed .digitsIs ∙ one-more 0 (λ i. dotBy gray s (b + i)) (x - b) (f .digits) (valueBy g s x / 256) e (ap (dotBy gray s) (sym o))
+              digitsIs = passed .digitsIs
+                  ∙ one-more 0 (λ i. dotBy gray s (b + i)) (x - b) (f .digits) (valueBy g s x / 256) e (ap (dotBy gray s) (sym o))
                   ∙ ap (appended 0 (λ i. dotBy gray s (b + i))) (sym n);
             }
 
 -- the dots of the columns b to x, from a flow at b
-pub record Run (gray : List ℕ) (b end : ℕ) (f₀ : Flow) (work₀ : List ℤ) (x : ℕ) (f : Flow) (work : List ℤ) : Type 0 where
+pub record DotsRun (gray : List ℕ) (b end : ℕ) (f₀ : Flow) (work₀ : List ℤ) (x : ℕ) (f : Flow) (work : List ℤ) : Type 0 where
   pub from : b ≤ x
   pub to : x ≤ end
   pub passed : (old : List ℤ) → DotsPassed gray old b b f₀ work₀ → DotsPassed gray old b x f work
 
 module _ (gray : List ℕ) (b end : ℕ) (f₀ : Flow) (work₀ : List ℤ) where
-  pub run-start : b ≤ end → Run gray b end f₀ work₀ b f₀ work₀
+  pub run-start : b ≤ end → DotsRun gray b end f₀ work₀ b f₀ work₀
   run-start h = record { from = omega arith; to = h; passed = λ old p. p }
 
-  pub run-at : (x y : ℕ) (f : Flow) (work : List ℤ) → x ≡ y → Run gray b end f₀ work₀ x f work → Run gray b end f₀ work₀ y f work
-  run-at x y f work e run = subst (λ (n : ℕ). Run gray b end f₀ work₀ n f work) e run
+  pub run-at : (x y : ℕ) (f : Flow) (work : List ℤ) → x ≡ y → DotsRun gray b end f₀ work₀ x f work → DotsRun gray b end f₀ work₀ y f work
+  run-at x y f work e run = subst (λ (n : ℕ). DotsRun gray b end f₀ work₀ n f work) e run
 
-  module _ (x : ℕ) (f : Flow) (work : List ℤ) (run : Run gray b end f₀ work₀ x f work) where
+  module _ (x : ℕ) (f : Flow) (work : List ℤ) (run : DotsRun gray b end f₀ work₀ x f work) where
     -- a row in which these dots are
     module _ (old : List ℤ) (p : DotsPassed gray old b b f₀ work₀) where
       pub run-long : length work ≡ length work₀
       run-long = run .passed old p .at .long ∙ sym (p .at .long)
 
-      pub run-lent : x < length gray → x ≤ b + 8 → DotLent f (getD work x (pos 0))
-      run-lent h k =
+      digits-fit : x ≤ b + 8 → f .digits < 65536
+      digits-fit k =
           let q = run .passed old p in
           let l = run .from in
-          dot-lent gray old x f work (q .at) h (lt-of-lt-of-le (digits-small gray old x f work (q .at) b l k (q .digitsIs)) (pow-mono {i = x - b} {j = 16} (omega arith)))
+          lt-of-lt-of-le (digits-small gray old x f work (q .at) b l k (q .digitsIs)) (pow-mono {i = x - b} {j = 16} (omega arith))
 
-    pub run-more : (r : Flow) (work′ : List ℤ) → x < end → end ≤ length gray → DotPassed f (grayOf gray x + natAbs (getD work x (pos 0)) + f .right) r
-        → Stored work x (r .down % 256) work′ → Run gray b end f₀ work₀ (x + 1) r work′
-    run-more r work′ h k d st =
+      -- the sum is read as z
+      pub run-lent : (z : ℤ) → z ≡ getD work x (pos 0) → x < length gray → x ≤ b + 8 → DotLent f z
+      run-lent z e h k = subst⁻¹ (λ (i : ℤ). DotLent f i) e (dot-lent gray old x f work (run .passed old p .at) h (digits-fit k))
+
+    pub run-more : (z : ℤ) → z ≡ getD work x (pos 0) → (r : Flow) (work′ : List ℤ) → x < end → end ≤ length gray
+        → DotPassed f (grayOf gray x + natAbs z + f .right) r → SumStored work x (r .down % 256) work′
+        → DotsRun gray b end f₀ work₀ (x + 1) r work′
+    run-more z e r work′ h k t st =
         let l = run .from in
+        let d = subst (λ (i : ℤ). DotPassed f (grayOf gray x + natAbs i + f .right) r) e t in
         record {
           from = omega arith;
           to = omega arith;
@@ -232,3 +261,9 @@ module _ (gray : List ℕ) (b end : ℕ) (f₀ : Flow) (work₀ : List ℤ) wher
               let q = run .passed old p in
               dots-more gray old x f work (q .at) (omega arith) r d work′ st b l (q .digitsIs);
         }
+
+    pub run-end : end ≤ x → (old : List ℤ) → DotsPassed gray old b b f₀ work₀ → DotsPassed gray old b end f work
+    run-end h old p =
+        let l = run .to in
+        let e : x ≡ end = omega arith in
+        subst (λ (n : ℕ). DotsPassed gray old b n f work) e (run .passed old p)

@@ -7,15 +7,19 @@ ghost use lib.ListN.{length};
 ghost use Rattle.diffusion.specs.Internal.Rows.{RightTable, DownTable, RowLent, RowDithered};
 ghost use Rattle.diffusion.specs.Internal.Flow.{DotLent, DotPassed, RowAt, DotsLent, DotsPassed, BytesPassed};
 
-// What the dots so far hand on: to the next dot, plus 56; to the row below, as digits to the base 256 of which the lowest is whole; bits of what they handed down that differ from nothing; and the digits of the begun byte.
+// What the dots so far hand on, and the digits of the begun byte.
 struct Flow {
+    // To the next dot, plus 56.
     right: u32,
+    // To the row below, as digits to the base 256, of which the lowest is a whole sum.
     down: u32,
+    // The bits in which a dot's parts differ from those of no residual.
     stirred: u32,
     digits: u32,
 }
 
-// The flow after one dot more. Gray and sum are added first, in 16 bits: so the compiler does not add the part that the dot before hands on before the sum is there.
+// The flow after one dot more. Gray and sum are added first, in 16 bits: otherwise the compiler adds the sum last,
+// and the next dot waits for it.
 fn dot(rights: &[u8; 512], downs: &[u32; 512], f: Flow, gray: u8, sum: i16) -> Flow
     requires { ⌜ RightTable (now rights) × (DownTable (now downs) × DotLent f sum) ⌝ }
     ensures { λ r. ⌜ DotPassed f (gray + natAbs sum + f .right) r ⌝ }
@@ -43,7 +47,8 @@ fn dots(
     work: &mut [i16],
 ) -> Flow
     requires { ⌜ RightTable (now rights) × (DownTable (now downs) × DotsLent (now gray) x end f (now work)) ⌝ }
-    ensures { λ r. ⌜ ((old : List ℤ) → RowAt (now (gray .entry)) old x f (now (work .entry)) → DotsPassed (now (gray .entry)) old x end r (now (work .exit))) ⌝ }
+    ensures { λ r. ⌜ ((old : List ℤ) → RowAt (now (gray .entry)) old x f (now (work .entry))
+        → DotsPassed (now (gray .entry)) old x end r (now (work .exit))) ⌝ }
 {
     let mut s = Flow {
         right: f.right,
@@ -73,7 +78,8 @@ fn eight(
     work: &mut [i16],
 ) -> Flow
     requires { ⌜ RightTable (now rights) × (DownTable (now downs) × (DotsLent (now gray) x (x + 8) f (now work) × (0 < x))) ⌝ }
-    ensures { λ r. ⌜ ((old : List ℤ) → RowAt (now (gray .entry)) old x f (now (work .entry)) → DotsPassed (now (gray .entry)) old x (x + 8) r (now (work .exit))) ⌝ }
+    ensures { λ r. ⌜ ((old : List ℤ) → RowAt (now (gray .entry)) old x f (now (work .entry))
+        → DotsPassed (now (gray .entry)) old x (x + 8) r (now (work .exit))) ⌝ }
 {
     let mut s = Flow {
         right: f.right,
@@ -101,7 +107,8 @@ fn bytes(
     out: &mut [u8],
 ) -> Flow
     requires { ⌜ RightTable (now rights) × (DownTable (now downs) × RowLent (now gray) (now work) (length (now out))) ⌝ }
-    ensures { λ r. ⌜ BytesPassed (now (gray .entry)) (now (work .entry)) ((length (now (gray .entry)) - 1) / 8) (length (now (out .entry))) r (now (out .exit)) (now (work .exit)) ⌝ }
+    ensures { λ r. ⌜ BytesPassed (now (gray .entry)) (now (work .entry)) ((length (now (gray .entry)) - 1) / 8) (length (now (out .entry)))
+        r (now (out .exit)) (now (work .exit)) ⌝ }
 {
     let last = (gray.len() - 1) / 8;
     let mut f = Flow {

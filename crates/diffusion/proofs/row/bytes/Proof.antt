@@ -6,13 +6,9 @@ use native.Mathlib.Omega.{arith}
 use denote.Ref.{now}
 use lib.ListN.{length}
 use Rattle.diffusion.specs.Internal.Flow.{BytesPassed}
-use Rattle.diffusion.proofs.RowBytes.{BytesRun, row-start, bytes-start, byte-lent, byte-small, byte-more}
+use Rattle.diffusion.proofs.RowBytes.{firstFlow, BytesRun, bytes-start, byte-lent, digits-byte, bytes-more}
 use Rattle.diffusion.proofs.row.bytes.Statement.{statement}
 use Rattle.diffusion.proofs.row.bytes.Tie as tie
-use Rattle.diffusion.proofs.row.bytes.Reads as reads
-use Rattle.diffusion.proofs.row.bytes.Lts as lts
-use Rattle.diffusion.proofs.row.dots.Reads as dots-reads
-use Rattle.diffusion.proofs.row.eight.Reads as eight-reads
 
 abbrev Inv-loop : tie.InvT-loop
 Inv-loop rights downs gray work₀ out₀ last f₀ j₀ work out f j = BytesRun gray last j₀ f₀ out₀ work₀ j f out work
@@ -24,11 +20,12 @@ abbrev begun : tie.After-slice-known Inv-loop μ-loop → tie.Start Inv-loop μ-
 begun k = k .before .before
 
 -- no byte is made
-none-made : (k : tie.After-slice-known Inv-loop μ-loop) (n : ℕ) → n ≡ 0
-    → let a = begun k .args in BytesPassed (now (a .gray)) (now (a .work)) n (length (now (a .out))) (record { right = 56; down = 524288; stirred = 0; digits = 0 }) (now (a .out)) (now (a .work))
+none-made : (k : tie.After-slice-known Inv-loop μ-loop) (n : ℕ) → n ≡ 0 →
+    let a = begun k .args in
+    BytesPassed (now (a .gray)) (now (a .work)) n (length (now (a .out))) firstFlow (now (a .out)) (now (a .work))
 none-made k n e =
     let s = begun k in
-    bytes-start (now (s .args .gray)) (now (s .args .work)) (length (now (s .args .out))) (s .pre .1 .1) (λ i. let f = k .before .shared-slice-known .given i in omega arith) n (now (s .args .out)) e refl
+    bytes-start _ _ _ (s .pre .1 .1) (λ i. let f = k .before .shared-slice-known .given i in omega arith) n (now (s .args .out)) e refl
 
 some : (e : tie.Else1 Inv-loop μ-loop) → 8 * 0 + 8 ≤ length (now (begun (e .before) .args .gray))
 some e = let z = e .if1 .left in omega (arith, z)
@@ -53,7 +50,7 @@ cast-out c =
     let d = c .before .before in
     let e = d .before .before in
     let p = none-made (e .before) 0 refl in
-    omega (arith, byte-small _ _ 0 _ _ _ _ p _ _ (d .dots .ensures _ (p .at)))
+    omega (arith, digits-byte _ _ 0 _ _ _ _ p _ _ (d .dots .ensures _ (p .at)))
 
 slice-write-out : tie.Need-slice-write-out Inv-loop μ-loop
 slice-write-out c =
@@ -66,17 +63,21 @@ loop-holds c =
     record { from = omega arith; to = omega (arith, some e); passed = λ old room p. p }
 
 -- the bytes so far
-made : (l : tie.At-loop Inv-loop μ-loop) → let a = start l .args in BytesPassed (now (a .gray)) (now (a .work)) (l .loop .j) (length (now (a .out))) (l .loop .f) (l .loop .out) (l .loop .work)
+made : (l : tie.At-loop Inv-loop μ-loop) →
+    let a = start l .args in
+    BytesPassed (now (a .gray)) (now (a .work)) (l .loop .j) (length (now (a .out))) (l .loop .f) (l .loop .out) (l .loop .work)
 made l =
     let d = l .before .before .before in
     let e = d .before .before in
     let s = begun (e .before) in
     let p = none-made (e .before) 0 refl in
     l .loop .inv .passed (now (s .args .work)) (length (now (s .args .out)))
-    (byte-more _ _ 0 _ _ _ _ p _ _ (d .dots .ensures _ (p .at)) (some e) (omega (arith, some e, s .pre .1 .1 .room)))
+    (bytes-more _ _ 0 _ _ _ _ p _ _ (d .dots .ensures _ (p .at)) (some e) (omega (arith, some e, s .pre .1 .1 .room)))
 
 -- there are the dots of a byte more
-there : (l : tie.At-loop Inv-loop μ-loop) → l .loop .j < (length (now (start l .args .gray)) - 1) / 8 → 8 * l .loop .j + 8 ≤ length (now (start l .args .gray))
+there : (l : tie.At-loop Inv-loop μ-loop) →
+    let w = length (now (start l .args .gray)) in
+    l .loop .j < (w - 1) / 8 → 8 * l .loop .j + 8 ≤ w
 there l h = omega arith
 
 mul-eight : tie.Need-mul-eight Inv-loop μ-loop
@@ -86,13 +87,14 @@ eight-requires : tie.Need-eight-requires Inv-loop μ-loop
 eight-requires c κs =
     let l = c .before .before in
     let s = start l in
-    (s .pre .0, (s .pre .1 .0, (byte-lent _ _ _ _ _ _ _ (made l) (s .pre .1 .1 .kept) (there l (c .before .loop-test .taken)), omega (arith, l .loop .inv .from))))
+    let q = byte-lent _ _ _ _ _ _ _ (made l) (s .pre .1 .1 .kept) (there l (c .before .loop-test .taken)) in
+    (s .pre .0, (s .pre .1 .0, (q, omega (arith, l .loop .inv .from))))
 
 cast-out-2 : tie.Need-cast-out-2 Inv-loop μ-loop
 cast-out-2 c =
     let d = c .before .before in
     let l = d .before .before .before in
-    omega (arith, byte-small _ _ _ _ _ _ _ (made l) _ _ (d .eight .ensures _ (made l .at)))
+    omega (arith, digits-byte _ _ _ _ _ _ _ (made l) _ _ (d .eight .ensures _ (made l .at)))
 
 -- there is room for a byte more
 fits : (l : tie.At-loop Inv-loop μ-loop) → l .loop .j < (length (now (start l .args .gray)) - 1) / 8 → l .loop .j < length (l .loop .out)
@@ -128,7 +130,7 @@ loop-again c =
       to = omega (arith, t);
       passed = λ old room p.
           let q = v .passed old room p in
-          byte-more _ _ _ _ _ _ _ q _ _ (d .eight .ensures old (q .at)) (there l t) (omega (arith, fits l t, q .outLong));
+          bytes-more _ _ _ _ _ _ _ q _ _ (d .eight .ensures old (q .at)) (there l t) (omega (arith, fits l t, q .outLong));
     }
 
 same-length : tie.Need-same-length Inv-loop μ-loop
@@ -142,7 +144,9 @@ returns-2 c =
     let l = c .before in
     let a = start l .args in
     let e : l .loop .j ≡ (length (now (a .gray)) - 1) / 8 = omega (arith, l .loop .inv .to, c .loop-test .left) in
-    subst (λ (n : ℕ). BytesPassed (now (a .gray)) (now (a .work)) n (length (now (a .out))) (l .loop .f) (l .loop .out) (l .loop .work)) e (made l)
+    subst
+    (λ (n : ℕ). BytesPassed (now (a .gray)) (now (a .work)) n (length (now (a .out))) (l .loop .f) (l .loop .out) (l .loop .work))
+    e (made l)
 
 pub bytes-spec : {M : Type 1} → statement M
 bytes-spec =

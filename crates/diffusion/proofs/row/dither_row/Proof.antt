@@ -1,21 +1,13 @@
 -- `diffusion::row::dither_row` meets its contract.
 -- Assumes nothing.
-use Prim.Native.Nat.{ℕ, _+_, _-_, _*_, _/_, _≤_, _<_}
-use mathlib.Core.Path.{_≡_, _∙_}
 use native.Mathlib.Omega.{arith}
 use borrow.Author.Tests.{eqb-true}
-use denote.Ref.{now}
-use lib.ListN.{length, length-set}
+use lib.ListN.{length-set}
 use mir.Syntax.{w16}
 use mir.ValLaws.{toZ-pos}
-use Rattle.diffusion.specs.Internal.Flow.{DotsPassed}
-use Rattle.diffusion.proofs.RowEnds.{last-lent, byte-lt, byte-is, row-dithered}
+use Rattle.diffusion.proofs.RowEnds.{last-lent, shifted-small, shifted-is, row-dithered}
 use Rattle.diffusion.proofs.row.dither_row.Statement.{statement}
 use Rattle.diffusion.proofs.row.dither_row.Tie as tie
-use Rattle.diffusion.proofs.row.dither_row.Reads as reads
-use Rattle.diffusion.proofs.row.dither_row.Lts as lts
-use Rattle.diffusion.proofs.row.bytes.Reads as bytes-reads
-use Rattle.diffusion.proofs.row.dots.Reads as dots-reads
 
 abbrev start : tie.After-bytes → tie.Start
 start b = b .before .before .before .before .before
@@ -57,7 +49,7 @@ cast-out c =
     let b = filled d in
     let p = b .bytes .ensures in
     let q = d .dots .ensures _ (p .at) in
-    rw (byte-is _ _ _ (start b .pre .1 .1) _ _ _ p _ _ q) (record { fits = byte-lt _ _ _ (start b .pre .1 .1) _ _ _ p _ _ q })
+    rw (shifted-is _ _ _ (start b .pre .1 .1) _ _ _ p _ _ q) (record { fits = shifted-small _ _ _ (start b .pre .1 .1) _ _ _ p _ _ q })
 
 slice-write-out : tie.Need-slice-write-out
 slice-write-out c =
@@ -98,7 +90,8 @@ returns c =
     let s = start b in
     let p = b .bytes .ensures in
     let q = d .dots .ensures _ (p .at) in
-    row-dithered _ _ _ (s .pre .1 .1) _ _ _ p _ _ q _ _ (byte-is _ _ _ (s .pre .1 .1) _ _ _ p _ _ q) (toZ-pos w16 _ (omega arith)) _ (eqb-true _ 0)
+    let l = s .pre .1 .1 in
+    row-dithered _ _ _ l _ _ _ p _ _ q _ _ (shifted-is _ _ _ l _ _ _ p _ _ q) (toZ-pos w16 _ (omega arith)) _ (eqb-true _ 0)
 
 pub dither-row-spec : {M : Type 1} → statement M
 dither-row-spec =

@@ -1,7 +1,7 @@
 -- `diffusion::row::dot` meets its contract.
 -- Assumes nothing.
 use Prim.Native.Nat.{ℕ, _+_, _<_}
-use mathlib.Core.Path.{_≡_, subst}
+use mathlib.Core.Path.{_≡_}
 use native.Mathlib.Omega.{arith}
 use borrow.Author.Needs.{needs}
 use denote.Ref.{now}
@@ -10,12 +10,10 @@ use lib.ListN.{getD}
 use mir.Syntax.{w16}
 use mir.Val.{toZ, ofZ}
 use mir.ValLaws.{toZ-ofZ}
-use Rattle.diffusion.proofs.DotStep.{sum-fits, parts-lt, index-lt, dot-passed}
+use Rattle.diffusion.proofs.DotStep.{sum-fits, parts-lt, index-in, dot-passed}
 use Rattle.diffusion.proofs.SumsCorrect.{part-small, rest-small}
 use Rattle.diffusion.proofs.row.dot.Statement.{statement}
 use Rattle.diffusion.proofs.row.dot.Tie as tie
-use Rattle.diffusion.proofs.row.dot.Reads as reads
-use Rattle.diffusion.proofs.row.dot.Lts as lts
 
 same : (s : tie.Start) → toZ w16 (ofZ w16 (s .args .sum)) ≡ s .args .sum
 same s = toZ-ofZ w16 (s .args .sum) (s .fits .sum)
@@ -24,7 +22,7 @@ abbrev index : tie.Start → ℕ
 index s = s .args .gray + natAbs (toZ w16 (ofZ w16 (s .args .sum))) + s .args .f .right
 
 below : (s : tie.Start) → index s < 512
-below s = index-lt (now (s .args .rights)) (now (s .args .downs)) (s .args .f) (s .args .gray) _ (s .args .sum) (same s) (s .pre .1 .1) (omega arith)
+below s = let a = s .args in index-in (now (a .rights)) (now (a .downs)) (a .f) (a .gray) _ (a .sum) (same s) (s .pre .1 .1) (omega arith)
 
 entry : (s : tie.Start) → getD (now (s .args .downs)) (index s) 0 < 1069105
 entry s = omega (arith, s .pre .1 .0 (index s) (below s), parts-lt (index s) (below s))
@@ -70,7 +68,9 @@ add-t25 c = let s = c .before .before .before .before .before .before in omega (
 returns : tie.Need-returns
 returns c =
     let s = c .before .before .before .before .before .before in
-    dot-passed (now (s .args .rights)) (now (s .args .downs)) (s .args .f) (s .args .gray) _ (s .args .sum) (same s) (s .pre .1 .1) (omega arith) (s .pre .0) (s .pre .1 .0)
+    let a = s .args in
+    let p = s .pre in
+    dot-passed (now (a .rights)) (now (a .downs)) (a .f) (a .gray) _ (a .sum) (same s) (p .1 .1) (omega arith) (p .0) (p .1 .0)
 
 pub dot-spec : {M : Type 1} → statement M
 dot-spec =

@@ -1,26 +1,21 @@
 -- `diffusion::row::dots` meets its contract.
 -- Assumes nothing.
-use Prim.Native.Nat.{ℕ, _+_, _-_, _%_, _≤_, _<_}
-use mathlib.Core.Path.{_≡_, refl, sym, _∙_, subst, subst⁻¹}
-use mathlib.Core.List.{List}
+use Prim.Native.Nat.{_-_, _<_}
+use mathlib.Core.Path.{_≡_}
 use mathlib.Core.Logic.{⊎-elim}
 use native.Mathlib.Omega.{arith}
 use denote.Ref.{now}
-use lib.IntN.{ℤ, pos, natAbs}
+use lib.IntN.{pos}
 use lib.ListN.{length, getD}
 use mir.Syntax.{w16}
 use mir.Val.{toZ, ofZ}
 use mir.ValLaws.{toZ-ofZ, toZ-pos}
-use Rattle.diffusion.specs.Internal.Flow.{DotLent, DotPassed, DotsPassed}
-use Rattle.diffusion.proofs.RowGrows.{Run, Stored, begins, run-start, run-long, run-lent, run-more, stored-none, stored-left}
+use Rattle.diffusion.proofs.RowGrows.{DotsRun, byte-begins, run-start, run-long, run-lent, run-more, run-end, sum-none, sum-left}
 use Rattle.diffusion.proofs.row.dots.Statement.{statement}
 use Rattle.diffusion.proofs.row.dots.Tie as tie
-use Rattle.diffusion.proofs.row.dots.Reads as reads
-use Rattle.diffusion.proofs.row.dots.Lts as lts
-use Rattle.diffusion.proofs.row.dot.Reads as dot-reads
 
 abbrev Inv-loop : tie.InvT-loop
-Inv-loop rights downs gray x end work₀ s₀ i₀ work s i = Run gray x end s₀ work₀ i s work
+Inv-loop rights downs gray x end work₀ s₀ i₀ work s i = DotsRun gray x end s₀ work₀ i s work
 
 abbrev μ-loop : tie.MeasureT-loop
 μ-loop rights downs gray x end work₀ s₀ i₀ work s i = end - i
@@ -33,7 +28,7 @@ long : (l : tie.At-loop Inv-loop μ-loop) → length (l .loop .work) ≡ length 
 long l =
     let s = start l in
     let p = s .pre .1 .1 in
-    run-long _ _ _ _ _ _ _ _ (l .loop .inv) (p .old) (begins _ _ _ _ _ (p .at))
+    run-long _ _ _ _ _ _ _ _ (l .loop .inv) (p .old) (byte-begins _ _ _ _ _ (p .at))
 
 in-row : (l : tie.At-loop Inv-loop μ-loop) → l .loop .i < start l .args .end → l .loop .i < length (now (start l .args .gray))
 in-row l h = omega (arith, start l .pre .1 .1 .inRow)
@@ -53,19 +48,24 @@ mul-dot c = let l = c .before .before in omega (arith, in-work l (c .before .loo
 slice-copy-out-dot : tie.Need-slice-copy-out-dot Inv-loop μ-loop
 slice-copy-out-dot c = in-work (c .before .before) (c .before .loop-test .taken)
 
-same-sum : (c : tie.After-dot-arg Inv-loop μ-loop) → let l = c .before .before .before in let z = getD (l .loop .work) (l .loop .i) (pos 0) in toZ w16 (ofZ w16 z) ≡ z
+-- the sum is read as it is held
+same-sum : (c : tie.After-dot-arg Inv-loop μ-loop) →
+    let l = c .before .before .before in
+    let z = getD (l .loop .work) (l .loop .i) (pos 0) in
+    toZ w16 (ofZ w16 z) ≡ z
 same-sum c = toZ-ofZ w16 _ (record { sfits = c .dot-arg .given })
 
 dot-requires : tie.Need-dot-requires Inv-loop μ-loop
 dot-requires c κs =
     let l = c .before .before .before in
     let s = start l in
-    let p = s .pre .1 .1 in (
+    let p = s .pre .1 .1 in
+    let t = c .before .before .loop-test .taken in
+    let b = byte-begins _ _ _ _ _ (p .at) in (
       s .pre .0,
       (
         s .pre .1 .0,
-        subst⁻¹ (λ (z : ℤ). DotLent (l .loop .s) z) (same-sum c)
-            (run-lent _ _ _ _ _ _ _ _ (l .loop .inv) (p .old) (begins _ _ _ _ _ (p .at)) (in-row l (c .before .before .loop-test .taken)) (omega (arith, p .oneByte))),
+        run-lent _ _ _ _ _ _ _ _ (l .loop .inv) (p .old) b _ (same-sum c) (in-row l t) (omega (arith, p .oneByte)),
       ),
     )
 
@@ -102,23 +102,17 @@ loop-again c =
     let l = d .before .before .before .before in
     let s = start l in
     let t = d .before .before .before .loop-test .taken in
-    run-more _ _ _ _ _ _ _ _ (l .loop .inv) _ _ t (s .pre .1 .1 .inRow)
-    (subst (λ (z : ℤ). DotPassed (l .loop .s) (getD (now (s .args .gray)) (l .loop .i) 0 + natAbs z + l .loop .s .right) (d .dot .result)) (same-sum (d .before)) (d .dot .ensures))
+    run-more _ _ _ _ _ _ _ _ (l .loop .inv) _ (same-sum (d .before)) _ _ t (s .pre .1 .1 .inRow) (d .dot .ensures)
     (⊎-elim
-    (λ v. subst⁻¹ (λ (w : List ℤ). Stored (l .loop .work) (l .loop .i) (d .dot .result .down % 256) w) (v .2)
-    (stored-left (l .loop .work) (l .loop .i) (d .dot .result .down % 256) _ (v .0 .taken) (omega (arith, in-work l t)) (toZ-pos w16 _ (omega arith))))
-    (λ v. subst⁻¹ (λ (w : List ℤ). Stored (l .loop .work) (l .loop .i) (d .dot .result .down % 256) w) (v .1) (stored-none _ _ _ (v .0 .left)))
+    (λ v. sum-left _ _ _ _ _ (v .0 .taken) (omega (arith, in-work l t)) (toZ-pos w16 _ (omega arith)) (v .2))
+    (λ v. sum-none _ _ _ _ (v .0 .left) (v .1))
     (c .if1 .came))
 
 same-length : tie.Need-same-length Inv-loop μ-loop
 same-length c = long (c .before)
 
 returns : tie.Need-returns Inv-loop μ-loop
-returns c =
-    let l = c .before in
-    let s = start l in
-    let e : l .loop .i ≡ s .args .end = omega (arith, l .loop .inv .to, c .loop-test .left) in
-    λ old a. subst (λ (n : ℕ). DotsPassed (now (s .args .gray)) old (s .args .x) n (l .loop .s) (l .loop .work)) e (l .loop .inv .passed old (begins _ _ _ _ _ a))
+returns c = λ old a. run-end _ _ _ _ _ _ _ _ (c .before .loop .inv) (c .loop-test .left) old (byte-begins _ _ _ _ _ a)
 
 pub dots-spec : {M : Type 1} → statement M
 dots-spec =

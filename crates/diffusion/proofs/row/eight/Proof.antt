@@ -1,25 +1,21 @@
 -- `diffusion::row::eight` meets its contract.
 -- Assumes nothing.
-use Prim.Native.Nat.{ℕ, _+_, _-_, _%_, _≤_, _<_}
-use mathlib.Core.Path.{_≡_, subst, subst⁻¹}
+use Prim.Native.Nat.{_+_, _-_, _<_}
+use mathlib.Core.Path.{_≡_, refl}
 use native.Mathlib.Nat.{add-zero}
 use native.Mathlib.Omega.{arith}
 use denote.Ref.{now}
-use lib.IntN.{ℤ, pos, natAbs}
+use lib.IntN.{pos}
 use lib.ListN.{length, getD}
 use mir.Syntax.{w16}
 use mir.Val.{toZ, ofZ}
 use mir.ValLaws.{toZ-ofZ, toZ-pos}
-use Rattle.diffusion.specs.Internal.Flow.{DotLent, DotPassed, DotsPassed}
-use Rattle.diffusion.proofs.RowGrows.{Run, begins, run-start, run-at, run-long, run-lent, run-more, stored-left}
+use Rattle.diffusion.proofs.RowGrows.{DotsRun, byte-begins, run-start, run-at, run-long, run-lent, run-more, run-end, sum-left}
 use Rattle.diffusion.proofs.row.eight.Statement.{statement}
 use Rattle.diffusion.proofs.row.eight.Tie as tie
-use Rattle.diffusion.proofs.row.eight.Reads as reads
-use Rattle.diffusion.proofs.row.eight.Lts as lts
-use Rattle.diffusion.proofs.row.dot.Reads as dot-reads
 
 abbrev Inv-loop : tie.InvT-loop
-Inv-loop rights downs gray x work₀ s₀ i₀ work s i = Run gray x (x + 8) s₀ work₀ (x + i) s work
+Inv-loop rights downs gray x work₀ s₀ i₀ work s i = DotsRun gray x (x + 8) s₀ work₀ (x + i) s work
 
 abbrev μ-loop : tie.MeasureT-loop
 μ-loop rights downs gray x work₀ s₀ i₀ work s i = 8 - i
@@ -31,7 +27,7 @@ start l = l .before .before
 long : (l : tie.At-loop Inv-loop μ-loop) → length (l .loop .work) ≡ length (now (start l .args .work))
 long l =
     let p = start l .pre .1 .1 .0 in
-    run-long _ _ _ _ _ _ _ _ (l .loop .inv) (p .old) (begins _ _ _ _ _ (p .at))
+    run-long _ _ _ _ _ _ _ _ (l .loop .inv) (p .old) (byte-begins _ _ _ _ _ (p .at))
 
 in-row : (l : tie.At-loop Inv-loop μ-loop) → l .loop .i < 8 → start l .args .x + l .loop .i < length (now (start l .args .gray))
 in-row l h = omega (arith, start l .pre .1 .1 .0 .inRow)
@@ -54,19 +50,23 @@ mul-dot c = let l = c .before .before in omega (arith, in-work l (c .before .loo
 slice-copy-out-dot : tie.Need-slice-copy-out-dot Inv-loop μ-loop
 slice-copy-out-dot c = in-work (c .before .before) (c .before .loop-test .taken)
 
-same-sum : (c : tie.After-dot-arg Inv-loop μ-loop) → let l = c .before .before .before in let z = getD (l .loop .work) (start l .args .x + l .loop .i) (pos 0) in toZ w16 (ofZ w16 z) ≡ z
+-- the sum is read as it is held
+same-sum : (c : tie.After-dot-arg Inv-loop μ-loop) →
+    let l = c .before .before .before in
+    let z = getD (l .loop .work) (start l .args .x + l .loop .i) (pos 0) in
+    toZ w16 (ofZ w16 z) ≡ z
 same-sum c = toZ-ofZ w16 _ (record { sfits = c .dot-arg .given })
 
 dot-requires : tie.Need-dot-requires Inv-loop μ-loop
 dot-requires c κs =
     let l = c .before .before .before in
     let s = start l in
-    let p = s .pre .1 .1 .0 in (
+    let p = s .pre .1 .1 .0 in
+    let t = c .before .before .loop-test .taken in (
       s .pre .0,
       (
         s .pre .1 .0,
-        subst⁻¹ (λ (z : ℤ). DotLent (l .loop .s) z) (same-sum c)
-            (run-lent _ _ _ _ _ _ _ _ (l .loop .inv) (p .old) (begins _ _ _ _ _ (p .at)) (in-row l (c .before .before .loop-test .taken)) (omega (arith, c .before .before .loop-test .taken))),
+        run-lent _ _ _ _ _ _ _ _ (l .loop .inv) (p .old) (byte-begins _ _ _ _ _ (p .at)) _ (same-sum c) (in-row l t) (omega (arith, t)),
       ),
     )
 
@@ -103,19 +103,14 @@ loop-again c =
     let t = d .before .before .before .loop-test .taken in
     let e : a .x + l .loop .i + 1 ≡ a .x + (l .loop .i + 1) = omega arith in
     run-at _ _ _ _ _ _ _ _ _ e
-    (run-more _ _ _ _ _ _ _ _ (l .loop .inv) _ _ (omega arith) (s .pre .1 .1 .0 .inRow)
-    (subst (λ (z : ℤ). DotPassed (l .loop .s) (getD (now (a .gray)) (a .x + l .loop .i) 0 + natAbs z + l .loop .s .right) (d .dot .result)) (same-sum (d .before)) (d .dot .ensures))
-    (stored-left (l .loop .work) (a .x + l .loop .i) (d .dot .result .down % 256) _ (omega (arith, s .pre .1 .1 .1)) (omega (arith, in-work l t)) (toZ-pos w16 _ (omega arith))))
+    (run-more _ _ _ _ _ _ _ _ (l .loop .inv) _ (same-sum (d .before)) _ _ (omega (arith, t)) (s .pre .1 .1 .0 .inRow) (d .dot .ensures)
+    (sum-left _ _ _ _ _ (omega (arith, s .pre .1 .1 .1)) (omega (arith, in-work l t)) (toZ-pos w16 _ (omega arith)) refl))
 
 same-length : tie.Need-same-length Inv-loop μ-loop
 same-length c = long (c .before)
 
 returns : tie.Need-returns Inv-loop μ-loop
-returns c =
-    let l = c .before in
-    let s = start l in
-    let e : s .args .x + l .loop .i ≡ s .args .x + 8 = omega (arith, l .loop .inv .to, c .loop-test .left) in
-    λ old a. subst (λ (n : ℕ). DotsPassed (now (s .args .gray)) old (s .args .x) n (l .loop .s) (l .loop .work)) e (l .loop .inv .passed old (begins _ _ _ _ _ a))
+returns c = λ old a. run-end _ _ _ _ _ _ _ _ (c .before .loop .inv) (omega (arith, c .loop-test .left)) old (byte-begins _ _ _ _ _ a)
 
 pub eight-spec : {M : Type 1} → statement M
 eight-spec =
