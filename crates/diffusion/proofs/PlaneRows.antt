@@ -38,8 +38,8 @@ module _ (w : ℕ) where
   first-row : (d : ℕ → ℕ) (b : ℕ) → byteAt w d (0 * rowBytes w + b) ≡ byteAt w d b
   first-row d b = let e : 0 * rowBytes w + b ≡ b = omega arith in ap (byteAt w d) e
 
-  pub row-length : (d : ℕ → ℕ) → length (rowOf w d) ≡ rowBytes w
-  row-length d = length-upto (byteAt w d) (rowBytes w)
+  pub rowOf-length : (d : ℕ → ℕ) → length (rowOf w d) ≡ rowBytes w
+  rowOf-length d = length-upto (byteAt w d) (rowBytes w)
 
   -- a row's bytes depend on its dots only
   pub row-same : (d e : ℕ → ℕ) → ((c : ℕ) → c < w → d c ≡ e c) → rowOf w d ≡ rowOf w e

@@ -18,7 +18,7 @@ use Rattle.rules.specs.Internal.Row.{Plain}
 use Rattle.rules.proofs.Differences.{lt-or-le}
 use Rattle.diffusion.specs.Internal.Sums.{none, handedDown, sumsOf, Sums, Level}
 use Rattle.diffusion.specs.Internal.Rows.{grayOf, dotBy, rowOf, RowDithered}
-use Rattle.diffusion.specs.Internal.Planes.{handedTo, AllNone, RowBegun, RowNext}
+use Rattle.diffusion.specs.Internal.RowByRow.{handedTo, AllNone, RowBegun, RowNext}
 use Rattle.diffusion.proofs.PlaneRows.{row-same, row-alone}
 use Rattle.diffusion.proofs.SumsCorrect.{down-small, value-same, down-same, level-dot, level-down}
 
@@ -141,6 +141,6 @@ module _ (gray : List ℕ) (work : List ℤ) (out′ : List ℕ) where
             beyond = d .beyond ∙ b;
           }
 
-    pub next-row : (level t : Bool) (out₁ : List ℕ) (mid : List ℤ) (r : Bool) (work′ : List ℤ) → t ≡ false
+    pub next-from-sums : (level t : Bool) (out₁ : List ℕ) (mid : List ℤ) (r : Bool) (work′ : List ℤ) → t ≡ false
         → RowBegun level gray work t out₁ mid → RowDithered gray mid r out′ work′ → RowNext level gray work r out′ work′
-    next-row level t out₁ mid r work′ e g d = next-dithered level mid r work′ (g .sums e) (g .same e) d (g .beyond)
+    next-from-sums level t out₁ mid r work′ e g d = next-dithered level mid r work′ (g .sums e) (g .same e) d (g .beyond)

@@ -22,15 +22,15 @@ use Rattle.rules.proofs.PlaneBytes.{div-at, mod-at}
 use Rattle.rules.proofs.ListPiece.{piece, piece-length, piece-at}
 use Rattle.diffusion.specs.Internal.Sums.{none, valueBy, handedDown, Handed}
 use Rattle.diffusion.specs.Internal.Rows.{grayOf, dotBy, rowOf}
-use Rattle.diffusion.specs.Internal.Planes.{handedTo, RowNext, PlaneLent, RowsWritten}
-use Rattle.diffusion.proofs.PlaneRows.{row-length, row-same, rows-more}
+use Rattle.diffusion.specs.Internal.RowByRow.{handedTo, RowNext, PlaneLent, RowsWritten}
+use Rattle.diffusion.proofs.PlaneRows.{rowOf-length, row-same, rows-more}
 use Rattle.diffusion.proofs.SumsCorrect.{down-small, value-same, down-same, dot-correct, handed-first, handed-next}
 
 -- ---- the bytes
 
-pub rows-none : (w h : ℕ) (gray out : List ℕ) → RowsWritten w h gray out 0 out
+pub rows-unwritten : (w h : ℕ) (gray out : List ℕ) → RowsWritten w h gray out 0 out
 unfolding upto
-rows-none w h gray out =
+rows-unwritten w h gray out =
     let e : 0 * rowBytes w ≡ 0 = omega arith in
     record {
       rows = ap (λ (n : ℕ). take n out) e ∙ ap (λ (n : ℕ). upto n (byteAt w (ditherBit w gray))) (sym e);
@@ -177,15 +177,15 @@ pub record RowsAt (w h : ℕ) (gray out₀ : List ℕ) (sums : ℕ → ℕ) (out
 -- row y of the plane
 module _ {w h : ℕ} {gray out₀ : List ℕ} {sums : ℕ → ℕ} {out : List ℕ} {at to y : ℕ} (lent : PlaneLent w h (length gray) (length out₀))
     (i : RowsAt w h gray out₀ sums out at to y) (l : y < h) where
-  pub row-there : at + w ≤ length gray
-  row-there =
+  pub row-lent : at + w ≤ length gray
+  row-lent =
       let a = lent .there in
       let b = i .atIs in
       let m = mul-comm w h in
       omega (arith, up-to w y h l)
 
-  pub row-room : to + rowBytes w ≤ length out
-  row-room =
+  pub row-fits : to + rowBytes w ≤ length out
+  row-fits =
       let a = lent .room in
       let b = i .toIs in
       let n = i .written .long in
@@ -195,7 +195,7 @@ module _ {w h : ℕ} {gray out₀ : List ℕ} {sums : ℕ → ℕ} {out : List �
   row = piece gray at w
 
   row-long : length row ≡ w
-  row-long = piece-length gray at w row-there
+  row-long = piece-length gray at w row-lent
 
   shade-is : (x : ℕ) → x < w → getD row x 0 ≡ scanOf w gray x y
   shade-is x k = sym (piece-at gray at w x k) ∙ ap (λ (n : ℕ). getD gray (n + x) 0) (i .atIs)
@@ -215,7 +215,7 @@ module _ {w h : ℕ} {gray out₀ : List ℕ} {sums : ℕ → ℕ} {out : List �
       next-rows sums′ e d =
           let shade : ℕ → ℕ = λ c. scanOf w gray c y in
           let f : new ≡ rowOf w (dotBy row sums) = subst (λ (n : ℕ). new ≡ rowOf n (dotBy row sums)) row-long e in
-          let long : length new ≡ rowBytes w = ap length f ∙ row-length w (dotBy row sums) in
+          let long : length new ≡ rowBytes w = ap length f ∙ rowOf-length w (dotBy row sums) in
           let g : new ≡ rowOf w (λ x. ditherBit w gray (y * w + x)) =
           f
           ∙ row-same w (dotBy row sums) (λ x. valueBy shade sums x / 256)

@@ -6,7 +6,7 @@ use lib.ListN.{length}
 use borrow.Author.Tests.{not-false}
 use Rattle.image.specs.Geometry.{rowBytes}
 use Rattle.diffusion.specs.Internal.Sums.{none}
-use Rattle.diffusion.proofs.RowsLoop.{RowsAt, row-there, row-room}
+use Rattle.diffusion.proofs.RowsLoop.{RowsAt, row-lent, row-fits}
 use Rattle.diffusion.proofs.RowsGoing.{plain-begun, plain-more, plain-end}
 use Rattle.diffusion.proofs.rows.plain_rows.Statement.{statement}
 use Rattle.diffusion.proofs.rows.plain_rows.Tie as tie
@@ -25,10 +25,10 @@ start c = c .before .before .before .before
 
 -- row y is among the samples, and has room in the output
 there : (c : tie.In-loop Inv-loop μ-loop) → c .before .loop .at + start c .args .width ≤ length (now (start c .args .gray))
-there c = row-there (start c .pre) (c .before .loop .inv) (c .loop-test .taken)
+there c = row-lent (start c .pre) (c .before .loop .inv) (c .loop-test .taken)
 
 room : (c : tie.In-loop Inv-loop μ-loop) → c .before .loop .to + rowBytes (start c .args .width) ≤ length (c .before .loop .out)
-room c = row-room (start c .pre) (c .before .loop .inv) (c .loop-test .taken)
+room c = row-fits (start c .pre) (c .before .loop .inv) (c .loop-test .taken)
 
 loop-holds : tie.Need-loop-holds Inv-loop μ-loop
 loop-holds c =
