@@ -149,14 +149,17 @@ module _ (rule : Quantize) (w h : ℕ) (gray out : List ℕ) (work : List ℤ) (
     -- a plane that was written at once, whatever gives its dots
     pub quantizes-plane : rowBytes w * h ≤ length out → (d : ℕ → ℕ) (out′ : List ℕ) (work′ : List ℤ)
         → finished (setting rule w h 1) (take (w * h) gray) ≡ plane w h d → out′ ≡ planeIn w h d (length gray) out
-        → drop w work′ ≡ drop w work → (carries (meaning rule) ≡ false → work′ ≡ work) → Quantizes rule w h gray out work (gives (rowBytes w * h)) out′ work′
+        → drop w work′ ≡ drop w work → (carries (meaning rule) ≡ false → work′ ≡ work)
+        → Quantizes rule w h gray out work (gives (rowBytes w * h)) out′ work′
     quantizes-plane l d out′ work′ f o b c =
         let k = plane-long rule w h (p .wide) (p .high) gray (p .enough) in
         let m = mul-comm (rowBytes w) h in
         record {
           emits = subst (λ (a : Answer (List ℕ)). Emits a (gives (rowBytes w * h)) out out′) (sym (given-is z))
               (emits-all _ out out′ (rowBytes w * h) (omega arith) (m ∙ sym k)
-              (o ∙ plane-in w h d (length gray) out (p .enough, omega arith) ∙ ap₂ (λ (x : List ℕ) (n : ℕ). x ++ drop n out) (sym f) (sym k)));
+              (o
+              ∙ plane-in w h d (length gray) out (p .enough, omega arith)
+              ∙ ap₂ (λ (x : List ℕ) (n : ℕ). x ++ drop n out) (sym f) (sym k)));
           beyond = b;
           spared = c;
           refused = λ code place f. zero-one (cc);

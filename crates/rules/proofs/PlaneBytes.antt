@@ -55,11 +55,13 @@ module _ (w : ℕ) (d : ℕ → ℕ) (q : ℕ) where
       byte-at w d q (w / 8) (omega arith)
       ∙ ap (digits f) (sym e)
       ∙ digits-tail f (w % 8) (8 - w % 8) (λ i l. bit-past w d q (8 * (w / 8) + i) (omega arith))
-      ∙ ap (λ (n : ℕ). n * 2 ^ (8 - w % 8)) (appended-ext 0 f (λ i. d (q * w + 8 * (w / 8) + i)) (w % 8) (λ i l. dot-in (w / 8) i (omega arith)))
+      ∙ ap (λ (n : ℕ). n * 2 ^ (8 - w % 8))
+      (appended-ext 0 f (λ i. d (q * w + 8 * (w / 8) + i)) (w % 8) (λ i l. dot-in (w / 8) i (omega arith)))
 
 -- ---- a row's last byte cut from eight dots
 
-pub masked : (w : ℕ) (f : ℕ → ℕ) → ((i : ℕ) → f i ≤ 1) → 0 < w % 8 → bitAnd (digits f 8) (paddingMask w) ≡ digits f (w % 8) * 2 ^ (8 - w % 8)
+pub masked : (w : ℕ) (f : ℕ → ℕ) → ((i : ℕ) → f i ≤ 1) → 0 < w % 8
+    → bitAnd (digits f 8) (paddingMask w) ≡ digits f (w % 8) * 2 ^ (8 - w % 8)
 masked w f low h =
     let p : paddingBits w ≡ 8 - w % 8 = omega arith in
     let e : w % 8 + (8 - w % 8) ≡ 8 = omega arith in

@@ -16,7 +16,7 @@ use Rattle.image.specs.Geometry.{rowBytes, planeBytes, paddingMask}
 use Rattle.rules.specs.Bits.{digits, appended}
 use Rattle.rules.specs.Packed.{byteAt}
 use Rattle.rules.specs.Internal.Kernels.{thresholdBit, thresholdFrom, stored}
-use Rattle.rules.specs.Internal.Planes.{PlaneFits, planeAt, planeIn, endingByte}
+use Rattle.rules.specs.Internal.Planes.{PlaneFits, planeAt, planeIn, endingByte, endedRow, maskedRow}
 use Rattle.rules.proofs.DigitsAppended.{bit-le, appended-lt, shifted-lt}
 use Rattle.rules.proofs.ListPiece.{piece}
 use Rattle.rules.proofs.PlaneBytes.{byte-whole, byte-ending, masked}
@@ -35,7 +35,8 @@ module _ (w h : ℕ) (d : ℕ → ℕ) (samples : ℕ) (out : List ℕ) where
   pub plane-unheld : length out < planeBytes w h → planeIn w h d samples out ≡ out
   plane-unheld l =
       let e = mul-comm (rowBytes w) h in
-      if-false _ _ _ (ap (λ t. leb (w * h) samples && t) (lt-leb (h * rowBytes w) (length out) (omega arith)) ∙ and-false (leb (w * h) samples))
+      let k = lt-leb (h * rowBytes w) (length out) (omega arith) in
+      if-false _ _ _ (ap (λ t. leb (w * h) samples && t) k ∙ and-false (leb (w * h) samples))
 
 module _ (t : ℕ) (gray : List ℕ) where
   abbrev dots : ℕ → ℕ
@@ -58,7 +59,8 @@ module _ (t : ℕ) (gray : List ℕ) where
       let a : i * 1 + 0 ≡ i = omega arith in
       let b : i * 2 + 0 + 0 ≡ 2 * i = omega arith in
       let c : i * 2 + 0 + 1 ≡ 2 * i + 1 = omega arith in
-      let p : byteAt 2 dots (i * 1 + 0) ≡ ((0 + dots (i * 2 + 0 + 0)) * 2 + dots (i * 2 + 0 + 1)) * 64 = byte-ending 2 dots i (omega arith) in
+      let p : byteAt 2 dots (i * 1 + 0) ≡ ((0 + dots (i * 2 + 0 + 0)) * 2 + dots (i * 2 + 0 + 1)) * 64 =
+      byte-ending 2 dots i (omega arith) in
       let q : byteAt 2 dots i ≡ ((0 + dots (2 * i)) * 2 + dots (2 * i + 1)) * 64 = rw (a, b, c) at p in
       omega arith
 
@@ -72,7 +74,8 @@ module _ (t : ℕ) (gray : List ℕ) where
   pub ending-is : (at m r : ℕ) → m ≤ 8 → at + m ≤ length gray → r ≡ appended 0 (thresholdBit t (piece gray at m)) (length (piece gray at m))
       → r * 2 ^ (8 - m) % 4294967296 ≡ endingByte t gray at m
   ending-is at m r l h e =
-      ap (λ (n : ℕ). n * 2 ^ (8 - m) % 4294967296) (e ∙ sym (digits-piece t gray at m h)) ∙ mod-eq-of-lt (lt-of-lt-of-le (ending-lt at m l) (omega arith))
+      ap (λ (n : ℕ). n * 2 ^ (8 - m) % 4294967296) (e ∙ sym (digits-piece t gray at m h))
+      ∙ mod-eq-of-lt (lt-of-lt-of-le (ending-lt at m l) (omega arith))
 
   pub ending-fits : (at m n : ℕ) → m ≤ 8 → n ≡ endingByte t gray at m → n < 256
   ending-fits at m n l e = rw e (ending-lt at m l)
@@ -93,7 +96,8 @@ module _ (t : ℕ) (gray : List ℕ) where
         let m : q * w ≡ q * rowBytes w * 8 = ap (λ (n : ℕ). q * n) (sym r) ∙ sym (mul-assoc q (rowBytes w) 8) in
         let s : q * w + 8 * b ≡ 0 + 8 * j = omega arith in
         let u : q * rowBytes w + b ≡ 0 + j = omega arith in
-        let p : byteAt w dots (q * rowBytes w + b) ≡ digits (thresholdFrom t gray (q * w + 8 * b)) 8 = byte-whole w dots q b (omega arith) in
+        let p : byteAt w dots (q * rowBytes w + b) ≡ digits (thresholdFrom t gray (q * w + 8 * b)) 8 =
+        byte-whole w dots q b (omega arith) in
         sym (rw (u, s) at p)
 
     pub flat-is : (out : List ℕ) → planeBytes w h ≤ length out → stored t gray 0 out 0 (planeBytes w h) ≡ planeAt w h dots out
@@ -114,60 +118,72 @@ pub record RowsTo (t w h : ℕ) (gray out₀ out : List ℕ) (at to y : ℕ) : T
   pub toIs : to ≡ y * rowBytes w
   pub outIs : out ≡ overlaid (y * rowBytes w) (byteAt w (thresholdBit t gray)) out₀
 
-module _ (t w h : ℕ) (gray out₀ : List ℕ) where
-  pub rows-none : RowsTo t w h gray out₀ out₀ 0 0 0
-  rows-none =
-      let e : 0 ≡ 0 * rowBytes w = omega arith in
+pub rows-none : (t w h : ℕ) (gray out₀ : List ℕ) → RowsTo t w h gray out₀ out₀ 0 0 0
+rows-none t w h gray out₀ =
+    let e : 0 ≡ 0 * rowBytes w = omega arith in
+    let f : ℕ → ℕ = byteAt w (thresholdBit t gray) in
+    record {
+      within = omega arith;
+      atIs = omega arith;
+      toIs = e;
+      outIs = overlaid-none f out₀ ∙ ap (λ (n : ℕ). overlaid n f out₀) e;
+    }
+
+-- eight dots cut by the row's mask
+pub masked-row : (t w : ℕ) (gray : List ℕ) (at : ℕ) (out : List ℕ) (to mask : ℕ) → 0 < w % 8 → mask ≡ paddingMask w
+    → maskedRow t gray at out to (w / 8) mask ≡ endedRow t gray at out to (w / 8) (w % 8)
+masked-row t w gray at out to mask odd e =
+    let p = at + 8 * (w / 8) in
+    ap (λ (v : ℕ). set (stored t gray at out to (w / 8)) (to + w / 8) v)
+    (ap (bitAnd (digits (thresholdFrom t gray p) 8)) e
+    ∙ masked w (thresholdFrom t gray p) (λ i. bit-le (leb t (getD gray (p + i) 0))) odd)
+
+module _ {t w h : ℕ} {gray out₀ : List ℕ} (fits : PlaneFits w h (length gray) (length out₀)) {out : List ℕ} {at to y : ℕ}
+    (r : RowsTo t w h gray out₀ out at to y) where
+  pub rows-length : length out ≡ length out₀
+  rows-length =
+      let l : y * rowBytes w ≤ h * rowBytes w = mul-le-mul-right (rowBytes w) (r .within) in
+      ap length (r .outIs) ∙ overlaid-length (byteAt w (thresholdBit t gray)) out₀ (y * rowBytes w) (omega (arith, fits .1))
+
+  pub rows-ended : h ≤ y → out ≡ planeAt w h (thresholdBit t gray) out₀
+  rows-ended l =
+      let e : y ≡ h = omega (arith, r .within) in
+      r .outIs ∙ ap (λ (n : ℕ). overlaid (n * rowBytes w) (byteAt w (thresholdBit t gray)) out₀) e
+
+  -- the next row's samples and bytes
+  pub row-there : y < h → at + w ≤ length gray
+  row-there l = omega (arith, up-to w y h l, mul-comm w h, fits .0, r .atIs)
+
+  pub row-room : y < h → to + rowBytes w ≤ length out
+  row-room l = omega (arith, up-to (rowBytes w) y h l, fits .1, r .toIs, rows-length)
+
+  -- the eight samples at the end of a row behind which two follow
+  pub word-there : 2 < w → 2 < h - y → at + 8 * (w / 8) + 8 ≤ length gray
+  word-there wide l =
+      let u = up-to w (y + 2) h (omega arith) in
+      let e = add-mul y 2 w in
+      omega (arith, mul-comm w h, fits .0, r .atIs)
+
+  pub row-more : (out′ : List ℕ) → 0 < w % 8 → y < h → out′ ≡ endedRow t gray at out to (w / 8) (w % 8)
+      → RowsTo t w h gray out₀ out′ (at + w) (to + (w / 8 + 1)) (y + 1)
+  row-more out′ odd l s =
       let f : ℕ → ℕ = byteAt w (thresholdBit t gray) in
-      record { within = omega arith; atIs = omega arith; toIs = e; outIs = overlaid-none f out₀ ∙ ap (λ (n : ℕ). overlaid n f out₀) e }
-
-  -- eight dots cut by the row's mask
-  pub masked-ending : (at byte mask : ℕ) → 0 < w % 8 → byte ≡ digits (thresholdFrom t gray at) 8 → mask ≡ paddingMask w → bitAnd byte mask ≡ endingByte t gray at (w % 8)
-  masked-ending at byte mask odd e m =
-      ap₂ bitAnd e m ∙ masked w (thresholdFrom t gray at) (λ i. bit-le (leb t (getD gray (at + i) 0))) odd
-
-  module _ (fits : PlaneFits w h (length gray) (length out₀)) {out : List ℕ} {at to y : ℕ} (r : RowsTo t w h gray out₀ out at to y) where
-    pub rows-length : length out ≡ length out₀
-    rows-length =
-        let l : y * rowBytes w ≤ h * rowBytes w = mul-le-mul-right (rowBytes w) (r .within) in
-        ap length (r .outIs) ∙ overlaid-length (byteAt w (thresholdBit t gray)) out₀ (y * rowBytes w) (omega (arith, fits .1))
-
-    pub rows-ended : h ≤ y → out ≡ planeAt w h (thresholdBit t gray) out₀
-    rows-ended l =
-        let e : y ≡ h = omega (arith, r .within) in
-        r .outIs ∙ ap (λ (n : ℕ). overlaid (n * rowBytes w) (byteAt w (thresholdBit t gray)) out₀) e
-
-    -- the next row's samples and bytes
-    pub row-there : y < h → at + w ≤ length gray
-    row-there l = omega (arith, up-to w y h l, mul-comm w h, fits .0, r .atIs)
-
-    pub row-room : y < h → to + rowBytes w ≤ length out
-    row-room l = omega (arith, up-to (rowBytes w) y h l, fits .1, r .toIs, rows-length)
-
-    -- the eight samples at the end of a row behind which two follow
-    pub word-there : 2 < w → 2 < h - y → at + 8 * (w / 8) + 8 ≤ length gray
-    word-there wide l =
-        let u = up-to w (y + 2) h (omega arith) in
-        let e = add-mul y 2 w in
-        omega (arith, mul-comm w h, fits .0, r .atIs)
-
-    pub row-more : (last : ℕ) (out′ : List ℕ) → 0 < w % 8 → y < h → last ≡ endingByte t gray (at + 8 * (w / 8)) (w % 8)
-        → out′ ≡ set (stored t gray at out to (w / 8)) (to + w / 8) last → RowsTo t w h gray out₀ out′ (at + w) (to + (w / 8 + 1)) (y + 1)
-    row-more last out′ odd l e s =
-        let f : ℕ → ℕ = byteAt w (thresholdBit t gray) in
-        let a = r .atIs in
-        let b = r .toIs in
-        let o = r .outIs in
-        let u = up-to (rowBytes w) y h l in
-        let k : y * rowBytes w + w / 8 < length out₀ = omega (arith, fits .1) in
-        let n : y * rowBytes w + w / 8 + 1 ≡ (y + 1) * rowBytes w = omega (arith, add-mul y 1 (rowBytes w)) in
-        record {
-          within = omega arith;
-          atIs = omega (arith, add-mul y 1 w);
-          toIs = omega arith;
-          outIs =
-              s
-              ∙ rw (o, a, b, overlaid-stored f out₀ t gray (y * w) (y * rowBytes w) (w / 8) (omega arith) (λ j m. sym (byte-whole w (thresholdBit t gray) y j (omega arith))))
-              (overlaid-next f out₀ (y * rowBytes w + w / 8) last k (e ∙ ap (λ (p : ℕ). endingByte t gray (p + 8 * (w / 8)) (w % 8)) a ∙ sym (byte-ending w (thresholdBit t gray) y odd))
-              ∙ ap (λ (m : ℕ). overlaid m f out₀) n);
-        }
+      let a = r .atIs in
+      let b = r .toIs in
+      let o = r .outIs in
+      let u = up-to (rowBytes w) y h l in
+      let k : y * rowBytes w + w / 8 < length out₀ = omega (arith, fits .1) in
+      let n : y * rowBytes w + w / 8 + 1 ≡ (y + 1) * rowBytes w = omega (arith, add-mul y 1 (rowBytes w)) in
+      let bytes = overlaid-stored f out₀ t gray (y * w) (y * rowBytes w) (w / 8) (omega arith)
+      (λ j m. sym (byte-whole w (thresholdBit t gray) y j (omega arith))) in
+      record {
+        within = omega arith;
+        atIs = omega (arith, add-mul y 1 w);
+        toIs = omega arith;
+        outIs =
+            s
+            ∙ rw (o, a, b, bytes)
+            (overlaid-next f out₀ (y * rowBytes w + w / 8) (endingByte t gray (y * w + 8 * (w / 8)) (w % 8)) k
+            (sym (byte-ending w (thresholdBit t gray) y odd))
+            ∙ ap (λ (m : ℕ). overlaid m f out₀) n);
+      }

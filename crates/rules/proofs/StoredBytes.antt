@@ -20,10 +20,12 @@ module _ (t : ℕ) (gray : List ℕ) where
       rw (e, h, f) (sym (appended-split begun (thresholdBit t gray) 8))
 
   -- the dots of m samples from an index on
-  pub digits-piece : (at m : ℕ) → at + m ≤ length gray → digits (thresholdFrom t gray at) m ≡ appended 0 (thresholdBit t (piece gray at m)) (length (piece gray at m))
+  pub digits-piece : (at m : ℕ) → at + m ≤ length gray
+      → digits (thresholdFrom t gray at) m ≡ appended 0 (thresholdBit t (piece gray at m)) (length (piece gray at m))
   digits-piece at m h =
       rw (piece-length gray at m h)
-      (appended-ext 0 (thresholdFrom t gray at) (thresholdBit t (piece gray at m)) m (λ i l. ap (λ (g : ℕ). bit (leb t g)) (piece-at gray at m i l)))
+      (appended-ext 0 (thresholdFrom t gray at) (thresholdBit t (piece gray at m)) m
+      (λ i l. ap (λ (g : ℕ). bit (leb t g)) (piece-at gray at m i l)))
 
   pub stored-length : (at : ℕ) (out : List ℕ) (to k : ℕ) → length (stored t gray at out to k) ≡ length out
   unfolding stored

@@ -44,7 +44,8 @@ module _ (f : ℕ → ℕ) (out : List ℕ) where
       ∙ ap (λ (k : ℕ). overlaid k f out) (sym (add-one n))
 
   -- so many bytes more of the threshold rule
-  pub overlaid-stored : (t : ℕ) (gray : List ℕ) (at n k : ℕ) → n + k ≤ length out → ((j : ℕ) → j < k → digits (thresholdFrom t gray (at + 8 * j)) 8 ≡ f (n + j))
+  pub overlaid-stored : (t : ℕ) (gray : List ℕ) (at n k : ℕ) → n + k ≤ length out
+      → ((j : ℕ) → j < k → digits (thresholdFrom t gray (at + 8 * j)) 8 ≡ f (n + j))
       → stored t gray at (overlaid n f out) n k ≡ overlaid (n + k) f out
   unfolding stored
   overlaid-stored t gray at n zero h e = rw add-zero

@@ -83,7 +83,8 @@ module _ (w : ℕ) (gray : List ℕ) where
         let n : m + (8 - m) ≡ 8 = omega arith in
         let k : 64 - 8 * m ≡ 8 * (8 - m) = omega arith in
         let s : 8 * m + (64 - 8 * m) ≤ 64 = omega arith in
-        let z : bytes (λ i. row (m + i)) (8 - m) ≡ 0 = bytes-none (λ i. row (m + i)) (8 - m) (λ i l. sample-past (at + (m + i)) (omega arith)) in
+        let z : bytes (λ i. row (m + i)) (8 - m) ≡ 0 =
+        bytes-none (λ i. row (m + i)) (8 - m) (λ i l. sample-past (at + (m + i)) (omega arith)) in
         let p = bytes-split row m (8 - m) in
         ap (λ (y : ℕ). y * 2 ^ (64 - 8 * m) % 18446744073709551616) e
         ∙ shl-exact (8 * m) (64 - 8 * m) 64 (bytes-lt (samplesFrom gray at) small m) s

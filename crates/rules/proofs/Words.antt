@@ -49,7 +49,8 @@ bytes-lt f h zero = omega arith
 bytes-lt f h (suc n) =
     let p = bytes-lt f h n in
     let q = h n in
-    let e : 2 ^ (8 * suc n) ≡ 2 ^ (8 * n) * 256 = sym (one-mul (2 ^ (8 * suc n))) ∙ up 1 n ∙ ap (λ (m : ℕ). m * 256) (one-mul (2 ^ (8 * n))) in
+    let e : 2 ^ (8 * suc n) ≡ 2 ^ (8 * n) * 256 =
+    sym (one-mul (2 ^ (8 * suc n))) ∙ up 1 n ∙ ap (λ (m : ℕ). m * 256) (one-mul (2 ^ (8 * n))) in
     omega arith
 
 -- what stands below m bytes

@@ -5,10 +5,10 @@ use crate::threshold::threshold_dots;
 use image::PlaneLayout;
 ghost use mathlib.Core.Path.{_≡_};
 ghost use Prim.Native.Nat.{_+_, _*_, _/_, _%_, _≤_, _<_};
-ghost use lib.ListN.{length, set};
+ghost use lib.ListN.{length};
 ghost use Rattle.image.specs.Geometry.{paddingMask};
-ghost use Rattle.rules.specs.Internal.Kernels.{thresholdBit, stored};
-ghost use Rattle.rules.specs.Internal.Planes.{PlaneFits, planeAt, planeIn, endingByte};
+ghost use Rattle.rules.specs.Internal.Kernels.{thresholdBit};
+ghost use Rattle.rules.specs.Internal.Planes.{PlaneFits, planeAt, planeIn, endingByte, endedRow, maskedRow};
 
 // A sample's dot as a bit of a byte.
 fn dot_bit(bound: u8, gray: &[u8], at: usize, bit: u8) -> u8
@@ -52,8 +52,8 @@ fn ending_byte(bound: u8, gray: &[u8], at: usize, tail: usize) -> u8
     (dots << (8 - tail as u32)) as u8
 }
 
-// A row: so many bytes of the samples from index `at` on, and its last byte, into the output from index `to` on. It has a loop of its own
-// so that no row costs a call.
+// A row: so many bytes of the samples from index `at` on, and its last byte, cut from one by the mask, into the output from index `to` on.
+// It has a loop of its own, so that no row costs a call.
 fn threshold_row(
     bound: u8,
     gray: &[u8],
@@ -61,10 +61,10 @@ fn threshold_row(
     out: &mut [u8],
     to: usize,
     count: usize,
-    last: u8,
+    mask: u8,
 )
-    requires { ⌜ (at + 8 * count ≤ length (now gray)) × (to + count < length (now out)) ⌝ }
-    ensures { λ r. ⌜ now (out .exit) ≡ set (stored bound (now (gray .entry)) at (now (out .entry)) to count) (to + count) last ⌝ }
+    requires { ⌜ (at + 8 * count + 8 ≤ length (now gray)) × (to + count < length (now out)) ⌝ }
+    ensures { λ r. ⌜ now (out .exit) ≡ maskedRow bound (now (gray .entry)) at (now (out .entry)) to count mask ⌝ }
 {
     let mut k: usize = 0;
     while k < count {
@@ -74,13 +74,13 @@ fn threshold_row(
         k += 1;
     }
     let end = to + count;
-    out[end] = last;
+    out[end] = byte(bound, gray, at + 8 * count) & mask;
 }
 
 // A row behind whose samples none may follow.
 fn last_row(bound: u8, width: usize, gray: &[u8], at: usize, out: &mut [u8], to: usize)
     requires { ⌜ (at + width ≤ length (now gray)) × (to + width / 8 < length (now out)) ⌝ }
-    ensures { λ r. ⌜ now (out .exit) ≡ set (stored bound (now (gray .entry)) at (now (out .entry)) to (width / 8)) (to + width / 8) (endingByte bound (now (gray .entry)) (at + 8 * (width / 8)) (width % 8)) ⌝ }
+    ensures { λ r. ⌜ now (out .exit) ≡ endedRow bound (now (gray .entry)) at (now (out .entry)) to (width / 8) (width % 8) ⌝ }
 {
     let count = width / 8;
     threshold_bytes(bound, gray, at, out, to, count);
@@ -99,8 +99,7 @@ fn threshold_rows(bound: u8, width: usize, height: usize, mask: u8, gray: &[u8],
     let mut to: usize = 0;
     let mut y: usize = 0;
     while 2 < height - y {
-        let last = byte(bound, gray, at + 8 * count) & mask;
-        threshold_row(bound, gray, at, out, to, count, last);
+        threshold_row(bound, gray, at, out, to, count, mask);
         at += width;
         to += count + 1;
         y += 1;

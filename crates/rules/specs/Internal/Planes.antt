@@ -3,15 +3,16 @@ use Prim.Native.Nat.{ℕ, _+_, _-_, _*_, _%_, _/_, _^_, _≤_}
 use mathlib.Core.Path.{_≡_}
 use mathlib.Core.Bool.{Bool, true, _&&_}
 use mathlib.Core.List.{List, _++_}
+use lib.Bits.{bitAnd}
 use lib.Dec.{leb, ltb}
-use lib.ListN.{length, getD, drop}
+use lib.ListN.{length, getD, drop, set}
 use Rattle.error.specs.Choice.{if}
 use Rattle.image.specs.Geometry.{rowBytes}
 use Rattle.rules.specs.Bits.{upto, bit, digits}
 use Rattle.rules.specs.Diffusion.{Scan, white, valueAt}
 use Rattle.rules.specs.Packed.{byteAt}
 use Rattle.rules.specs.Rule.{rightwards}
-use Rattle.rules.specs.Internal.Kernels.{thresholdBit, thresholdFrom}
+use Rattle.rules.specs.Internal.Kernels.{thresholdBit, thresholdFrom, stored}
 use Rattle.rules.specs.Internal.Row.{Plain}
 
 -- the bytes of h rows of w dots, where the dot of sample n is d n
@@ -34,6 +35,15 @@ PlaneFits w h samples bytes = (w * h ≤ samples) × (h * rowBytes w ≤ bytes)
 abbrev pub endingByte : ℕ → List ℕ → ℕ → ℕ → ℕ
 endingByte t gray at m = digits (thresholdFrom t gray at) m * 2 ^ (8 - m)
 
+-- a row of so many bytes from an index on, and that last byte
+abbrev pub endedRow : ℕ → List ℕ → ℕ → List ℕ → ℕ → ℕ → ℕ → List ℕ
+endedRow t gray at out to count m = set (stored t gray at out to count) (to + count) (endingByte t gray (at + 8 * count) m)
+
+-- the same, its last byte cut from eight dots by a mask
+abbrev pub maskedRow : ℕ → List ℕ → ℕ → List ℕ → ℕ → ℕ → ℕ → List ℕ
+maskedRow t gray at out to count mask =
+    set (stored t gray at out to count) (to + count) (bitAnd (digits (thresholdFrom t gray (at + 8 * count)) 8) mask)
+
 -- the scan whose samples stand row by row in a list
 abbrev pub scanOf : ℕ → List ℕ → Scan
 scanOf w gray x y = getD gray (y * w + x) 0
@@ -46,7 +56,8 @@ ditherBit w gray n = bit (white (valueAt rightwards w (scanOf w gray) (n % w) (n
 abbrev pub rowSample : ℕ → List ℕ → ℕ → ℕ
 rowSample w gray c = if (ltb c w) (getD gray c 0) 0
 
--- r says whether there are w samples, with room for their row, and they are black and white alone: then the row is written, white where a sample is white
+-- r says whether there are w samples, with room for their row, and they are black and white alone: then the row is written, white where a
+-- sample is white
 pub record PlainRow (w : ℕ) (gray out : List ℕ) (r : Bool) (out′ : List ℕ) : Type 0 where
   pub beyond : drop (rowBytes w) out′ ≡ drop (rowBytes w) out
   pub there : r ≡ true → (w ≤ length gray) × (rowBytes w ≤ length out)

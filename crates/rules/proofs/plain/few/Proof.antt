@@ -22,8 +22,8 @@ abbrev start : tie.At-loop Inv-loop μ-loop → tie.Start Inv-loop μ-loop
 start l = l .before
 
 -- the samples so far fit seven bytes
-low : (l : tie.At-loop Inv-loop μ-loop) → Below 256 (samplesFrom (now (start l .args .gray)) (start l .args .at)) → l .loop .i < start l .args .count
-    → l .loop .samples < 2 ^ 56
+low : (l : tie.At-loop Inv-loop μ-loop) → Below 256 (samplesFrom (now (start l .args .gray)) (start l .args .at))
+    → l .loop .i < start l .args .count → l .loop .samples < 2 ^ 56
 low l small h =
     subst (λ (n : ℕ). n < 2 ^ 56) (sym (l .loop .inv .1))
     (lt-of-lt-of-le (bytes-lt (samplesFrom (now (start l .args .gray)) (start l .args .at)) small (l .loop .i))
@@ -42,13 +42,19 @@ shared-slice-read-sample c = omega arith
 cast-sample : tie.Need-cast-sample Inv-loop μ-loop
 cast-sample c = let l = c .before .before in omega (arith, c .shared-slice-known .given (start l .args .at + l .loop .i))
 
+-- with the next sample at hand
+next-low : (c : tie.After-shared-slice-known Inv-loop μ-loop) → c .before .before .loop .samples < 2 ^ 56
+next-low c =
+    let l = c .before .before in
+    low l (λ i. omega (arith, c .shared-slice-known .given (start l .args .at + i))) (c .before .loop-test .taken)
+
 mul-samples : tie.Need-mul-samples Inv-loop μ-loop
-mul-samples c = let l = c .before .before in omega (arith, low l (λ i. omega (arith, c .shared-slice-known .given (start l .args .at + i))) (c .before .loop-test .taken))
+mul-samples c = omega (arith, next-low c)
 
 add-samples : tie.Need-add-samples Inv-loop μ-loop
 add-samples c =
     let l = c .before .before in
-    omega (arith, c .shared-slice-known .given (start l .args .at + l .loop .i), low l (λ i. omega (arith, c .shared-slice-known .given (start l .args .at + i))) (c .before .loop-test .taken))
+    omega (arith, c .shared-slice-known .given (start l .args .at + l .loop .i), next-low c)
 
 add-i : tie.Need-add-i Inv-loop μ-loop
 add-i c = omega arith
@@ -59,7 +65,8 @@ loop-less c = omega arith
 loop-again : tie.Need-loop-again Inv-loop μ-loop
 loop-again c =
     let l = c .before .before in
-    (omega arith, bytes-next (samplesFrom (now (start l .args .gray)) (start l .args .at)) (l .loop .i) (l .loop .samples) (l .loop .inv .1))
+    let f : ℕ → ℕ = samplesFrom (now (start l .args .gray)) (start l .args .at) in
+    (omega arith, bytes-next f (l .loop .i) (l .loop .samples) (l .loop .inv .1))
 
 returns : tie.Need-returns Inv-loop μ-loop
 returns c =

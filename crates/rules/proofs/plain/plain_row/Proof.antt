@@ -39,7 +39,8 @@ room : (l : tie.At-loop Inv-loop μ-loop) → rowBytes (width l) ≤ length (giv
 room l = l .before .if2 .left
 
 -- the word of byte k holds its samples
-held : (i : tie.In-loop Inv-loop μ-loop) → let l = i .before in (j : ℕ) → j < 8 → samplesFrom (gray l) (8 * l .loop .k) j ≡ rowSample (width l) (gray l) (8 * l .loop .k + j)
+held : (i : tie.In-loop Inv-loop μ-loop) → let l = i .before in
+    (j : ℕ) → j < 8 → samplesFrom (gray l) (8 * l .loop .k) j ≡ rowSample (width l) (gray l) (8 * l .loop .k + j)
 held i j m = let l = i .before in sym (sample-in (width l) (gray l) (8 * l .loop .k + j) (omega (arith, i .loop-test .taken)))
 
 -- all whole bytes
@@ -50,13 +51,17 @@ ended a =
     subst (λ (k : ℕ). PlainTo (width l) (gray l) (given l) (l .loop .out) k) e (l .loop .inv .1)
 
 returns : tie.Need-returns Inv-loop μ-loop
-returns c = let a = c .before .before .before .args in row-missing (a .width) (now (a .gray)) (now (a .out)) (λ l _. omega (arith, c .if1 .taken))
+returns c =
+    let a = c .before .before .before .args in
+    row-missing (a .width) (now (a .gray)) (now (a .out)) (λ l _. omega (arith, c .if1 .taken))
 
 add-if2 : tie.Need-add-if2 Inv-loop μ-loop
 add-if2 c = omega (arith, c .if1 .left)
 
 returns-2 : tie.Need-returns-2 Inv-loop μ-loop
-returns-2 c = let a = c .before .before .before .before .args in row-missing (a .width) (now (a .gray)) (now (a .out)) (λ _ l. omega (arith, c .if2 .taken))
+returns-2 c =
+    let a = c .before .before .before .before .args in
+    row-missing (a .width) (now (a .gray)) (now (a .out)) (λ _ l. omega (arith, c .if2 .taken))
 
 loop-holds : tie.Need-loop-holds Inv-loop μ-loop
 loop-holds c = let a = c .before .before .before .before .args in (omega arith, plain-none (a .width) (now (a .gray)) (now (a .out)))
@@ -71,7 +76,7 @@ plain-word-requires : tie.Need-plain-word-requires Inv-loop μ-loop
 plain-word-requires c κs = search needs
 
 same-length : tie.Need-same-length Inv-loop μ-loop
-same-length c = let l = c .before .before .before .before in plain-length (width l) (gray l) (given l) (room l) (l .loop .inv .1)
+same-length c = let l = c .before .before .before .before in plain-length (room l) (l .loop .inv .1)
 
 returns-3 : tie.Need-returns-3 Inv-loop μ-loop
 returns-3 c =
@@ -79,14 +84,16 @@ returns-3 c =
     let w = p .before in
     let i = w .before in
     let l = i .before in
-    row-stopped (width l) (gray l) (given l) (room l) (l .loop .inv .1) (w .word .result) (samplesFrom (gray l) (8 * l .loop .k)) (w .word .ensures .1) (w .word .ensures .0)
-    (held i) (p .plain-word .result) (p .plain-word .ensures) (not-true _ (c .if3 .taken))
+    row-stopped (room l) (l .loop .inv .1) (w .word .result) (samplesFrom (gray l) (8 * l .loop .k)) (w .word .ensures .1)
+    (w .word .ensures .0) (held i) (p .plain-word .result) (p .plain-word .ensures) (not-true _ (c .if3 .taken))
 
 gathered-requires : tie.Need-gathered-requires Inv-loop μ-loop
 gathered-requires c κs = search needs
 
 slice-write-out : tie.Need-slice-write-out Inv-loop μ-loop
-slice-write-out c = let l = c .before .before .before .before .before in omega (arith, room l, plain-length (width l) (gray l) (given l) (room l) (l .loop .inv .1))
+slice-write-out c =
+    let l = c .before .before .before .before .before in
+    omega (arith, room l, plain-length (room l) (l .loop .inv .1))
 
 add-k : tie.Need-add-k Inv-loop μ-loop
 add-k c = omega arith
@@ -102,15 +109,18 @@ loop-again c =
     let i = w .before in
     let l = i .before in (
       omega arith,
-      row-goes-on (width l) (gray l) (given l) (room l) (l .loop .inv .1) (w .word .result) (samplesFrom (gray l) (8 * l .loop .k)) (w .word .ensures .1) (w .word .ensures .0)
-          (held i) (p .plain-word .result) (p .plain-word .ensures) (not-false _ (q .if3 .left)) (c .gathered .result) (c .gathered .ensures) (omega arith),
+      row-goes-on (room l) (l .loop .inv .1) (w .word .result) (samplesFrom (gray l) (8 * l .loop .k)) (w .word .ensures .1)
+          (w .word .ensures .0) (held i) (p .plain-word .result) (p .plain-word .ensures) (not-false _ (q .if3 .left))
+          (c .gathered .result) (c .gathered .ensures) (omega arith),
     )
 
 same-length-2 : tie.Need-same-length-2 Inv-loop μ-loop
-same-length-2 c = let l = c .before .before in plain-length (width l) (gray l) (given l) (room l) (l .loop .inv .1)
+same-length-2 c = let l = c .before .before in plain-length (room l) (l .loop .inv .1)
 
 returns-4 : tie.Need-returns-4 Inv-loop μ-loop
-returns-4 c = let l = c .before .before in row-done (width l) (gray l) (given l) (room l) (ended (c .before)) (there l) (omega (arith, c .if4 .taken))
+returns-4 c =
+    let l = c .before .before in
+    row-done (room l) (ended (c .before)) (there l) (omega (arith, c .if4 .taken))
 
 mul-ending-word : tie.Need-mul-ending-word Inv-loop μ-loop
 mul-ending-word c = omega (arith, there (c .before .before))
@@ -122,7 +132,10 @@ plain-word-requires-2 : tie.Need-plain-word-requires-2 Inv-loop μ-loop
 plain-word-requires-2 c κs = search needs
 
 same-length-3 : tie.Need-same-length-3 Inv-loop μ-loop
-same-length-3 c = let a = c .before .before .before .before in let l = a .before in plain-length (width l) (gray l) (given l) (room l) (ended a)
+same-length-3 c =
+    let a = c .before .before .before .before in
+    let l = a .before in
+    plain-length (room l) (ended a)
 
 returns-5 : tie.Need-returns-5 Inv-loop μ-loop
 returns-5 c =
@@ -130,17 +143,24 @@ returns-5 c =
     let w = p .before in
     let a = w .before .before in
     let l = a .before in
-    row-stopped (width l) (gray l) (given l) (room l) (ended a) (w .ending-word .result) (λ i. rowSample (width l) (gray l) (8 * (width l / 8) + i))
-    (w .ending-word .ensures .1) (w .ending-word .ensures .0) (λ i _. refl) (p .plain-word2 .result) (p .plain-word2 .ensures) (not-true _ (c .if5 .taken))
+    row-stopped (room l) (ended a) (w .ending-word .result) (λ i. rowSample (width l) (gray l) (8 * (width l / 8) + i))
+    (w .ending-word .ensures .1) (w .ending-word .ensures .0) (λ i _. refl) (p .plain-word2 .result) (p .plain-word2 .ensures)
+    (not-true _ (c .if5 .taken))
 
 gathered-requires-2 : tie.Need-gathered-requires-2 Inv-loop μ-loop
 gathered-requires-2 c κs = search needs
 
 slice-write-out-2 : tie.Need-slice-write-out-2 Inv-loop μ-loop
-slice-write-out-2 c = let a = c .before .before .before .before .before in let l = a .before in omega (arith, room l, plain-length (width l) (gray l) (given l) (room l) (ended a), c .before .before .before .before .if4 .left)
+slice-write-out-2 c =
+    let a = c .before .before .before .before .before in
+    let l = a .before in
+    omega (arith, room l, plain-length (room l) (ended a), c .before .before .before .before .if4 .left)
 
 same-length-4 : tie.Need-same-length-4 Inv-loop μ-loop
-same-length-4 c = let a = c .before .before .before .before .before in let l = a .before in simp length-set (plain-length (width l) (gray l) (given l) (room l) (ended a))
+same-length-4 c =
+    let a = c .before .before .before .before .before in
+    let l = a .before in
+    simp length-set (plain-length (room l) (ended a))
 
 returns-6 : tie.Need-returns-6 Inv-loop μ-loop
 returns-6 c =
@@ -149,10 +169,10 @@ returns-6 c =
     let w = p .before in
     let a = w .before .before in
     let l = a .before in
-    row-done (width l) (gray l) (given l) (room l)
-    (row-goes-on (width l) (gray l) (given l) (room l) (ended a) (w .ending-word .result) (λ i. rowSample (width l) (gray l) (8 * (width l / 8) + i))
-    (w .ending-word .ensures .1) (w .ending-word .ensures .0) (λ i _. refl) (p .plain-word2 .result) (p .plain-word2 .ensures) (not-false _ (q .if5 .left))
-    (c .gathered2 .result) (c .gathered2 .ensures) (omega (arith, w .before .if4 .left)))
+    row-done (room l)
+    (row-goes-on (room l) (ended a) (w .ending-word .result) (λ i. rowSample (width l) (gray l) (8 * (width l / 8) + i))
+    (w .ending-word .ensures .1) (w .ending-word .ensures .0) (λ i _. refl) (p .plain-word2 .result) (p .plain-word2 .ensures)
+    (not-false _ (q .if5 .left)) (c .gathered2 .result) (c .gathered2 .ensures) (omega (arith, w .before .if4 .left)))
     (there l) (omega arith)
 
 pub plain-row-spec : {M : Type 1} → statement M

@@ -36,10 +36,12 @@ sub-result c = search needs
 shl-result : tie.Need-shl-result
 shl-result c = search needs
 
-shifted : (c : tie.After-threshold-dots) → let a = c .before .before .before .args in c .threshold-dots .result * 2 ^ (8 - a .tail) % 4294967296 ≡ endingByte (a .bound) (now (a .gray)) (a .at) (a .tail)
+shifted : (c : tie.After-threshold-dots) → let a = c .before .before .before .args in
+    c .threshold-dots .result * 2 ^ (8 - a .tail) % 4294967296 ≡ endingByte (a .bound) (now (a .gray)) (a .at) (a .tail)
 shifted c =
     let s = c .before .before .before in
-    ending-is (s .args .bound) (now (s .args .gray)) (s .args .at) (s .args .tail) (c .threshold-dots .result) (s .pre .1) (s .pre .0) (c .threshold-dots .ensures)
+    ending-is (s .args .bound) (now (s .args .gray)) (s .args .at) (s .args .tail) (c .threshold-dots .result) (s .pre .1) (s .pre .0)
+    (c .threshold-dots .ensures)
 
 cast-result-2 : tie.Need-cast-result-2
 cast-result-2 c =

@@ -38,4 +38,13 @@ returns c =
 
 pub last-row-spec : {M : Type 1} → statement M
 last-row-spec =
-    tie.close (tie.spec threshold-bytes-requires add-end mul-ending-byte add-ending-byte ending-byte-requires slice-write-out same-length returns)
+    tie.close
+    (tie.spec
+    threshold-bytes-requires
+    add-end
+    mul-ending-byte
+    add-ending-byte
+    ending-byte-requires
+    slice-write-out
+    same-length
+    returns)

@@ -29,7 +29,9 @@ long l =
     ap length (l .loop .inv .1) ∙ overlaid-length (bytes l) (now (s .args .out)) (l .loop .i) (omega (arith, l .loop .inv .0, s .pre .1))
 
 loop-holds : tie.Need-loop-holds Inv-loop μ-loop
-loop-holds c = let a = c .before .before .args in (omega arith, overlaid-none (byteAt 1 (thresholdBit (a .bound) (now (a .gray)))) (now (a .out)))
+loop-holds c =
+    let a = c .before .before .args in
+    (omega arith, overlaid-none (byteAt 1 (thresholdBit (a .bound) (now (a .gray)))) (now (a .out)))
 
 dot-bit-requires : tie.Need-dot-bit-requires Inv-loop μ-loop
 dot-bit-requires c κs = omega arith

@@ -31,7 +31,9 @@ long l =
     ap length (l .loop .inv .1) ∙ overlaid-length (bytes l) (now (s .args .out)) (l .loop .i) (omega (arith, l .loop .inv .0, s .pre .1))
 
 loop-holds : tie.Need-loop-holds Inv-loop μ-loop
-loop-holds c = let a = c .before .before .args in (omega arith, overlaid-none (byteAt 2 (thresholdBit (a .bound) (now (a .gray)))) (now (a .out)))
+loop-holds c =
+    let a = c .before .before .args in
+    (omega arith, overlaid-none (byteAt 2 (thresholdBit (a .bound) (now (a .gray)))) (now (a .out)))
 
 mul-dot-bit : tie.Need-mul-dot-bit Inv-loop μ-loop
 mul-dot-bit c = omega arith
@@ -52,7 +54,9 @@ add-out : tie.Need-add-out Inv-loop μ-loop
 add-out c =
     let a = c .before .before .before .before .before .before .args in
     let i = c .before .before .before .loop .i in
-    omega (arith, c .before .dot-bit .ensures, c .dot-bit2 .ensures, bit-le (leb (a .bound) (getD (now (a .gray)) (2 * i) 0)), bit-le (leb (a .bound) (getD (now (a .gray)) (2 * i + 1) 0)))
+    let first = bit-le (leb (a .bound) (getD (now (a .gray)) (2 * i) 0)) in
+    let second = bit-le (leb (a .bound) (getD (now (a .gray)) (2 * i + 1) 0)) in
+    omega (arith, c .before .dot-bit .ensures, c .dot-bit2 .ensures)
 
 slice-write-out : tie.Need-slice-write-out Inv-loop μ-loop
 slice-write-out c = let l = c .before .before .before in omega (arith, long l, l .before .before .before .pre .1)
@@ -72,7 +76,7 @@ loop-again c =
       omega arith,
       ap (λ (o : List ℕ). set o i v) (l .loop .inv .1)
           ∙ overlaid-next (bytes l) (now (s .args .out)) i v (omega (arith, s .pre .1))
-          (pairs-byte (s .args .bound) (now (s .args .gray)) i (c .before .dot-bit .result) (c .dot-bit2 .result) (c .before .dot-bit .ensures) (c .dot-bit2 .ensures)),
+          (pairs-byte (s .args .bound) (now (s .args .gray)) i _ _ (c .before .dot-bit .ensures) (c .dot-bit2 .ensures)),
     )
 
 same-length : tie.Need-same-length Inv-loop μ-loop

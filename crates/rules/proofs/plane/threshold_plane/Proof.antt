@@ -61,20 +61,24 @@ mul-if1 c = let s = start c in record { fits = product-below 32 32 (s .fits .wid
 returns : tie.Need-returns
 returns c =
     let a = start (c .before) .args in
-    sym (plane-unread (a .width) (a .height) (thresholdBit (a .bound) (now (a .gray))) (length (now (a .gray))) (now (a .out)) (c .if1 .taken))
+    sym
+    (plane-unread (a .width) (a .height) (thresholdBit (a .bound) (now (a .gray))) (length (now (a .gray))) (now (a .out)) (c .if1 .taken))
 
 returns-2 : tie.Need-returns-2
 returns-2 c =
     let n = c .before .before .before in
     let a = start n .args in
-    sym (plane-unheld (a .width) (a .height) (thresholdBit (a .bound) (now (a .gray))) (length (now (a .gray))) (now (a .out)) (omega (arith, c .if2 .taken, total n)))
+    sym
+    (plane-unheld (a .width) (a .height) (thresholdBit (a .bound) (now (a .gray))) (length (now (a .gray))) (now (a .out))
+    (omega (arith, c .if2 .taken, total n)))
 
 threshold-bytes-requires : tie.Need-threshold-bytes-requires
 threshold-bytes-requires c κs =
     let e = c .before .before in
     let a = start (begun e) .args in
     let t = total (begun e) in
-    (omega (arith, flat-there (a .bound) (now (a .gray)) (a .width) (a .height) (c .before .if3 .taken), fits e .0), omega (arith, e .if2 .left))
+    let there = flat-there (a .bound) (now (a .gray)) (a .width) (a .height) (c .before .if3 .taken) in
+    (omega (arith, fits e .0), omega (arith, e .if2 .left))
 
 same-length : tie.Need-same-length
 same-length c = search needs
@@ -86,7 +90,8 @@ returns-3 c =
     let a = start (begun e) .args in
     b .threshold-bytes .ensures
     ∙ ap (λ (n : ℕ). stored (a .bound) (now (a .gray)) 0 (now (a .out)) 0 n) (total (begun e))
-    ∙ flat-is (a .bound) (now (a .gray)) (a .width) (a .height) (b .before .before .if3 .taken) (now (a .out)) (omega (arith, e .if2 .left, total (begun e)))
+    ∙ flat-is (a .bound) (now (a .gray)) (a .width) (a .height) (b .before .before .if3 .taken) (now (a .out))
+    (omega (arith, e .if2 .left, total (begun e)))
     ∙ there e
 
 threshold-ones-requires : tie.Need-threshold-ones-requires

@@ -1,7 +1,7 @@
 -- `rules::plane::threshold_rows` meets its contract: a row more with each turn of both loops.
 -- Assumes nothing.
 use Prim.Native.Nat.{ℕ, _+_, _-_, _*_, _/_, _%_, _≤_, _<_}
-use mathlib.Core.Path.{_≡_, refl}
+use mathlib.Core.Path.{_≡_, _∙_}
 use mathlib.Core.List.{List}
 use native.Mathlib.Omega.{arith}
 use borrow.Author.Needs.{needs}
@@ -9,7 +9,8 @@ use denote.Ref.{now}
 use lib.ListN.{length}
 use Rattle.image.specs.Geometry.{rowBytes}
 use Rattle.rules.specs.Internal.Planes.{PlaneFits}
-use Rattle.rules.proofs.PlaneWritten.{RowsTo, rows-none, masked-ending, rows-length, rows-ended, row-there, row-room, word-there, row-more}
+use Rattle.rules.proofs.PlaneWritten.{RowsTo, rows-none, masked-row, rows-length, rows-ended}
+use Rattle.rules.proofs.PlaneWritten.{row-there, row-room, word-there, row-more}
 use Rattle.rules.proofs.plane.threshold_rows.Statement.{statement}
 use Rattle.rules.proofs.plane.threshold_rows.Tie as tie
 
@@ -21,7 +22,8 @@ abbrev μ-loop : tie.MeasureT-loop
 
 abbrev Inv-loop2 : tie.InvT-loop2
 Inv-loop2 bound width height mask gray out₀ count at₀ to₀ y₀ out at to y =
-    (before : List ℕ) → PlaneFits width height (length gray) (length before) → RowsTo bound width height gray before out₀ at₀ to₀ y₀ → RowsTo bound width height gray before out at to y
+    (before : List ℕ) → PlaneFits width height (length gray) (length before)
+    → RowsTo bound width height gray before out₀ at₀ to₀ y₀ → RowsTo bound width height gray before out at to y
 
 abbrev μ-loop2 : tie.MeasureT-loop2
 μ-loop2 bound width height mask gray out₀ count at₀ to₀ y₀ out at to y = height - y
@@ -33,45 +35,52 @@ odd : (l : tie.At-loop Inv-loop μ-loop Inv-loop2 μ-loop2) → 0 < start l .arg
 odd l = start l .pre .1 .1
 
 same : (l : tie.At-loop Inv-loop μ-loop Inv-loop2 μ-loop2) → length (l .loop .out) ≡ length (now (start l .args .out))
-same l = let s = start l in rows-length (s .args .bound) (s .args .width) (s .args .height) (now (s .args .gray)) (now (s .args .out)) (s .pre .0) (l .loop .inv)
+same l = let s = start l in rows-length (s .pre .0) (l .loop .inv)
 
 -- a row's samples and bytes, and the eight samples at its end
-there : (i : tie.In-loop Inv-loop μ-loop Inv-loop2 μ-loop2) → i .before .loop .at + start (i .before) .args .width ≤ length (now (start (i .before) .args .gray))
+there : (i : tie.In-loop Inv-loop μ-loop Inv-loop2 μ-loop2)
+    → i .before .loop .at + start (i .before) .args .width ≤ length (now (start (i .before) .args .gray))
 there i =
     let s = start (i .before) in
-    row-there (s .args .bound) (s .args .width) (s .args .height) (now (s .args .gray)) (now (s .args .out)) (s .pre .0) (i .before .loop .inv) (omega arith)
+    row-there (s .pre .0) (i .before .loop .inv) (omega arith)
 
-room : (i : tie.In-loop Inv-loop μ-loop Inv-loop2 μ-loop2) → i .before .loop .to + rowBytes (start (i .before) .args .width) ≤ length (i .before .loop .out)
+room : (i : tie.In-loop Inv-loop μ-loop Inv-loop2 μ-loop2)
+    → i .before .loop .to + rowBytes (start (i .before) .args .width) ≤ length (i .before .loop .out)
 room i =
     let s = start (i .before) in
-    row-room (s .args .bound) (s .args .width) (s .args .height) (now (s .args .gray)) (now (s .args .out)) (s .pre .0) (i .before .loop .inv) (omega arith)
+    row-room (s .pre .0) (i .before .loop .inv) (omega arith)
 
-word : (i : tie.In-loop Inv-loop μ-loop Inv-loop2 μ-loop2) → i .before .loop .at + 8 * (start (i .before) .args .width / 8) + 8 ≤ length (now (start (i .before) .args .gray))
+word : (i : tie.In-loop Inv-loop μ-loop Inv-loop2 μ-loop2)
+    → i .before .loop .at + 8 * (start (i .before) .args .width / 8) + 8 ≤ length (now (start (i .before) .args .gray))
 word i =
     let s = start (i .before) in
-    word-there (s .args .bound) (s .args .width) (s .args .height) (now (s .args .gray)) (now (s .args .out)) (s .pre .0) (i .before .loop .inv) (s .pre .1 .0) (i .loop-test .taken)
+    word-there (s .pre .0) (i .before .loop .inv) (s .pre .1 .0) (i .loop-test .taken)
 
 abbrev start2 : tie.At-loop2 Inv-loop μ-loop Inv-loop2 μ-loop2 → tie.Start Inv-loop μ-loop Inv-loop2 μ-loop2
 start2 l = start (l .before .before)
 
-inv2 : (l : tie.At-loop2 Inv-loop μ-loop Inv-loop2 μ-loop2) → let a = start2 l .args in RowsTo (a .bound) (a .width) (a .height) (now (a .gray)) (now (a .out)) (l .loop2 .out) (l .loop2 .at) (l .loop2 .to) (l .loop2 .y)
+inv2 : (l : tie.At-loop2 Inv-loop μ-loop Inv-loop2 μ-loop2)
+    → let a = start2 l .args in
+    RowsTo (a .bound) (a .width) (a .height) (now (a .gray)) (now (a .out)) (l .loop2 .out) (l .loop2 .at) (l .loop2 .to) (l .loop2 .y)
 inv2 l = let s = start2 l in l .loop2 .inv (now (s .args .out)) (s .pre .0) (l .before .before .loop .inv)
 
 odd2 : (l : tie.At-loop2 Inv-loop μ-loop Inv-loop2 μ-loop2) → 0 < start2 l .args .width % 8
 odd2 l = start2 l .pre .1 .1
 
 same2 : (l : tie.At-loop2 Inv-loop μ-loop Inv-loop2 μ-loop2) → length (l .loop2 .out) ≡ length (now (start2 l .args .out))
-same2 l = let s = start2 l in rows-length (s .args .bound) (s .args .width) (s .args .height) (now (s .args .gray)) (now (s .args .out)) (s .pre .0) (inv2 l)
+same2 l = let s = start2 l in rows-length (s .pre .0) (inv2 l)
 
-there2 : (i : tie.In-loop2 Inv-loop μ-loop Inv-loop2 μ-loop2) → i .before .loop2 .at + start2 (i .before) .args .width ≤ length (now (start2 (i .before) .args .gray))
+there2 : (i : tie.In-loop2 Inv-loop μ-loop Inv-loop2 μ-loop2)
+    → i .before .loop2 .at + start2 (i .before) .args .width ≤ length (now (start2 (i .before) .args .gray))
 there2 i =
     let s = start2 (i .before) in
-    row-there (s .args .bound) (s .args .width) (s .args .height) (now (s .args .gray)) (now (s .args .out)) (s .pre .0) (inv2 (i .before)) (i .loop2-test .taken)
+    row-there (s .pre .0) (inv2 (i .before)) (i .loop2-test .taken)
 
-room2 : (i : tie.In-loop2 Inv-loop μ-loop Inv-loop2 μ-loop2) → i .before .loop2 .to + rowBytes (start2 (i .before) .args .width) ≤ length (i .before .loop2 .out)
+room2 : (i : tie.In-loop2 Inv-loop μ-loop Inv-loop2 μ-loop2)
+    → i .before .loop2 .to + rowBytes (start2 (i .before) .args .width) ≤ length (i .before .loop2 .out)
 room2 i =
     let s = start2 (i .before) in
-    row-room (s .args .bound) (s .args .width) (s .args .height) (now (s .args .gray)) (now (s .args .out)) (s .pre .0) (inv2 (i .before)) (i .loop2-test .taken)
+    row-room (s .pre .0) (inv2 (i .before)) (i .loop2-test .taken)
 
 loop-holds : tie.Need-loop-holds Inv-loop μ-loop Inv-loop2 μ-loop2
 loop-holds c = let a = c .before .before .args in rows-none (a .bound) (a .width) (a .height) (now (a .gray)) (now (a .out))
@@ -79,26 +88,17 @@ loop-holds c = let a = c .before .before .args in rows-none (a .bound) (a .width
 sub-loop : tie.Need-sub-loop Inv-loop μ-loop Inv-loop2 μ-loop2
 sub-loop c = omega (arith, c .loop .inv .within)
 
-mul-byte : tie.Need-mul-byte Inv-loop μ-loop Inv-loop2 μ-loop2
-mul-byte c = omega arith
-
-add-byte : tie.Need-add-byte Inv-loop μ-loop Inv-loop2 μ-loop2
-add-byte c = omega (arith, word c)
-
-byte-requires : tie.Need-byte-requires Inv-loop μ-loop Inv-loop2 μ-loop2
-byte-requires c κs = word c
-
 threshold-row-requires : tie.Need-threshold-row-requires Inv-loop μ-loop Inv-loop2 μ-loop2
-threshold-row-requires c κs = let i = c .before .before in (omega (arith, word i), omega (arith, room i, odd (i .before)))
+threshold-row-requires c κs = let i = c .before in (word i, omega (arith, room i, odd (i .before)))
 
 add-at : tie.Need-add-at Inv-loop μ-loop Inv-loop2 μ-loop2
-add-at c = let i = c .before .before .before .before .before in omega (arith, there i)
+add-at c = let i = c .before .before .before .before in omega (arith, there i)
 
 add-to : tie.Need-add-to Inv-loop μ-loop Inv-loop2 μ-loop2
 add-to c = omega arith
 
 add-to-2 : tie.Need-add-to-2 Inv-loop μ-loop Inv-loop2 μ-loop2
-add-to-2 c = let i = c .before .before .before .before .before in omega (arith, room i, odd (i .before), same (i .before), start (i .before) .good)
+add-to-2 c = let i = c .before .before .before .before in omega (arith, room i, odd (i .before), same (i .before), start (i .before) .good)
 
 add-y : tie.Need-add-y Inv-loop μ-loop Inv-loop2 μ-loop2
 add-y c = omega arith
@@ -109,12 +109,12 @@ loop-less c = omega arith
 loop-again : tie.Need-loop-again Inv-loop μ-loop Inv-loop2 μ-loop2
 loop-again c =
     let r = c .before .before in
-    let b = r .before .before in
-    let l = b .before .before in
+    let l = r .before .before .before in
     let s = start l in
-    row-more (s .args .bound) (s .args .width) (s .args .height) (now (s .args .gray)) (now (s .args .out)) (s .pre .0) (l .loop .inv) _ _ (odd l) (omega arith)
-    (masked-ending (s .args .bound) (s .args .width) (s .args .height) (now (s .args .gray)) (now (s .args .out)) (l .loop .at + 8 * (s .args .width / 8)) (b .byte .result) (s .args .mask) (odd l) (b .byte .ensures) (s .pre .1 .2))
-    (r .threshold-row .ensures)
+    let a = s .args in
+    row-more (s .pre .0) (l .loop .inv) _ (odd l) (omega arith)
+    (r .threshold-row .ensures
+    ∙ masked-row (a .bound) (a .width) (now (a .gray)) (l .loop .at) (l .loop .out) (l .loop .to) (a .mask) (odd l) (s .pre .1 .2))
 
 loop2-holds : tie.Need-loop2-holds Inv-loop μ-loop Inv-loop2 μ-loop2
 loop2-holds c before f r = r
@@ -129,7 +129,9 @@ add-to-3 : tie.Need-add-to-3 Inv-loop μ-loop Inv-loop2 μ-loop2
 add-to-3 c = omega arith
 
 add-to-4 : tie.Need-add-to-4 Inv-loop μ-loop Inv-loop2 μ-loop2
-add-to-4 c = let i = c .before .before .before .before in omega (arith, room2 i, odd2 (i .before), same2 (i .before), start2 (i .before) .good)
+add-to-4 c =
+    let i = c .before .before .before .before in
+    omega (arith, room2 i, odd2 (i .before), same2 (i .before), start2 (i .before) .good)
 
 add-y-2 : tie.Need-add-y-2 Inv-loop μ-loop Inv-loop2 μ-loop2
 add-y-2 c = omega arith
@@ -141,15 +143,14 @@ loop2-again : tie.Need-loop2-again Inv-loop μ-loop Inv-loop2 μ-loop2
 loop2-again c before f r₀ =
     let r = c .before .before in
     let l = r .before .before .before in
-    let s = start2 l in
-    row-more (s .args .bound) (s .args .width) (s .args .height) (now (s .args .gray)) before f (l .loop2 .inv before f r₀) _ _ (odd2 l) (omega arith)
-    refl (r .last-row .ensures)
+    let a = start2 l .args in
+    row-more f (l .loop2 .inv before f r₀) _ (odd2 l) (omega arith) (r .last-row .ensures)
 
 same-length : tie.Need-same-length Inv-loop μ-loop Inv-loop2 μ-loop2
 same-length c = same2 (c .before)
 
 returns : tie.Need-returns Inv-loop μ-loop Inv-loop2 μ-loop2
-returns c = let s = start (c .before .before .before) in rows-ended (s .args .bound) (s .args .width) (s .args .height) (now (s .args .gray)) (now (s .args .out)) (s .pre .0) (inv2 (c .before)) (c .loop2-test .left)
+returns c = let s = start (c .before .before .before) in rows-ended (s .pre .0) (inv2 (c .before)) (c .loop2-test .left)
 
 pub threshold-rows-spec : {M : Type 1} → statement M
 threshold-rows-spec =
@@ -161,9 +162,6 @@ threshold-rows-spec =
     μ-loop2
     loop-holds
     sub-loop
-    mul-byte
-    add-byte
-    byte-requires
     threshold-row-requires
     add-at
     add-to
