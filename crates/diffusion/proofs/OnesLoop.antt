@@ -1,17 +1,17 @@
 -- Rows of one sample, one after the other.
 -- Assumes nothing.
 use Prim.Native.Nat.{ℕ, _+_, _*_, _/_, _%_, _≤_, _<_}
-use mathlib.Core.Path.{_≡_, refl, sym, ap, _∙_, subst}
+use mathlib.Core.Path.{_≡_, sym, ap, _∙_, subst}
 use mathlib.Core.List.{List, [], _∷_}
 use native.Mathlib.Omega.{arith}
 use lib.ListN.{length, getD, set}
 use Rattle.rules.specs.Internal.Planes.{scanOf, ditherBit}
-use Rattle.diffusion.specs.Internal.Sums.{partOf, restOf, handedRight, valueBy, restBy, handedDown}
+use Rattle.diffusion.specs.Internal.Sums.{partOf, restOf, handedRight, valueBy, restBy}
 use Rattle.diffusion.specs.Internal.Rows.{rowOf}
-use Rattle.diffusion.specs.Internal.Planes.{PlaneLent, RowsWritten}
+use Rattle.diffusion.specs.Internal.RowByRow.{PlaneLent, RowsWritten}
 use Rattle.diffusion.proofs.PlaneRows.{row-one}
-use Rattle.diffusion.proofs.RowsLoop.{HandedSums, first-sums, rows-none, ones-put, row-dots, next-sums}
-use Rattle.diffusion.proofs.SumsCorrect.{part-small, rest-small, one-down}
+use Rattle.diffusion.proofs.RowsLoop.{HandedSums, first-sums, rows-unwritten, ones-put, row-dots, next-sums}
+use Rattle.diffusion.proofs.SumsCorrect.{part-small, one-down}
 
 -- the sums handed to a row of one dot, below one whose residual is held as b
 abbrev sumsBelow : ℕ → ℕ → ℕ
@@ -26,7 +26,7 @@ pub record OnesAt (h : ℕ) (gray out₀ out : List ℕ) (rest y : ℕ) : Type 0
 
 pub ones-begun : (h : ℕ) (gray out : List ℕ) → OnesAt h gray out out 128 0
 unfolding partOf
-ones-begun h gray out = record { most = omega arith; small = omega arith; written = rows-none 1 h gray out; given = first-sums 1 gray }
+ones-begun h gray out = record { most = omega arith; small = omega arith; written = rows-unwritten 1 h gray out; given = first-sums 1 gray }
 
 module _ {h : ℕ} {gray out₀ out : List ℕ} {rest y : ℕ} (bytes : (n : ℕ) → getD gray n 0 < 256) (i : OnesAt h gray out₀ out rest y)
     (part : ℕ) (e : part ≡ partOf 5 rest) where

@@ -1,7 +1,7 @@
 -- The bytes of a plane row by row.
 -- Assumes nothing.
-use Prim.Native.Nat.{ℕ, zero, suc, _+_, _*_, _/_, _%_, _≤_, _<_}
-use mathlib.Core.Path.{_≡_, refl, sym, ap, _∙_}
+use Prim.Native.Nat.{ℕ, suc, _+_, _*_, _≤_, _<_}
+use mathlib.Core.Path.{_≡_, sym, ap, _∙_}
 use mathlib.Core.Logic.{⊎-elim}
 use mathlib.Core.List.{List, [], _∷_, _++_, append-nil}
 use native.Mathlib.Nat.{suc-mul, one-mul}
@@ -9,7 +9,7 @@ use native.Mathlib.Omega.{arith}
 use lib.ListN.{length, drop}
 use lib.Seq.{drop-length}
 use Rattle.image.specs.Geometry.{rowBytes}
-use Rattle.rules.specs.Bits.{upto, digits, appended}
+use Rattle.rules.specs.Bits.{upto, appended}
 use Rattle.rules.specs.Packed.{paddedBit, byteAt}
 use Rattle.rules.specs.Internal.Planes.{plane}
 use Rattle.laws.proofs.Tests.{lt-or-le}
@@ -38,8 +38,8 @@ module _ (w : ℕ) where
   first-row : (d : ℕ → ℕ) (b : ℕ) → byteAt w d (0 * rowBytes w + b) ≡ byteAt w d b
   first-row d b = let e : 0 * rowBytes w + b ≡ b = omega arith in ap (byteAt w d) e
 
-  pub row-length : (d : ℕ → ℕ) → length (rowOf w d) ≡ rowBytes w
-  row-length d = length-upto (byteAt w d) (rowBytes w)
+  pub rowOf-length : (d : ℕ → ℕ) → length (rowOf w d) ≡ rowBytes w
+  rowOf-length d = length-upto (byteAt w d) (rowBytes w)
 
   -- a row's bytes depend on its dots only
   pub row-same : (d e : ℕ → ℕ) → ((c : ℕ) → c < w → d c ≡ e c) → rowOf w d ≡ rowOf w e
@@ -55,7 +55,8 @@ module _ (w : ℕ) where
       ∙ upto-add (byteAt w d) (y * rowBytes w) (rowBytes w)
       ∙ ap (λ (l : List ℕ). plane w y d ++ l) (
       upto-ext (λ b. byteAt w d (y * rowBytes w + b)) (byteAt w e) (rowBytes w)
-      (λ b l. byte-same w d e y 0 (λ c k. let z : 0 * w + c ≡ c = omega arith in ap (λ (n : ℕ). d (y * w + n)) (sym z)) b l ∙ first-row e b))
+      (λ b l.
+      byte-same w d e y 0 (λ c k. let z : 0 * w + c ≡ c = omega arith in ap (λ (n : ℕ). d (y * w + n)) (sym z)) b l ∙ first-row e b))
 
   -- one row is a plane
   pub row-alone : (d : ℕ → ℕ) (out out′ : List ℕ) → length out ≡ rowBytes w → out′ ≡ plane w 1 d ++ drop (rowBytes w) out → out′ ≡ rowOf w d

@@ -1,6 +1,6 @@
 -- A plane that is written whole, or not at all.
 -- Assumes nothing.
-use Prim.Native.Nat.{ℕ, _+_, _*_, _≤_, _<_}
+use Prim.Native.Nat.{ℕ, _*_, _≤_, _<_}
 use mathlib.Core.Path.{_≡_, refl, sym, ap, ap₂, _∙_, subst}
 use mathlib.Core.Bool.{Bool, true, false, _&&_}
 use mathlib.Core.List.{List, _++_}
@@ -16,7 +16,7 @@ use Rattle.rules.specs.Bits.{upto}
 use Rattle.rules.specs.Packed.{byteAt}
 use Rattle.rules.specs.Internal.Planes.{plane, ditherBit}
 use Rattle.diffusion.specs.Internal.Rows.{served, DitherPlane}
-use Rattle.diffusion.specs.Internal.Planes.{PlaneLent, RowsWritten, PlainRows}
+use Rattle.diffusion.specs.Internal.RowByRow.{PlaneLent, RowsWritten, PlainRows}
 
 module _ (w h : ℕ) (gray out : List ℕ) (work : List ℤ) where
   abbrev is : Bool
@@ -25,17 +25,19 @@ module _ (w h : ℕ) (gray out : List ℕ) (work : List ℤ) where
   refused : served w h (length gray) (length out) (length work) ≡ false → DitherPlane w h gray out work out work
   refused e = record { written = sym (if-false is _ _ e); beyond = refl; unserved = λ f. refl }
 
-  pub no-samples : length gray < w * h → DitherPlane w h gray out work out work
-  no-samples l = refused (ap (λ (t : Bool). t && (leb (h * rowBytes w) (length out) && leb w (length work))) (lt-leb (w * h) (length gray) l))
+  pub gray-short : length gray < w * h → DitherPlane w h gray out work out work
+  gray-short l =
+      refused
+      (ap (λ (t : Bool). t && (leb (h * rowBytes w) (length out) && leb w (length work))) (lt-leb (w * h) (length gray) l))
 
-  pub no-room : length out < h * rowBytes w → DitherPlane w h gray out work out work
-  no-room l =
+  pub out-short : length out < h * rowBytes w → DitherPlane w h gray out work out work
+  out-short l =
       refused
       (ap (λ (t : Bool). leb (w * h) (length gray) && (t && leb w (length work))) (lt-leb (h * rowBytes w) (length out) l)
       ∙ and-false (leb (w * h) (length gray)))
 
-  pub no-work : length work < w → DitherPlane w h gray out work out work
-  no-work l =
+  pub work-short : length work < w → DitherPlane w h gray out work out work
+  work-short l =
       refused
       (ap (λ (t : Bool). leb (w * h) (length gray) && (leb (h * rowBytes w) (length out) && t)) (lt-leb w (length work) l)
       ∙ ap (λ (t : Bool). leb (w * h) (length gray) && t) (and-false (leb (h * rowBytes w) (length out)))
@@ -69,7 +71,11 @@ pub no-columns : (w h : ℕ) (gray out : List ℕ) → w ≡ 0 → RowsWritten w
 unfolding upto
 no-columns w h gray out z =
     let e : h * rowBytes w ≡ 0 = ap (λ (n : ℕ). h * rowBytes n) z ∙ mul-zero h in
-    record { rows = ap (λ (n : ℕ). take n out) e ∙ ap (λ (n : ℕ). upto n (byteAt w (ditherBit w gray))) (sym e); behind = refl; long = refl }
+    record {
+      rows = ap (λ (n : ℕ). take n out) e ∙ ap (λ (n : ℕ). upto n (byteAt w (ditherBit w gray))) (sym e);
+      behind = refl;
+      long = refl;
+    }
 
 -- a plane of one column
 module _ (w h : ℕ) (one : w ≡ 1) where
@@ -90,8 +96,8 @@ module _ {w h : ℕ} {gray out : List ℕ} {y : ℕ} {out′ : List ℕ} (p : Pl
   pub rows-left : PlainRows w h gray out′ y out′
   rows-left = record { most = p .most; level = p .level; written = record { rows = p .written .rows; behind = refl; long = refl } }
 
-  pub lent-left : PlaneLent w h (length gray) (length out) → PlaneLent w h (length gray) (length out′)
-  lent-left l = subst (λ (n : ℕ). PlaneLent w h (length gray) n) (sym (p .written .long)) l
+  pub lent-still : PlaneLent w h (length gray) (length out) → PlaneLent w h (length gray) (length out′)
+  lent-still l = subst (λ (n : ℕ). PlaneLent w h (length gray) n) (sym (p .written .long)) l
 
   pub rows-joined : (last : List ℕ) → RowsWritten w h gray out′ h last → RowsWritten w h gray out h last
   rows-joined last r =

@@ -1,6 +1,6 @@
 -- What is handed to a row, and what it hands down.
 -- Assumes nothing.
-use Prim.Native.Nat.{ℕ, _+_, _*_, _/_, _%_, _≤_, _<_}
+use Prim.Native.Nat.{ℕ, _+_, _/_, _%_, _≤_, _<_}
 use mathlib.Core.Path.{_≡_, refl, sym, ap, _∙_, subst}
 use mathlib.Core.Bool.{Bool, true, false}
 use mathlib.Core.List.{List, _++_}
@@ -15,9 +15,9 @@ use Rattle.image.specs.Geometry.{rowBytes}
 use Rattle.rules.specs.Internal.Kernels.{thresholdBit}
 use Rattle.rules.specs.Internal.Planes.{PlainRow}
 use Rattle.rules.specs.Internal.Row.{Plain}
-use Rattle.diffusion.specs.Internal.Sums.{none, valueBy, handedDown, sumsOf, Sums, Level}
-use Rattle.diffusion.specs.Internal.Rows.{grayOf, dotBy, rowOf, RowLent, RowDithered}
-use Rattle.diffusion.specs.Internal.Planes.{handedTo, AllNone, RowGiven, RowBegun, RowNext}
+use Rattle.diffusion.specs.Internal.Sums.{none, handedDown, sumsOf, Sums, Level}
+use Rattle.diffusion.specs.Internal.Rows.{grayOf, dotBy, rowOf, RowDithered}
+use Rattle.diffusion.specs.Internal.RowByRow.{handedTo, AllNone, RowBegun, RowNext}
 use Rattle.diffusion.proofs.PlaneRows.{row-same, row-alone}
 use Rattle.diffusion.proofs.SumsCorrect.{down-small, value-same, down-same, level-dot, level-down}
 
@@ -91,7 +91,8 @@ module _ (gray : List ℕ) (work : List ℤ) (out′ : List ℕ) where
         → drop (length gray) work′ ≡ drop (length gray) work → RowNext true gray work true out′ work′
     next-plain work′ p e b =
         let level : Level w (handedTo true work) = λ x l. refl in
-        let shades : (i : ℕ) → i < length gray → (grayOf gray i < 256) × (grayOf gray i % 255 ≡ 0) = λ i l. (bytes i, rw zero-add at (p i l)) in
+        let shades : (i : ℕ) → i < length gray → (grayOf gray i < 256) × (grayOf gray i % 255 ≡ 0) =
+        λ i l. (bytes i, rw zero-add at (p i l)) in
         record {
           bytes =
               e
@@ -102,9 +103,11 @@ module _ (gray : List ℕ) (work : List ℤ) (out′ : List ℕ) where
           beyond = b;
         }
 
-    pub next-begun : (level r : Bool) (work′ : List ℤ) → r ≡ true → RowBegun level gray work r out′ work′ → RowNext level gray work true out′ work′
+    pub next-begun : (level r : Bool) (work′ : List ℤ) → r ≡ true → RowBegun level gray work r out′ work′
+        → RowNext level gray work true out′ work′
     next-begun level r work′ t g =
-        subst (λ (b : Bool). RowNext b gray work true out′ work′) (sym (g .even t)) (next-plain work′ (g .plain t) (g .written t) (g .beyond))
+        subst (λ (b : Bool). RowNext b gray work true out′ work′) (sym (g .even t))
+        (next-plain work′ (g .plain t) (g .written t) (g .beyond))
 
     -- any other one, from the sums in the work buffer
     module _ (level : Bool) (mid : List ℤ) (r : Bool) (work′ : List ℤ) (given : Sums (length gray) mid)
@@ -113,7 +116,8 @@ module _ (gray : List ℕ) (work : List ℤ) (out′ : List ℕ) where
           → handedDown (length gray) (grayOf gray) (sumsOf mid) x ≡ handedDown (length gray) (grayOf gray) (handedTo level work) x
       down-is = down-same w (grayOf gray) (grayOf gray) (sumsOf mid) (handedTo level work) (λ i l. (refl, same i l))
 
-      down-held : (t : Bool) → r ≡ t → (x : ℕ) → x < length gray → handedTo t work′ x ≡ handedDown (length gray) (grayOf gray) (sumsOf mid) x
+      down-held : (t : Bool) → r ≡ t → (x : ℕ) → x < length gray
+          → handedTo t work′ x ≡ handedDown (length gray) (grayOf gray) (sumsOf mid) x
       down-held true e x l = sym (d .level e x l)
       down-held false e x l = held work′ x (handedDown w (grayOf gray) (sumsOf mid) x) (d .sums x l)
 
@@ -136,6 +140,6 @@ module _ (gray : List ℕ) (work : List ℤ) (out′ : List ℕ) where
             beyond = d .beyond ∙ b;
           }
 
-    pub next-row : (level t : Bool) (out₁ : List ℕ) (mid : List ℤ) (r : Bool) (work′ : List ℤ) → t ≡ false
+    pub next-from-sums : (level t : Bool) (out₁ : List ℕ) (mid : List ℤ) (r : Bool) (work′ : List ℤ) → t ≡ false
         → RowBegun level gray work t out₁ mid → RowDithered gray mid r out′ work′ → RowNext level gray work r out′ work′
-    next-row level t out₁ mid r work′ e g d = next-dithered level mid r work′ (g .sums e) (g .same e) d (g .beyond)
+    next-from-sums level t out₁ mid r work′ e g d = next-dithered level mid r work′ (g .sums e) (g .same e) d (g .beyond)

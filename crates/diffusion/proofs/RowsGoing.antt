@@ -17,16 +17,16 @@ use Rattle.rules.specs.Internal.Row.{Plain}
 use Rattle.rules.proofs.ListPiece.{piece, piece-length}
 use Rattle.diffusion.specs.Internal.Sums.{none, Sums}
 use Rattle.diffusion.specs.Internal.Rows.{rowOf}
-use Rattle.diffusion.specs.Internal.Planes.{handedTo, RowGiven, RowNext, PlaneLent, RowsWritten, PlainRows}
+use Rattle.diffusion.specs.Internal.RowByRow.{handedTo, RowGiven, RowNext, PlaneLent, RowsWritten, PlainRows}
 use Rattle.diffusion.proofs.PlaneRows.{row-alone}
 use Rattle.diffusion.proofs.RowHanded.{next-plain}
-use Rattle.diffusion.proofs.RowsLoop.{HandedSums, first-sums, rows-none, rows-stay, RowsAt, row-there, row-room, row-bytes, row-next}
+use Rattle.diffusion.proofs.RowsLoop.{first-sums, rows-unwritten, rows-stay, RowsAt, row-lent, row-fits, row-bytes, row-next}
 
 -- ---- plain rows from the top
 
 pub plain-begun : (w h : ℕ) (gray out : List ℕ) → RowsAt w h gray out (λ x. none) out 0 0 0
 plain-begun w h gray out =
-    record { most = omega arith; atIs = omega arith; toIs = omega arith; written = rows-none w h gray out; given = first-sums w gray }
+    record { most = omega arith; atIs = omega arith; toIs = omega arith; written = rows-unwritten w h gray out; given = first-sums w gray }
 
 module _ {w h : ℕ} {gray out₀ out : List ℕ} {at to y : ℕ} (lent : PlaneLent w h (length gray) (length out₀))
     (i : RowsAt w h gray out₀ (λ x. none) out at to y) (l : y < h) (r : Bool) (new : List ℕ) where
@@ -37,20 +37,22 @@ module _ {w h : ℕ} {gray out₀ out : List ℕ} {at to y : ℕ} (lent : PlaneL
   room = midOf to (to + rowBytes w - to) out
 
   row-is : length row ≡ w
-  row-is = piece-length gray at w (row-there lent i l)
+  row-is = piece-length gray at w (row-lent lent i l)
 
   room-is : length room ≡ rowBytes w
-  room-is = let a = row-room lent i l in let b = mid-len to (to + rowBytes w) out (omega arith) in omega arith
+  room-is = let a = row-fits lent i l in let b = mid-len to (to + rowBytes w) out (omega arith) in omega arith
 
   pub plain-more : ((n : ℕ) → getD gray n 0 < 256) → r ≡ true → PlainRow w (piece gray at w) (midOf to (to + rowBytes w - to) out) r new
       → RowsAt w h gray out₀ (λ x. none) (putMid to (to + rowBytes w - to) out new) (at + w) (to + rowBytes w) (y + 1)
   plain-more bytes e p =
       let a : Plain row 0 (length row) = subst (λ (n : ℕ). Plain row 0 n) (sym row-is) (p .plain e) in
       let b : new ≡ rowOf (length row) (thresholdBit 128 row) =
-      subst (λ (n : ℕ). new ≡ rowOf n (thresholdBit 128 row)) (sym row-is) (row-alone w (thresholdBit 128 row) room new room-is (p .written e)) in
+      subst (λ (n : ℕ). new ≡ rowOf n (thresholdBit 128 row)) (sym row-is)
+      (row-alone w (thresholdBit 128 row) room new room-is (p .written e)) in
       row-next lent i l bytes true [] refl true new [] (next-plain row [] new (row-bytes lent i l bytes) [] a b refl)
 
-  pub plain-end : length new ≡ length (midOf to (to + rowBytes w - to) out) → PlainRows w h gray out₀ y (putMid to (to + rowBytes w - to) out new)
+  pub plain-end : length new ≡ length (midOf to (to + rowBytes w - to) out)
+      → PlainRows w h gray out₀ y (putMid to (to + rowBytes w - to) out new)
   plain-end e =
       record { most = i .most; level = i .given .are; written = rows-stay lent (i .written) l to new (i .toIs) (e ∙ room-is) }
 
@@ -58,14 +60,14 @@ module _ {w h : ℕ} {gray out₀ out : List ℕ} {at to y : ℕ} (lent : PlaneL
 
 -- where the rows from one on start
 module _ {w h samples bytes : ℕ} (lent : PlaneLent w h samples bytes) (first : ℕ) (l : first ≤ h) where
-  pub start-there : first * w ≤ samples
-  start-there =
+  pub first-lent : first * w ≤ samples
+  first-lent =
       let a : first * w ≤ h * w = mul-le-mul-right w l in
       let b = mul-comm w h in
       omega (arith, lent .there)
 
-  pub start-room : first * rowBytes w ≤ bytes
-  start-room =
+  pub first-fits : first * rowBytes w ≤ bytes
+  first-fits =
       let a : first * rowBytes w ≤ h * rowBytes w = mul-le-mul-right (rowBytes w) l in
       omega (arith, lent .room)
 
@@ -96,9 +98,9 @@ module _ {w h : ℕ} {gray out₀ : List ℕ} {work₀ work : List ℤ} {out : L
     (lent : PlaneLent w h (length gray) (length out₀)) (i : RowsGoing w h gray out₀ work₀ work out level at to y) (l : y < h) where
   pub going-given : w ≤ length work₀ → RowGiven level (piece gray at w) work (length (midOf to (to + rowBytes w - to) out))
   going-given k =
-      let n : length (piece gray at w) ≡ w = piece-length gray at w (row-there lent (i .here) l) in
+      let n : length (piece gray at w) ≡ w = piece-length gray at w (row-lent lent (i .here) l) in
       let a = i .kept in
-      let b = row-room lent (i .here) l in
+      let b = row-fits lent (i .here) l in
       let m = mid-len to (to + rowBytes w) out (omega arith) in
       let c = lent .wide in
       let o : length (midOf to (to + rowBytes w - to) out) ≡ rowBytes w = omega arith in
@@ -113,7 +115,7 @@ module _ {w h : ℕ} {gray out₀ : List ℕ} {work₀ work : List ℤ} {out : L
       → RowNext level (piece gray at w) work r new work′
       → RowsGoing w h gray out₀ work₀ work′ (putMid to (to + rowBytes w - to) out new) r (at + w) (to + rowBytes w) (y + 1)
   going-next bytes r new work′ k x =
-      let n : length (piece gray at w) ≡ w = piece-length gray at w (row-there lent (i .here) l) in
+      let n : length (piece gray at w) ≡ w = piece-length gray at w (row-lent lent (i .here) l) in
       record {
         here = row-next lent (i .here) l bytes level work refl r new work′ x;
         sums = λ e. subst (λ (j : ℕ). Sums j work′) n (x .sums e);

@@ -1,40 +1,42 @@
 -- From row to row of a plane: its bytes so far, and what is handed to the next row.
 -- Assumes nothing.
-use Prim.Native.Nat.{ℕ, suc, _+_, _-_, _*_, _/_, _%_, _≤_, _<_}
+use Prim.Native.Nat.{ℕ, suc, _+_, _-_, _*_, _/_, _≤_, _<_}
 use mathlib.Core.Path.{_≡_, refl, sym, ap, _∙_, subst}
-use mathlib.Core.Bool.{Bool, true, false}
+use mathlib.Core.Bool.{Bool}
 use mathlib.Core.List.{List, [], _∷_, _++_, append-assoc}
 use mathlib.Core.Logic.{⊎-elim}
 use native.Mathlib.Nat.{suc-mul, mul-comm}
 use native.Mathlib.Numerals.{add-one}
 use native.Mathlib.Omega.{arith}
-use borrow.Rule.Slice.PartMut.{midOf, putMid, postOf, same-len-mid, mid-len, take-put, drop-put}
+use borrow.Rule.Slice.PartMut.{putMid, postOf, same-len-mid, mid-len, take-put, drop-put}
 use lib.IntN.{ℤ, subℕ}
 use lib.ListN.{length, getD, take, drop, set, length-set, length-append, List·getD-eq-default}
 use lib.Seq.{length-take-le, take-at, drop-drop, take-suc-set, drop-set-lt}
 use Rattle.laws.proofs.Products.{up-to}
 use Rattle.image.specs.Geometry.{rowBytes}
-use Rattle.rules.specs.Bits.{bit, upto}
+use Rattle.rules.specs.Bits.{upto}
 use Rattle.rules.specs.Packed.{byteAt}
-use Rattle.rules.specs.Diffusion.{Scan, white, valueAt}
-use Rattle.rules.specs.Rule.{rightwards}
 use Rattle.rules.specs.Internal.Planes.{plane, scanOf, ditherBit}
 use Rattle.laws.proofs.Tests.{lt-or-le}
 use Rattle.rules.proofs.PlaneBytes.{div-at, mod-at}
 use Rattle.rules.proofs.ListPiece.{piece, piece-length, piece-at}
 use Rattle.diffusion.specs.Internal.Sums.{none, valueBy, handedDown, Handed}
 use Rattle.diffusion.specs.Internal.Rows.{grayOf, dotBy, rowOf}
-use Rattle.diffusion.specs.Internal.Planes.{handedTo, RowNext, PlaneLent, RowsWritten}
-use Rattle.diffusion.proofs.PlaneRows.{row-length, row-same, rows-more}
+use Rattle.diffusion.specs.Internal.RowByRow.{handedTo, RowNext, PlaneLent, RowsWritten}
+use Rattle.diffusion.proofs.PlaneRows.{rowOf-length, row-same, rows-more}
 use Rattle.diffusion.proofs.SumsCorrect.{down-small, value-same, down-same, dot-correct, handed-first, handed-next}
 
 -- ---- the bytes
 
-pub rows-none : (w h : ℕ) (gray out : List ℕ) → RowsWritten w h gray out 0 out
+pub rows-unwritten : (w h : ℕ) (gray out : List ℕ) → RowsWritten w h gray out 0 out
 unfolding upto
-rows-none w h gray out =
+rows-unwritten w h gray out =
     let e : 0 * rowBytes w ≡ 0 = omega arith in
-    record { rows = ap (λ (n : ℕ). take n out) e ∙ ap (λ (n : ℕ). upto n (byteAt w (ditherBit w gray))) (sym e); behind = refl; long = refl }
+    record {
+      rows = ap (λ (n : ℕ). take n out) e ∙ ap (λ (n : ℕ). upto n (byteAt w (ditherBit w gray))) (sym e);
+      behind = refl;
+      long = refl;
+    }
 
 module _ {w h : ℕ} {gray out₀ : List ℕ} {y : ℕ} {out : List ℕ} (fits : PlaneLent w h (length gray) (length out₀))
     (before : RowsWritten w h gray out₀ y out) (in-plane : y < h) where
@@ -88,12 +90,15 @@ module _ {w h : ℕ} {gray out₀ : List ℕ} {y : ℕ} {out : List ℕ} (fits :
         let r = room in
         let t = length-take-le to out (omega arith) in
         ap (take (to + rowBytes w)) (sym (append-assoc (take to out) new (postOf to (to + rowBytes w - to) out)))
-        ∙ take-at (take to out ++ new) (postOf to (to + rowBytes w - to) out) (to + rowBytes w) (length-append (take to out) new ∙ omega arith)
+        ∙ take-at (take to out ++ new) (postOf to (to + rowBytes w - to) out) (to + rowBytes w)
+        (length-append (take to out) new ∙ omega arith)
 
     -- one row more
-    pub rows-put : new ≡ rowOf w (λ c. ditherBit w gray (y * w + c)) → RowsWritten w h gray out₀ (y + 1) (putMid to (to + rowBytes w - to) out new)
+    pub rows-put : new ≡ rowOf w (λ c. ditherBit w gray (y * w + c))
+        → RowsWritten w h gray out₀ (y + 1) (putMid to (to + rowBytes w - to) out new)
     rows-put e =
-        let n : (y + 1) * rowBytes w ≡ to + rowBytes w = ap (λ (k : ℕ). k * rowBytes w) (add-one y) ∙ suc-mul y (rowBytes w) ∙ ap (λ (k : ℕ). k + rowBytes w) (sym at) in
+        let n : (y + 1) * rowBytes w ≡ to + rowBytes w =
+        ap (λ (k : ℕ). k * rowBytes w) (add-one y) ∙ suc-mul y (rowBytes w) ∙ ap (λ (k : ℕ). k + rowBytes w) (sym at) in
         record {
           rows =
               ap (λ (k : ℕ). take k put) n
@@ -108,7 +113,8 @@ module _ {w h : ℕ} {gray out₀ : List ℕ} {y : ℕ} {out : List ℕ} (fits :
         }
 
 -- one row of one dot more
-pub ones-put : {h : ℕ} {gray out₀ : List ℕ} {y : ℕ} {out : List ℕ} → PlaneLent 1 h (length gray) (length out₀) → RowsWritten 1 h gray out₀ y out → y < h
+pub ones-put : {h : ℕ} {gray out₀ : List ℕ} {y : ℕ} {out : List ℕ} → PlaneLent 1 h (length gray) (length out₀)
+    → RowsWritten 1 h gray out₀ y out → y < h
     → (b : ℕ) → b ∷ [] ≡ rowOf 1 (λ c. ditherBit 1 gray (y * 1 + c)) → RowsWritten 1 h gray out₀ (y + 1) (set out y b)
 ones-put {h} {gray} {out₀} {y} {out} fits before l b e =
     let a = fits .room in
@@ -145,14 +151,17 @@ module _ {w : ℕ} {gray : List ℕ} {y : ℕ} {sums : ℕ → ℕ} (bytes : (i 
   pub row-dots : rowOf w (λ x. valueBy (λ c. scanOf w gray c y) sums x / 256) ≡ rowOf w (λ x. ditherBit w gray (y * w + x))
   row-dots =
       row-same w (λ x. valueBy shade sums x / 256) (λ x. ditherBit w gray (y * w + x))
-      (λ x l. rw (div-at w y x l, mod-at w y x l) (sym (dot-correct w (scanOf w gray) (λ c r. bytes (r * w + c)) y sums (given .are) (given .small) x l)))
+      (λ x l. rw (div-at w y x l, mod-at w y x l)
+      (sym (dot-correct w (scanOf w gray) (λ c r. bytes (r * w + c)) y sums (given .are) (given .small) x l)))
 
   -- what row y hands down
-  pub next-sums : (sums′ : ℕ → ℕ) → ((x : ℕ) → x < w → sums′ x ≡ handedDown w (λ c. scanOf w gray c y) sums x) → HandedSums w gray (y + 1) sums′
+  pub next-sums : (sums′ : ℕ → ℕ) → ((x : ℕ) → x < w → sums′ x ≡ handedDown w (λ c. scanOf w gray c y) sums x)
+      → HandedSums w gray (y + 1) sums′
   next-sums sums′ e =
       rw (add-one y)
       (record {
-        are = λ x l. ap (λ (n : ℕ). subℕ n none) (e x l) ∙ handed-next w (scanOf w gray) (λ c r. bytes (r * w + c)) y sums (given .are) (given .small) x l;
+        are = λ x l. ap (λ (n : ℕ). subℕ n none) (e x l)
+            ∙ handed-next w (scanOf w gray) (λ c r. bytes (r * w + c)) y sums (given .are) (given .small) x l;
         small = λ x l. rw (e x l) (down-small w shade sums (λ i k. (bytes (y * w + i), given .small i k)) x l);
       })
 
@@ -168,15 +177,15 @@ pub record RowsAt (w h : ℕ) (gray out₀ : List ℕ) (sums : ℕ → ℕ) (out
 -- row y of the plane
 module _ {w h : ℕ} {gray out₀ : List ℕ} {sums : ℕ → ℕ} {out : List ℕ} {at to y : ℕ} (lent : PlaneLent w h (length gray) (length out₀))
     (i : RowsAt w h gray out₀ sums out at to y) (l : y < h) where
-  pub row-there : at + w ≤ length gray
-  row-there =
+  pub row-lent : at + w ≤ length gray
+  row-lent =
       let a = lent .there in
       let b = i .atIs in
       let m = mul-comm w h in
       omega (arith, up-to w y h l)
 
-  pub row-room : to + rowBytes w ≤ length out
-  row-room =
+  pub row-fits : to + rowBytes w ≤ length out
+  row-fits =
       let a = lent .room in
       let b = i .toIs in
       let n = i .written .long in
@@ -186,7 +195,7 @@ module _ {w h : ℕ} {gray out₀ : List ℕ} {sums : ℕ → ℕ} {out : List �
   row = piece gray at w
 
   row-long : length row ≡ w
-  row-long = piece-length gray at w row-there
+  row-long = piece-length gray at w row-lent
 
   shade-is : (x : ℕ) → x < w → getD row x 0 ≡ scanOf w gray x y
   shade-is x k = sym (piece-at gray at w x k) ∙ ap (λ (n : ℕ). getD gray (n + x) 0) (i .atIs)
@@ -206,7 +215,7 @@ module _ {w h : ℕ} {gray out₀ : List ℕ} {sums : ℕ → ℕ} {out : List �
       next-rows sums′ e d =
           let shade : ℕ → ℕ = λ c. scanOf w gray c y in
           let f : new ≡ rowOf w (dotBy row sums) = subst (λ (n : ℕ). new ≡ rowOf n (dotBy row sums)) row-long e in
-          let long : length new ≡ rowBytes w = ap length f ∙ row-length w (dotBy row sums) in
+          let long : length new ≡ rowBytes w = ap length f ∙ rowOf-length w (dotBy row sums) in
           let g : new ≡ rowOf w (λ x. ditherBit w gray (y * w + x)) =
           f
           ∙ row-same w (dotBy row sums) (λ x. valueBy shade sums x / 256)

@@ -3,7 +3,7 @@ ghost use mathlib.Core.Path.{_≡_};
 ghost use Prim.Native.Nat.{_≤_};
 ghost use lib.ListN.{length};
 ghost use Rattle.diffusion.specs.Internal.Sums.{partOf};
-ghost use Rattle.diffusion.specs.Internal.Planes.{PlaneLent, RowsWritten};
+ghost use Rattle.diffusion.specs.Internal.RowByRow.{PlaneLent, RowsWritten};
 
 // 5 sixteenths of the residual that is held as b.
 fn five(b: u32) -> u32

@@ -7,7 +7,7 @@ ghost use mathlib.Core.Path.{_≡_};
 ghost use Prim.Native.Nat.{_≤_};
 ghost use lib.ListN.{length, drop};
 ghost use Rattle.diffusion.specs.Internal.Rows.{RightTable, DownTable};
-ghost use Rattle.diffusion.specs.Internal.Planes.{AllNone, RowGiven, RowBegun, RowNext, PlaneLent, RowsWritten, RowsLeft, PlainRows};
+ghost use Rattle.diffusion.specs.Internal.RowByRow.{AllNone, RowGiven, RowBegun, RowNext, PlaneLent, RowsWritten, RowsLeft, PlainRows};
 
 // The sums that nothing was added to.
 fn level_sums(sums: &mut [i16])
@@ -20,7 +20,8 @@ fn level_sums(sums: &mut [i16])
     }
 }
 
-// Whether nothing is handed to the row, which `level` says, and it is black and white alone: then it is written. Otherwise the sums that are handed to it stand in the work buffer.
+// Whether nothing is handed to the row, which `level` says, and it is black and white alone: then it is written.
+// Otherwise the sums that are handed to it stand in the work buffer.
 fn begin_row(level: bool, gray: &[u8], work: &mut [i16], out: &mut [u8]) -> bool
     requires { ⌜ RowGiven level (now gray) (now work) (length (now out)) ⌝ }
     ensures { λ r. ⌜ RowBegun level (now (gray .entry)) (now (work .entry)) r (now (out .exit)) (now (work .exit)) ⌝ }

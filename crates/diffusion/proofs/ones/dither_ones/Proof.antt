@@ -1,8 +1,7 @@
-use Prim.Native.Nat.{ℕ, _+_, _-_, _≤_, _<_}
+use Prim.Native.Nat.{ℕ, _+_, _-_, _<_}
 use native.Mathlib.Omega.{arith}
-use borrow.Author.Needs.{needs}
 use denote.Ref.{now}
-use lib.ListN.{length, getD}
+use lib.ListN.{getD}
 use Rattle.diffusion.proofs.OnesLoop.{OnesAt, ones-begun, ones-small, ones-next, ones-end}
 use Rattle.diffusion.proofs.ones.dither_ones.Statement.{statement}
 use Rattle.diffusion.proofs.ones.dither_ones.Tie as tie
@@ -19,7 +18,8 @@ start c = c .before .before .before .before
 bytes : (c : tie.In-loop Inv-loop μ-loop) (n : ℕ) → getD (now (start c .args .gray)) n 0 < 256
 bytes c n = let f = c .before .before .before .shared-slice-known .given n in omega arith
 
-small : (c : tie.After-five Inv-loop μ-loop) → getD (now (start (c .before .before) .args .gray)) (c .before .before .before .loop .y) 0 + c .five .result + 88 < 512
+small : (c : tie.After-five Inv-loop μ-loop)
+    → getD (now (start (c .before .before) .args .gray)) (c .before .before .before .loop .y) 0 + c .five .result + 88 < 512
 small c = ones-small (bytes (c .before .before)) (c .before .before .before .loop .inv) (c .five .result) (c .five .ensures)
 
 loop-holds : tie.Need-loop-holds Inv-loop μ-loop

@@ -1,4 +1,4 @@
-use Prim.Native.Nat.{ℕ, _*_, _≤_}
+use Prim.Native.Nat.{ℕ}
 use mathlib.Core.Path.{_≡_, refl}
 use mathlib.Core.List.{List}
 use lib.IntN.{ℤ}
@@ -7,8 +7,9 @@ use denote.Ref.{now}
 use lib.ListN.{length, drop}
 use Rattle.laws.proofs.Products.{product-below}
 use Rattle.diffusion.specs.Internal.Rows.{DitherPlane}
-use Rattle.diffusion.specs.Internal.Planes.{PlaneLent, RowsWritten}
-use Rattle.diffusion.proofs.PlaneServed.{no-samples, no-room, no-work, plane-served, no-columns, lent-ones, written-ones, rows-left, lent-left, rows-joined, rows-plain}
+use Rattle.diffusion.specs.Internal.RowByRow.{PlaneLent, RowsWritten}
+use Rattle.diffusion.proofs.PlaneServed.{gray-short, out-short, work-short, plane-served, no-columns, lent-ones}
+use Rattle.diffusion.proofs.PlaneServed.{written-ones, rows-left, lent-still, rows-joined, rows-plain}
 use borrow.Author.Needs.{needs}
 use Rattle.diffusion.proofs.plane.dither_plane.Statement.{statement}
 use Rattle.diffusion.proofs.plane.dither_plane.Tie as tie
@@ -30,7 +31,8 @@ lent e =
 
 served : (e : tie.Else3) (out′ : List ℕ) (work′ : List ℤ)
     → let a = start e .args in
-    RowsWritten (a .width) (a .height) (now (a .gray)) (now (a .out)) (a .height) out′ → drop (a .width) work′ ≡ drop (a .width) (now (a .work))
+    RowsWritten (a .width) (a .height) (now (a .gray)) (now (a .out)) (a .height) out′
+    → drop (a .width) work′ ≡ drop (a .width) (now (a .work))
     → DitherPlane (a .width) (a .height) (now (a .gray)) (now (a .out)) (now (a .work)) out′ work′
 served e out′ work′ r b =
     let a = start e .args in
@@ -46,7 +48,7 @@ mul-if1 c =
     record { fits = product-below 32 32 (s .fits .width .fits) (s .fits .height .fits) }
 
 returns : tie.Need-returns
-returns c = no-samples _ _ _ _ _ (c .if1 .taken)
+returns c = gray-short _ _ _ _ _ (c .if1 .taken)
 
 mul-if2 : tie.Need-mul-if2
 mul-if2 c =
@@ -54,10 +56,10 @@ mul-if2 c =
     record { fits = product-below 32 32 (s .fits .height .fits) (omega (arith, s .fits .width)) }
 
 returns-2 : tie.Need-returns-2
-returns-2 c = no-room _ _ _ _ _ (c .if2 .taken)
+returns-2 c = out-short _ _ _ _ _ (c .if2 .taken)
 
 returns-3 : tie.Need-returns-3
-returns-3 c = no-work _ _ _ _ _ (c .if3 .taken)
+returns-3 c = work-short _ _ _ _ _ (c .if3 .taken)
 
 returns-4 : tie.Need-returns-4
 returns-4 c =
@@ -87,7 +89,7 @@ rows-from-requires : tie.Need-rows-from-requires
 rows-from-requires c κs =
     let p = c .before .before .before .before .before in
     let e = p .before .before .before in
-    ((lent-left (p .plain-rows .ensures) (lent e), e .before .if3 .left), rows-left (p .plain-rows .ensures))
+    ((lent-still (p .plain-rows .ensures) (lent e), e .before .if3 .left), rows-left (p .plain-rows .ensures))
 
 same-length-2 : tie.Need-same-length-2
 same-length-2 c = search needs

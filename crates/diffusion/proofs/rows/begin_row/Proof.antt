@@ -1,10 +1,7 @@
-use mathlib.Core.Path.{_≡_, sym, _∙_, subst}
-use mathlib.Core.Bool.{Bool}
+use mathlib.Core.Path.{sym, _∙_}
 use borrow.Author.Tests.{not-true, not-false}
 use denote.Ref.{now}
 use lib.Seq.{length-take-le}
-use Rattle.diffusion.specs.Internal.Planes.{RowBegun}
-use Rattle.rules.specs.Internal.Planes.{PlainRow}
 use Rattle.diffusion.proofs.RowHanded.{begun-handed, begun-plain, begun-level}
 use borrow.Author.Needs.{needs}
 use Rattle.diffusion.proofs.rows.begin_row.Statement.{statement}

@@ -1,9 +1,7 @@
-use mathlib.Core.Path.{_≡_, refl, sym, _∙_, subst}
-use mathlib.Core.Bool.{Bool}
+use mathlib.Core.Path.{_∙_}
 use native.Mathlib.Omega.{arith}
 use denote.Ref.{now}
-use Rattle.diffusion.specs.Internal.Planes.{RowBegun, RowNext}
-use Rattle.diffusion.proofs.RowHanded.{next-begun, next-row}
+use Rattle.diffusion.proofs.RowHanded.{next-begun, next-from-sums}
 use borrow.Author.Needs.{needs}
 use Rattle.diffusion.proofs.rows.next_row.Statement.{statement}
 use Rattle.diffusion.proofs.rows.next_row.Tie as tie
@@ -56,8 +54,8 @@ returns-2 c =
     let b = l .before .before .before .before in
     let k = b .before .before .before .before in
     let a = k .before .args in
-    next-row (now (a .gray)) (now (a .work)) _ (λ i. let f = k .shared-slice-known .given i in omega arith) (a .level) _ _ _ _ _ (l .if1 .left)
-    (b .begin-row .ensures) (r .dither-row .ensures)
+    next-from-sums (now (a .gray)) (now (a .work)) _ (λ i. let f = k .shared-slice-known .given i in omega arith) (a .level) _ _ _ _ _
+    (l .if1 .left) (b .begin-row .ensures) (r .dither-row .ensures)
 
 pub next-row-spec : {M : Type 1} → statement M
 next-row-spec =

@@ -1,13 +1,12 @@
-use Prim.Native.Nat.{ℕ, _+_, _-_, _≤_, _<_}
-use mathlib.Core.Path.{_≡_, refl, sym, ap, _∙_}
+use Prim.Native.Nat.{_+_, _-_, _≤_}
 use native.Mathlib.Omega.{arith}
 use borrow.Author.Needs.{needs}
 use denote.Ref.{now}
-use lib.ListN.{length, getD}
-use borrow.Author.Tests.{not-true, not-false}
+use lib.ListN.{length}
+use borrow.Author.Tests.{not-false}
 use Rattle.image.specs.Geometry.{rowBytes}
 use Rattle.diffusion.specs.Internal.Sums.{none}
-use Rattle.diffusion.proofs.RowsLoop.{RowsAt, row-there, row-room}
+use Rattle.diffusion.proofs.RowsLoop.{RowsAt, row-lent, row-fits}
 use Rattle.diffusion.proofs.RowsGoing.{plain-begun, plain-more, plain-end}
 use Rattle.diffusion.proofs.rows.plain_rows.Statement.{statement}
 use Rattle.diffusion.proofs.rows.plain_rows.Tie as tie
@@ -26,10 +25,10 @@ start c = c .before .before .before .before
 
 -- row y is among the samples, and has room in the output
 there : (c : tie.In-loop Inv-loop μ-loop) → c .before .loop .at + start c .args .width ≤ length (now (start c .args .gray))
-there c = row-there (start c .pre) (c .before .loop .inv) (c .loop-test .taken)
+there c = row-lent (start c .pre) (c .before .loop .inv) (c .loop-test .taken)
 
 room : (c : tie.In-loop Inv-loop μ-loop) → c .before .loop .to + rowBytes (start c .args .width) ≤ length (c .before .loop .out)
-room c = row-room (start c .pre) (c .before .loop .inv) (c .loop-test .taken)
+room c = row-fits (start c .pre) (c .before .loop .inv) (c .loop-test .taken)
 
 loop-holds : tie.Need-loop-holds Inv-loop μ-loop
 loop-holds c =
@@ -67,7 +66,8 @@ returns-rows : tie.Need-returns Inv-loop μ-loop
 returns-rows c =
     let p = c .before .before .before in
     let q = p .before .before .before in
-    plain-end (start q .pre) (q .before .loop .inv) (q .loop-test .taken) (p .plain-row .result) (p .plain-row .last .1 .1 .0) (p .plain-row .kept .1 .1 .0)
+    plain-end (start q .pre) (q .before .loop .inv) (q .loop-test .taken) (p .plain-row .result)
+    (p .plain-row .last .1 .1 .0) (p .plain-row .kept .1 .1 .0)
 
 same-length : tie.Need-same-length Inv-loop μ-loop
 same-length c = returns-rows c .written .long

@@ -1,12 +1,12 @@
-use Prim.Native.Nat.{ℕ, _+_, _-_, _≤_, _<_}
-use mathlib.Core.Path.{_≡_, refl, sym, ap, _∙_}
+use Prim.Native.Nat.{_+_, _-_, _≤_}
+use mathlib.Core.Path.{refl}
 use native.Mathlib.Omega.{arith}
 use borrow.Author.Needs.{needs}
 use denote.Ref.{now}
-use lib.ListN.{length, getD}
+use lib.ListN.{length}
 use Rattle.image.specs.Geometry.{rowBytes}
-use Rattle.diffusion.proofs.RowsLoop.{row-there, row-room}
-use Rattle.diffusion.proofs.RowsGoing.{RowsGoing, start-there, start-room, going-begun, going-given, going-next, going-end}
+use Rattle.diffusion.proofs.RowsLoop.{row-lent, row-fits}
+use Rattle.diffusion.proofs.RowsGoing.{RowsGoing, first-lent, first-fits, going-begun, going-given, going-next, going-end}
 use Rattle.diffusion.proofs.rows.rows_from.Statement.{statement}
 use Rattle.diffusion.proofs.rows.rows_from.Tie as tie
 
@@ -23,10 +23,10 @@ start c = c .before .before .before .before .before .before
 
 -- row y is among the samples, and has room in the output
 there : (c : tie.In-loop Inv-loop μ-loop) → c .before .loop .at + start c .args .width ≤ length (now (start c .args .gray))
-there c = row-there (start c .pre .0 .0) (c .before .loop .inv .here) (c .loop-test .taken)
+there c = row-lent (start c .pre .0 .0) (c .before .loop .inv .here) (c .loop-test .taken)
 
 room : (c : tie.In-loop Inv-loop μ-loop) → c .before .loop .to + rowBytes (start c .args .width) ≤ length (c .before .loop .out)
-room c = row-room (start c .pre .0 .0) (c .before .loop .inv .here) (c .loop-test .taken)
+room c = row-fits (start c .pre .0 .0) (c .before .loop .inv .here) (c .loop-test .taken)
 
 abbrev turn : (c : tie.After-slice-known2 Inv-loop μ-loop) → tie.In-loop Inv-loop μ-loop
 turn c = c .before .before .before .before .before .before .before .before .before
@@ -43,12 +43,12 @@ add-row c = search needs
 mul-at : tie.Need-mul-at Inv-loop μ-loop
 mul-at c =
     let s = c .before .before .before .before in
-    omega (arith, start-there (s .pre .0 .0) (s .args .first) (s .pre .1 .most), s .good)
+    omega (arith, first-lent (s .pre .0 .0) (s .args .first) (s .pre .1 .most), s .good)
 
 mul-to : tie.Need-mul-to Inv-loop μ-loop
 mul-to c =
     let s = c .before .before .before .before in
-    omega (arith, start-room (s .pre .0 .0) (s .args .first) (s .pre .1 .most), s .good)
+    omega (arith, first-fits (s .pre .0 .0) (s .args .first) (s .pre .1 .most), s .good)
 
 loop-holds : tie.Need-loop-holds Inv-loop μ-loop
 loop-holds c =
@@ -83,8 +83,13 @@ part-next-row-end-2 c = omega (arith, room (c .before .before .before .before))
 next-row-requires : tie.Need-next-row-requires Inv-loop μ-loop
 next-row-requires c κs =
     let q = c .before .before .before .before .before in
-    let d = q .before .before in
-    (d .before .right-table .ensures, (d .down-table .ensures, going-given (start q .pre .0 .0) (q .before .loop .inv) (q .loop-test .taken) (start q .pre .0 .1)))
+    let d = q .before .before in (
+      d .before .right-table .ensures,
+      (
+        d .down-table .ensures,
+        going-given (start q .pre .0 .0) (q .before .loop .inv) (q .loop-test .taken) (start q .pre .0 .1),
+      ),
+    )
 
 add-y : tie.Need-add-y Inv-loop μ-loop
 add-y c =
@@ -99,7 +104,8 @@ loop-again c =
     let n = c .before .before .before in
     let q = turn c in
     let k = q .before .before .before .before .before in
-    going-next (start q .pre .0 .0) (q .before .loop .inv) (q .loop-test .taken) (λ i. let f = k .shared-slice-known .given i in omega arith) _ _ _
+    going-next (start q .pre .0 .0) (q .before .loop .inv) (q .loop-test .taken)
+    (λ i. let f = k .shared-slice-known .given i in omega arith) _ _ _
     (n .next-row .kept .1 .1 .1 .1 .0) (n .next-row .ensures)
 
 same-length : tie.Need-same-length Inv-loop μ-loop
