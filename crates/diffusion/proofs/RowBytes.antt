@@ -12,7 +12,7 @@ use Rattle.image.specs.Geometry.{rowBytes}
 use Rattle.rules.specs.Bits.{upto, appended, digits}
 use Rattle.rules.specs.Packed.{paddedBit, byteAt}
 use Rattle.rules.proofs.DigitsAppended.{appended-ext, digits-tail}
-use Rattle.ordered.proofs.OrderedNumbers.{take-more}
+use Rattle.rules.proofs.UptoList.{take-more}
 use Rattle.diffusion.specs.declared.row.Flow.{Flow}
 use Rattle.diffusion.specs.Internal.Sums.{handedRight, restBefore, sumsOf}
 use Rattle.diffusion.specs.Internal.Rows.{grayOf, dotBy, RowLent}

@@ -16,7 +16,7 @@ use Rattle.rules.specs.Bits.{upto}
 use Rattle.rules.specs.Packed.{byteAt}
 use Rattle.laws.proofs.Tests.{lt-or-le}
 use Rattle.rules.proofs.DigitsAppended.{shifted-lt}
-use Rattle.ordered.proofs.OrderedNumbers.{take-more}
+use Rattle.rules.proofs.UptoList.{take-more}
 use Rattle.diffusion.specs.declared.row.Flow.{Flow}
 use Rattle.diffusion.specs.Internal.Sums.{partOf, restBy, restBefore, restAfter, handedDown, sumsOf, Level}
 use Rattle.diffusion.specs.Internal.Rows.{grayOf, dotBy, rowOf, RowLent, RowDithered}

@@ -6,10 +6,9 @@ use mathlib.Core.Bool.{Bool, true, false, _||_}
 use mathlib.Core.Logic.{_⊎_, inl, inr, ⊎-elim}
 use mathlib.Core.List.{List, [], _∷_}
 use native.Mathlib.Nat.{div-eq-of-lt, div-add-mod', mod-lt, mul-le-mul, mul-le-mul-left, mul-suc, mul-comm, mul-assoc, pow-suc}
-use native.Mathlib.Numerals.{add-one}
 use native.Mathlib.Omega.{arith}
-use lib.ListN.{length, take, set}
-use lib.Seq.{getD-take, take-suc-set}
+use lib.ListN.{take}
+use lib.Seq.{getD-take}
 use lib.Dec.{leb, eqb}
 use borrow.Author.Tests.{eqb-true, le-leb, lt-leb}
 use Rattle.rules.specs.Bits.{upto}
@@ -162,11 +161,6 @@ two-white = product-form 8 0 2 refl
 -- only the table's front is looked at
 pub cell-front : (s : ℕ) (t : List ℕ) (x y : ℕ) → 0 < s → cell s (take (s * s) t) x y ≡ cell s t x y
 cell-front s t x y p = getD-take (s * s) t (s * (y % s) + x % s) 0 (index-lt s x y p)
-
--- what `filled` stores, one number after the other
-pub take-more : (t : List ℕ) (i v : ℕ) (f : ℕ → ℕ) → i < length t → take i t ≡ upto i f → v ≡ f i → take (i + 1) (set t i v) ≡ upto (i + 1) f
-unfolding upto
-take-more t i v f h e k = rw (add-one i, take-suc-set t i v h, e, k)
 
 pub area-le : (s : ℕ) → s ≤ 8 → s * s ≤ 64
 area-le s h = mul-le-mul {n₁ = s} {m₁ = s} {n₂ = 8} {m₂ = 8} h h

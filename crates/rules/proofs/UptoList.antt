@@ -3,14 +3,14 @@
 use Prim.Native.Nat.{ℕ, zero, suc, _+_, _<_}
 use mathlib.Core.Path.{_≡_, refl, sym, ap, _∙_}
 use mathlib.Core.Bool.{Bool, true, false}
-use mathlib.Core.List.{[], _∷_, _++_, append-assoc, append-nil}
+use mathlib.Core.List.{List, [], _∷_, _++_, append-assoc, append-nil}
 use native.Mathlib.Nat.{add-zero, add-suc}
 use native.Mathlib.Numerals.{add-one}
 use native.Mathlib.Omega.{arith}
 use borrow.Author.Tests.{ltb-true, ltb-false}
 use lib.Dec.{ltb}
-use lib.ListN.{length, getD, length-append, List·getD-append}
-use lib.Seq.{getD-at}
+use lib.ListN.{length, getD, take, set, length-append, List·getD-append}
+use lib.Seq.{getD-at, take-suc-set}
 use Rattle.rules.specs.Bits.{upto}
 
 module _ {A : Type 0} (f : ℕ → A) where
@@ -44,3 +44,8 @@ module _ {A : Type 0} (f : ℕ → A) where
       go false e ih =
           let h : j ≡ n = omega (arith, ltb-false j n e) in
           getD-at (upto n f) (f n) [] d j (length-upto n ∙ sym h) ∙ ap f (sym h)
+
+-- a list that is filled with the values, one after the other
+pub take-more : (t : List ℕ) (i v : ℕ) (f : ℕ → ℕ) → i < length t → take i t ≡ upto i f → v ≡ f i → take (i + 1) (set t i v) ≡ upto (i + 1) f
+unfolding upto
+take-more t i v f h e k = rw (add-one i, take-suc-set t i v h, e, k)

@@ -6,7 +6,8 @@ use native.Mathlib.Omega.{arith}
 use lib.ListN.{length, take, length-set}
 use Rattle.rules.specs.Bits.{upto}
 use Rattle.rules.specs.Ordered.{number, numbers}
-use Rattle.ordered.proofs.OrderedNumbers.{take-more, area-le}
+use Rattle.rules.proofs.UptoList.{take-more}
+use Rattle.ordered.proofs.OrderedNumbers.{area-le}
 use Rattle.ordered.proofs.table.filled.Statement.{statement}
 use Rattle.ordered.proofs.table.filled.Tie as tie
 
