@@ -63,7 +63,7 @@ fn engine_plane(
 
 // Whether there are few samples and a gray one among them: the engine dithers these before the tables of `dither_plane` are bound.
 fn few_grays(area: usize, gray: &[u8]) -> bool {
-    if 32 < area {
+    if 16 < area {
         return false;
     }
     if gray.len() < area {
