@@ -14,7 +14,7 @@ use lib.Seq.{take-suc, length-take-le}
 use Rattle.rules.specs.Bits.{upto, bit}
 use Rattle.rules.specs.Diffusion.{white}
 use Rattle.rules.specs.Ordered.{bound, cell}
-use Rattle.rules.specs.Rule.{Rule, threshold, dither, ordered, rightwards, dot, roomy}
+use Rattle.rules.specs.Rule.{Rule, threshold, dither, ordered, rightwards, dot, enoughWork}
 use Rattle.quantize.specs.Finished.{Setting, Bytewise, count, frame, dotOf, finished}
 use Rattle.rules.specs.Packed.{byteAt}
 use Rattle.quantize.specs.Internal.Machine.{State, Step, byteStep, stepOf, carried, emitted}
@@ -99,7 +99,7 @@ record Follows (rule : Rule) (w h frames : ℕ) (xs : List ℕ) (g : ℕ) (st : 
   bytesAre : finished (record { rule = rule; width = w; height = h; frames = frames }) (xs ++ (g ∷ []))
       ≡ finished (record { rule = rule; width = w; height = h; frames = frames }) xs ++ stepOf rule w (length xs / w % h) (length xs % w) g st .bytes
 
-follow : (rule : Rule) (w h frames : ℕ) (xs : List ℕ) (g : ℕ) (st : State) → 0 < w → 0 < h → g < 256 → roomy rule w (length (st .carry .kept)) ≡ true → Held (st .carry .corner)
+follow : (rule : Rule) (w h frames : ℕ) (xs : List ℕ) (g : ℕ) (st : State) → 0 < w → 0 < h → g < 256 → enoughWork rule w (length (st .carry .kept)) ≡ true → Held (st .carry .corner)
     → Keeps rule (record { rule = rule; width = w; height = h; frames = frames }) xs st → Follows rule w h frames xs g st
 unfolding stepOf next machineDot dot
 follow (threshold t) w h frames xs g st wide high byte room small k =
@@ -124,7 +124,7 @@ follow (ordered side table) w h frames xs g st wide high byte room small k =
 -- ---- a list of samples
 
 module _ (s : Setting) (xs samples : List ℕ) (st : State) (wide : 0 < s .width) (high : 0 < s .height) (octets : (i : ℕ) → getD samples i 0 < 256)
-    (room : roomy (s .rule) (s .width) (length (st .carry .kept)) ≡ true) (small : Held (st .carry .corner)) (k : Keeps (s .rule) s xs st) where
+    (room : enoughWork (s .rule) (s .width) (length (st .carry .kept)) ≡ true) (small : Held (st .carry .corner)) (k : Keeps (s .rule) s xs st) where
   abbrev at : ℕ → State
   at i = carried s (length xs) st samples i
 
@@ -137,7 +137,7 @@ module _ (s : Setting) (xs samples : List ℕ) (st : State) (wide : 0 < s .width
   joined-more : (i : ℕ) → i < length samples → joined (suc i) ≡ joined i ++ (getD samples i 0 ∷ [])
   joined-more i h = rw (take-suc samples i 0 h) (sym (append-assoc xs (take i samples) (getD samples i 0 ∷ [])))
 
-  room-at : (i : ℕ) → roomy (s .rule) (s .width) (length (at i .carry .kept)) ≡ true
+  room-at : (i : ℕ) → enoughWork (s .rule) (s .width) (length (at i .carry .kept)) ≡ true
   room-at i = rw (carried-long s (length xs) st samples i) room
 
   pub record Kept (i : ℕ) : Type 0 where

@@ -12,7 +12,7 @@ use lib.Seq.{take-length}
 use lib.Pow.{pow-pos}
 use Rattle.options.specs.declared.Quantize.{Quantize}
 use Rattle.options.specs.declared.Quantize.the-variants.{Threshold, Dither, Ordered}
-use Rattle.rules.specs.Rule.{Rule, threshold, dither, ordered, rightwards, meaning, roomy}
+use Rattle.rules.specs.Rule.{Rule, threshold, dither, ordered, rightwards, meaning, enoughWork}
 use Rattle.quantize.specs.Finished.{Setting, frame, dotOf, finished, setting}
 use Rattle.rules.specs.Internal.Carry.{Carry}
 use Rattle.quantize.specs.Internal.Machine.{emitted}
@@ -76,7 +76,7 @@ opens rule table w h frames t =
 
 -- THE MACHINE EMITS THE DEFINITION'S BYTES, for every rule, list of samples and size, whatever numbers it finds
 pub machine-bytes : (s : Setting) (samples : List ℕ) (c : Carry) → 0 < s .width → 0 < s .height → ((i : ℕ) → getD samples i 0 < 256)
-    → roomy (s .rule) (s .width) (length (c .kept)) ≡ true → Held (c .corner) → emitted s 0 (record { begun = 0; carry = c }) samples (length samples) ≡ finished s samples
+    → enoughWork (s .rule) (s .width) (length (c .kept)) ≡ true → Held (c .corner) → emitted s 0 (record { begun = 0; carry = c }) samples (length samples) ≡ finished s samples
 machine-bytes s samples c wide high bytes room small =
     let K = kept s [] samples (record { begun = 0; carry = c }) wide high bytes room small (keeps-none (s .rule) s c) (length samples) (omega arith) in
     sym (ap (finished s) (sym (take-length samples)) ∙ K .bytesAre ∙ ap (λ (l : List ℕ). l ++ emitted s 0 (record { begun = 0; carry = c }) samples (length samples)) (finished-none s wide))

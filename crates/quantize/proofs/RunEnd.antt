@@ -15,13 +15,13 @@ use Rattle.options.specs.declared.Quantize.{Quantize}
 use Rattle.quantize.specs.declared.engine.Quantizer.{Quantizer}
 use Rattle.quantize.specs.declared.engine.Ran.{Ran}
 use Rattle.quantize.specs.declared.turn.Place.{Place}
-use Rattle.rules.specs.Rule.{Rule, meaning, knownRule, roomy}
+use Rattle.rules.specs.Rule.{Rule, meaning, knownRule, enoughWork}
 use Rattle.quantize.specs.Finished.{Setting, Bytewise, count, finished, takes}
 use Rattle.quantize.specs.Internal.Machine.{State, carried, emitted}
 use Rattle.quantize.specs.Internal.Turn.{stateOf, ruleOf, Sound, SamplesForByte, Served}
 use Rattle.quantize.specs.Internal.Engine.{Stands, Keeps, Holds, Counts, Machines, Defined, Ready, Runs, ranTo}
 use Rattle.rules.proofs.HeldRange.{Held}
-use Rattle.quantize.proofs.DotsByRule.{roomy-same}
+use Rattle.quantize.proofs.DotsByRule.{enough-work-same}
 use Rattle.quantize.proofs.TakenMost.{takes-all, next-byte}
 use Rattle.quantize.proofs.MachineSteps.{emitted-count}
 use Rattle.quantize.proofs.TurnMoves.{Moved}
@@ -30,10 +30,10 @@ use Rattle.quantize.proofs.RunLoop.{Loop}
 
 -- ---- the work buffer
 
-not-roomy : (rule : Quantize) (table : List ℕ) (w work : ℕ) → knownRule rule ≡ true → (Served rule w work → ⊥) → roomy (ruleOf rule table) w work ≡ false
-not-roomy rule table w work k h = roomy-same rule table w work ∙ go (roomy (meaning rule) w work) refl
+not-enough-work : (rule : Quantize) (table : List ℕ) (w work : ℕ) → knownRule rule ≡ true → (Served rule w work → ⊥) → enoughWork (ruleOf rule table) w work ≡ false
+not-enough-work rule table w work k h = enough-work-same rule table w work ∙ go (enoughWork (meaning rule) w work) refl
   where
-    go : (b : Bool) → roomy (meaning rule) w work ≡ b → b ≡ false
+    go : (b : Bool) → enoughWork (meaning rule) w work ≡ b → b ≡ false
     go true e = absurd (h (record { known = k; room = e }))
     go false e = refl
 
@@ -42,7 +42,7 @@ not-roomy rule table w work k h = roomy-same rule table w work ∙ go (roomy (me
 module _ (q : Quantizer) (samples out : List ℕ) (work : List ℤ) (r : Ran) (out′ : List ℕ) (work′ : List ℤ) (fits : r .taken ≤ length samples) (octets : (i : ℕ) → getD samples i 0 < 256)
     (counts : (s : Setting) (n : ℕ) → Stands q s n → Counts q s n (length samples) (length out) (length work) r)
     (machine : (s : Setting) (n : ℕ) → Stands q s n → Machines q s n samples out work r out′ work′)
-    (room : (s : Setting) (n : ℕ) → Stands q s n → 0 < r .taken → roomy (s .rule) (s .width) (length work) ≡ true) where
+    (room : (s : Setting) (n : ℕ) → Stands q s n → 0 < r .taken → enoughWork (s .rule) (s .width) (length work) ≡ true) where
   module _ (s : Setting) (xs : List ℕ) (H : Holds q work s xs) where
     abbrev n : ℕ
     n = length xs
@@ -123,7 +123,7 @@ runs-none q samples out work octets h =
     counts : (s : Setting) (n : ℕ) → Stands q s n → Counts q s n (length samples) (length out) (length work) (record { quantizer = q; taken = 0; written = 0 })
     counts s n t =
         record {
-          taken = sym (if-false (roomy (s .rule) (s .width) (length work)) (takes s n (length samples) (length out)) 0 (rw (t .rule, t .width) (not-roomy (q .rule) (q .table) (q .width) (length work) (t .knows) (unserved s n t))));
+          taken = sym (if-false (enoughWork (s .rule) (s .width) (length work)) (takes s n (length samples) (length out)) 0 (rw (t .rule, t .width) (not-enough-work (q .rule) (q .table) (q .width) (length work) (t .knows) (unserved s n t))));
           written = rw (add-zero, add-zero);
           stands = rw add-zero t;
         }
@@ -159,8 +159,8 @@ module _ (q : Quantizer) (samples out : List ℕ) (work : List ℤ) (out′ : Li
         emitted-count s n (stateOf (q .place) work) samples (let i = t .at .inRow in omega arith) taken
         ∙ ap (λ (k : ℕ). count s n + k) (ap length (P .emits) ∙ length-take-le written out′ (omega (arith, L .writtenFits, L .outLong)))
 
-    served : roomy (s .rule) (s .width) (length work) ≡ true
-    served = rw (t .rule, t .width, ← L .turn .long) (roomy-same (q .rule) (q .table) (q .width) (length work′) ∙ L .turn .sound .served .room)
+    served : enoughWork (s .rule) (s .width) (length work) ≡ true
+    served = rw (t .rule, t .width, ← L .turn .long) (enough-work-same (q .rule) (q .table) (q .width) (length work′) ∙ L .turn .sound .served .room)
 
     machine-are : Machines q s n samples out work ran out′ work′
     machine-are = record { bytes = sym (take-append-drop written out′) ∙ rw (← P .emits, L .past); keeps = P .keeps }

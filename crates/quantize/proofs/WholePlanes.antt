@@ -22,7 +22,7 @@ use Rattle.quantize.specs.declared.engine.Quantizer.{Quantizer}
 use Rattle.quantize.specs.declared.engine.Ran.{Ran}
 use Rattle.quantize.specs.Finished.{Setting, count, dotOf, finished, takes, setting}
 use Rattle.rules.specs.Packed.{byteAt}
-use Rattle.rules.specs.Rule.{meaning, knownRule, carries, roomy}
+use Rattle.rules.specs.Rule.{meaning, knownRule, carries, enoughWork}
 use Rattle.rules.specs.Internal.Planes.{plane, planeIn}
 use Rattle.quantize.specs.Internal.Engine.{Opens, Holds, Runs}
 use Rattle.quantize.specs.Whole.{refusedBy, quantized, Quantizes}
@@ -46,13 +46,13 @@ module _ (rule : Quantize) (w h gray work : ℕ) where
       refused-rule e = rw (ne-eqb w 0 pw, ne-eqb h 0 ph, e)
 
       module _ (known : knownRule rule ≡ true) where
-        pub refused-work : roomy (meaning rule) w work ≡ false → 28 ≡ refusedBy rule w h gray work
+        pub refused-work : enoughWork (meaning rule) w work ≡ false → 28 ≡ refusedBy rule w h gray work
         refused-work e = rw (ne-eqb w 0 pw, ne-eqb h 0 ph, known, e)
 
-        pub refused-gray : roomy (meaning rule) w work ≡ true → gray < w * h → 22 ≡ refusedBy rule w h gray work
+        pub refused-gray : enoughWork (meaning rule) w work ≡ true → gray < w * h → 22 ≡ refusedBy rule w h gray work
         refused-gray e l = rw (ne-eqb w 0 pw, ne-eqb h 0 ph, known, e, lt-leb (w * h) gray l)
 
-        pub refused-none : roomy (meaning rule) w work ≡ true → w * h ≤ gray → 0 ≡ refusedBy rule w h gray work
+        pub refused-none : enoughWork (meaning rule) w work ≡ true → w * h ≤ gray → 0 ≡ refusedBy rule w h gray work
         refused-none e l = rw (ne-eqb w 0 pw, ne-eqb h 0 ph, known, e, le-leb (w * h) gray l)
 
   -- where nothing is refused, all tests passed
@@ -60,13 +60,13 @@ module _ (rule : Quantize) (w h gray work : ℕ) where
     pub wide : 0 < w
     pub high : 0 < h
     pub known : knownRule rule ≡ true
-    pub room : roomy (meaning rule) w work ≡ true
+    pub room : enoughWork (meaning rule) w work ≡ true
     pub enough : w * h ≤ gray
 
   pub passed : 0 ≡ refusedBy rule w h gray work → Passed
-  passed e = go (eqb w 0) (eqb h 0) (knownRule rule) (roomy (meaning rule) w work) (leb (w * h) gray) refl refl refl refl refl e
+  passed e = go (eqb w 0) (eqb h 0) (knownRule rule) (enoughWork (meaning rule) w work) (leb (w * h) gray) refl refl refl refl refl e
     where
-      go : (a b c d f : Bool) → eqb w 0 ≡ a → eqb h 0 ≡ b → knownRule rule ≡ c → roomy (meaning rule) w work ≡ d → leb (w * h) gray ≡ f
+      go : (a b c d f : Bool) → eqb w 0 ≡ a → eqb h 0 ≡ b → knownRule rule ≡ c → enoughWork (meaning rule) w work ≡ d → leb (w * h) gray ≡ f
           → _≡_ {A = ℕ} 0 (if (a || b) 8 (if c (if d (if f 0 22) 28) 29)) → Passed
       go true b c d f p q r s t z = let x : ⊥ = omega arith in absurd x
       go false true c d f p q r s t z = let x : ⊥ = omega arith in absurd x

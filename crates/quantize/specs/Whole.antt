@@ -11,14 +11,14 @@ use Rattle.error.specs.Answer.{Answer, gives, refuses}
 use Rattle.error.specs.Emits.{Emits}
 use Rattle.options.specs.declared.Quantize.{Quantize}
 use Rattle.quantize.specs.Finished.{finished, setting}
-use Rattle.rules.specs.Rule.{meaning, knownRule, carries, roomy}
+use Rattle.rules.specs.Rule.{meaning, knownRule, carries, enoughWork}
 
 -- the refusal of so many samples and numbers of work, 0 where there is none
 abbrev pub refusedBy : Quantize → ℕ → ℕ → ℕ → ℕ → ℕ
 refusedBy rule w h gray work =
     if (eqb w 0 || eqb h 0) 8
     (if (knownRule rule)
-    (if (roomy (meaning rule) w work)
+    (if (enoughWork (meaning rule) w work)
     (if (leb (w * h) gray) 0 22)
     28)
     29)

@@ -1,5 +1,5 @@
 // The quantising engine, which whole planes and making sessions run.
-use crate::asked::enough;
+use crate::asked::enough_work;
 use crate::asked::known_rule;
 use crate::turn::Place;
 use crate::turn::fill_row;
@@ -54,7 +54,7 @@ fn can_take(rule: Quantize, width: usize, height: usize, p: Place, work: usize) 
     if !known_rule(rule) {
         return false;
     }
-    enough(rule, width, work)
+    enough_work(rule, width, work)
 }
 
 // The ordered numbers of the rule's side, row by row, at the front.
@@ -153,11 +153,7 @@ impl Quantizer {
     {
         let rule = self.rule;
         let width = self.width;
-        match rule {
-            Quantize::Threshold(_) => true,
-            Quantize::Dither => width <= work / 2,
-            Quantize::Ordered(_) => true,
-        }
+        enough_work(rule, width, work)
     }
 
     // Whether the samples so far are whole frames, and at least one, where the engine was made for so many frames.

@@ -4,8 +4,8 @@ mod engine;
 mod turn;
 mod whole;
 
+pub use asked::enough_work;
 pub use asked::known_rule;
-pub use asked::roomy;
 pub use engine::Quantizer;
 pub use engine::Ran;
 pub use engine::Spot;

@@ -1,6 +1,6 @@
 // Whole planes, one frame each: at once, or by the engine.
+use crate::asked::enough_work;
 use crate::asked::known_rule;
-use crate::asked::roomy;
 use crate::engine::Quantizer;
 use diffusion::dither_plane;
 use error::BUFFER_TOO_SHORT;
@@ -34,7 +34,7 @@ fn refused(width: u32, height: u32, gray: usize, rule: Quantize, work: usize) ->
     if !known_rule(rule) {
         return UNKNOWN_SETTING;
     }
-    if !roomy(rule, width, work) {
+    if !enough_work(rule, width as usize, work) {
         return BUFFER_TOO_SHORT;
     }
     let area = width as usize * height as usize;

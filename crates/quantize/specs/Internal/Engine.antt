@@ -13,7 +13,7 @@ use Rattle.quantize.specs.declared.engine.Ran.{Ran}
 use Rattle.quantize.specs.declared.engine.Spot.{Spot}
 use Rattle.quantize.specs.declared.turn.Place.{Place}
 use Rattle.rules.specs.Diffusion.{Direction, Scan, onLeft, above, residualAt}
-use Rattle.rules.specs.Rule.{Rule, threshold, dither, ordered, rightwards, meaning, knownRule, carries, roomy}
+use Rattle.rules.specs.Rule.{Rule, threshold, dither, ordered, rightwards, meaning, knownRule, carries, enoughWork}
 use Rattle.quantize.specs.Internal.Turn.{Served, stateOf, ruleOf}
 use Rattle.quantize.specs.Finished.{Setting, count, frame, dotOf, newly, takes, setting}
 use Rattle.rules.specs.Internal.Carry.{Carry, clamp}
@@ -96,7 +96,7 @@ ranTo q place taken written =
 
 -- how many samples are taken and bytes written after n samples, for every work buffer
 pub record Counts (q : Quantizer) (s : Setting) (n samples room work : ℕ) (r : Ran) : Type 0 where
-  pub taken : r .taken ≡ if (roomy (s .rule) (s .width) work) (takes s n samples room) 0
+  pub taken : r .taken ≡ if (enoughWork (s .rule) (s .width) work) (takes s n samples room) 0
   pub written : count s (n + r .taken) ≡ count s n + r .written
   pub stands : Stands (r .quantizer) s (n + r .taken)
 
@@ -127,7 +127,7 @@ spotOf q = record { frames = q .place .frames; row = q .place .row; column = q .
 
 -- whether a work buffer of so many numbers is long enough
 abbrev pub roomFor : Quantizer → ℕ → Bool
-roomFor q work = roomy (meaning (q .rule)) (q .width) work
+roomFor q work = enoughWork (meaning (q .rule)) (q .width) work
 
 -- whether it stands behind whole frames, and at least one, where it was made for so many
 abbrev pub behindFrames : Quantizer → ℕ → Bool
