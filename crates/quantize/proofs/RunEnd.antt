@@ -13,7 +13,7 @@ use lib.Seq.{length-take-le, drop-append-seam}
 use Rattle.laws.proofs.Tests.{lt-or-le, if-true, if-false}
 use Rattle.options.specs.declared.Quantize.{Quantize}
 use Rattle.quantize.specs.declared.engine.Quantizer.{Quantizer}
-use Rattle.quantize.specs.declared.engine.Ran.{Ran}
+use Rattle.quantize.specs.declared.engine.RunEnded.{RunEnded}
 use Rattle.quantize.specs.declared.turn.Place.{Place}
 use Rattle.rules.specs.Rule.{Rule, meaning, knownRule, enoughWork}
 use Rattle.quantize.specs.Finished.{Setting, Bytewise, count, finished, takes}
@@ -39,7 +39,7 @@ not-enough-work rule table w work k h = enough-work-same rule table w work ∙ g
 
 -- ---- the definition's bytes, from the machine's
 
-module _ (q : Quantizer) (samples out : List ℕ) (work : List ℤ) (r : Ran) (out′ : List ℕ) (work′ : List ℤ) (fits : r .taken ≤ length samples) (octets : (i : ℕ) → getD samples i 0 < 256)
+module _ (q : Quantizer) (samples out : List ℕ) (work : List ℤ) (r : RunEnded) (out′ : List ℕ) (work′ : List ℤ) (fits : r .taken ≤ length samples) (octets : (i : ℕ) → getD samples i 0 < 256)
     (counts : (s : Setting) (n : ℕ) → Stands q s n → Counts q s n (length samples) (length out) (length work) r)
     (machine : (s : Setting) (n : ℕ) → Stands q s n → Machines q s n samples out work r out′ work′)
     (room : (s : Setting) (n : ℕ) → Stands q s n → 0 < r .taken → enoughWork (s .rule) (s .width) (length work) ≡ true) where
@@ -138,16 +138,16 @@ abbrev pub Full : Quantizer → List ℕ → List ℕ → Place → ℕ → Type
 Full q samples out p taken = (s : Setting) (n : ℕ) → Stands q s n → (p .frames ≤ 0) ⊎ ((length samples ≤ taken) ⊎ (count s n + length out < count s (n + taken + 1)))
 
 -- as `ran` tells it
-pub none-told : (q : Quantizer) (samples out : List ℕ) (work : List ℤ) (r : Ran) → r ≡ ranTo q (q .place) 0 0 → ((i : ℕ) → getD samples i 0 < 256)
+pub none-told : (q : Quantizer) (samples out : List ℕ) (work : List ℤ) (r : RunEnded) → r ≡ ranTo q (q .place) 0 0 → ((i : ℕ) → getD samples i 0 < 256)
     → (Sound (q .rule) (q .width) (q .height) (q .place .row) (q .place .column) (q .place .begun) (q .place .corner) (length work) → ⊥) → Runs q samples out work r out work
-none-told q samples out work r e octets h = subst (λ (r : Ran). Runs q samples out work r out work) (sym e) (runs-none q samples out work octets h)
+none-told q samples out work r e octets h = subst (λ (r : RunEnded). Runs q samples out work r out work) (sym e) (runs-none q samples out work octets h)
 
 module _ (q : Quantizer) (samples out : List ℕ) (work : List ℤ) (out′ : List ℕ) (work′ : List ℤ) (p : Place) (taken written : ℕ)
     (L : Loop q samples out work out′ work′ p taken written) (octets : (i : ℕ) → getD samples i 0 < 256) where
   abbrev q′ : Quantizer
   q′ = record { rule = q .rule; table = q .table; width = q .width; height = q .height; place = p }
 
-  abbrev ran : Ran
+  abbrev ran : RunEnded
   ran = record { quantizer = q′; taken = taken; written = written }
 
   module _ (s : Setting) (n : ℕ) (t : Stands q s n) where
@@ -217,5 +217,5 @@ module _ (q : Quantizer) (samples out : List ℕ) (work : List ℤ) (out′ : Li
         }
 
     -- as `ran` tells it
-    pub end-told : (r : Ran) → r ≡ ranTo q p taken written → Runs q samples out work r out′ work′
-    end-told r e = subst (λ (r : Ran). Runs q samples out work r out′ work′) (sym e) runs-end
+    pub end-told : (r : RunEnded) → r ≡ ranTo q p taken written → Runs q samples out work r out′ work′
+    end-told r e = subst (λ (r : RunEnded). Runs q samples out work r out′ work′) (sym e) runs-end

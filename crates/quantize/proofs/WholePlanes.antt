@@ -19,7 +19,7 @@ use Rattle.laws.proofs.Writers.{emits-none, emits-all}
 use Rattle.options.specs.declared.Quantize.{Quantize}
 use Rattle.image.specs.Geometry.{rowBytes}
 use Rattle.quantize.specs.declared.engine.Quantizer.{Quantizer}
-use Rattle.quantize.specs.declared.engine.Ran.{Ran}
+use Rattle.quantize.specs.declared.engine.RunEnded.{RunEnded}
 use Rattle.quantize.specs.Finished.{Setting, count, dotOf, finished, takes, setting}
 use Rattle.rules.specs.Packed.{byteAt}
 use Rattle.rules.specs.Rule.{meaning, knownRule, carries, enoughWork}
@@ -165,7 +165,7 @@ module _ (rule : Quantize) (w h : ℕ) (gray out : List ℕ) (work : List ℤ) (
           refused = λ code place f. zero-one (cc);
         }
 
-    module _ (l : rowBytes w * h ≤ length out) (q : Quantizer) (o : Opens rule w h 1 q) (r : Ran) (out′ : List ℕ) (work′ : List ℤ) (R : Runs q gray out work r out′ work′) where
+    module _ (l : rowBytes w * h ≤ length out) (q : Quantizer) (o : Opens rule w h 1 q) (r : RunEnded) (out′ : List ℕ) (work′ : List ℤ) (R : Runs q gray out work r out′ work′) where
       abbrev sp : Setting
       sp = setting rule w h 1
 

@@ -29,7 +29,7 @@ pub struct Spot {
 }
 
 // How many samples were taken, and how many bytes were written at the output's front.
-pub struct Ran {
+pub struct RunEnded {
     pub quantizer: Quantizer,
     pub taken: usize,
     pub written: usize,
@@ -89,7 +89,7 @@ impl Quantizer {
     }
 
     // Takes the most samples whose finished bytes fit. Takes nothing and alters nothing where the width or the height is 0, the ordered side is unknown, or dithering finds fewer than 2 × width numbers of work.
-    pub fn run(self, samples: &[u8], out: &mut [u8], work: &mut [i16]) -> Ran
+    pub fn run(self, samples: &[u8], out: &mut [u8], work: &mut [i16]) -> RunEnded
         ensures { λ r. ⌜ Runs self (now (samples .entry)) (now (out .entry)) (now (work .entry)) r (now (out .exit)) (now (work .exit)) ⌝ }
     {
         let rule = self.rule;
@@ -125,11 +125,11 @@ impl Quantizer {
     }
 
     // This quantizer at another place, and what was taken and written on the way there.
-    fn ran(mut self, place: Place, taken: usize, written: usize) -> Ran
+    fn ran(mut self, place: Place, taken: usize, written: usize) -> RunEnded
         ensures { λ r. ⌜ r ≡ ranTo self place taken written ⌝ }
     {
         self.place = place;
-        Ran {
+        RunEnded {
             quantizer: self,
             taken: taken,
             written: written,

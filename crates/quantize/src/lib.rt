@@ -7,7 +7,7 @@ mod whole;
 pub use asked::enough_work;
 pub use asked::known_rule;
 pub use engine::Quantizer;
-pub use engine::Ran;
+pub use engine::RunEnded;
 pub use engine::Spot;
 pub use whole::dither_bits;
 pub use whole::from_gray8;

@@ -9,7 +9,7 @@ use lib.ListN.{length, getD, take, drop}
 use Rattle.error.specs.Choice.{if}
 use Rattle.options.specs.declared.Quantize.{Quantize}
 use Rattle.quantize.specs.declared.engine.Quantizer.{Quantizer}
-use Rattle.quantize.specs.declared.engine.Ran.{Ran}
+use Rattle.quantize.specs.declared.engine.RunEnded.{RunEnded}
 use Rattle.quantize.specs.declared.engine.Spot.{Spot}
 use Rattle.quantize.specs.declared.turn.Place.{Place}
 use Rattle.rules.specs.Diffusion.{Direction, Scan, onLeft, above, residualAt}
@@ -78,7 +78,7 @@ pub record Ready (rule : Quantize) (w h work : ℕ) : Type 0 where
   pub served : Served rule w work
 
 -- nothing is taken and nothing is altered
-pub record Idles (q : Quantizer) (out : List ℕ) (work : List ℤ) (r : Ran) (out′ : List ℕ) (work′ : List ℤ) : Type 0 where
+pub record Idles (q : Quantizer) (out : List ℕ) (work : List ℤ) (r : RunEnded) (out′ : List ℕ) (work′ : List ℤ) : Type 0 where
   pub same : r .quantizer ≡ q
   pub taken : r .taken ≡ 0
   pub written : r .written ≡ 0
@@ -86,7 +86,7 @@ pub record Idles (q : Quantizer) (out : List ℕ) (work : List ℤ) (r : Ran) (o
   pub workSame : work′ ≡ work
 
 -- the quantizer at another place, and what was taken and written on the way there
-abbrev pub ranTo : Quantizer → Place → ℕ → ℕ → Ran
+abbrev pub ranTo : Quantizer → Place → ℕ → ℕ → RunEnded
 ranTo q place taken written =
     record {
       quantizer = record { rule = q .rule; table = q .table; width = q .width; height = q .height; place = place };
@@ -95,22 +95,22 @@ ranTo q place taken written =
     }
 
 -- how many samples are taken and bytes written after n samples, for every work buffer
-pub record Counts (q : Quantizer) (s : Setting) (n samples room work : ℕ) (r : Ran) : Type 0 where
+pub record Counts (q : Quantizer) (s : Setting) (n samples room work : ℕ) (r : RunEnded) : Type 0 where
   pub taken : r .taken ≡ if (enoughWork (s .rule) (s .width) work) (takes s n samples room) 0
   pub written : count s (n + r .taken) ≡ count s n + r .written
   pub stands : Stands (r .quantizer) s (n + r .taken)
 
 -- the bytes are those that the running machine emits from the numbers found, and the numbers left are those that it keeps
-pub record Machines (q : Quantizer) (s : Setting) (n : ℕ) (samples out : List ℕ) (work : List ℤ) (r : Ran) (out′ : List ℕ) (work′ : List ℤ) : Type 0 where
+pub record Machines (q : Quantizer) (s : Setting) (n : ℕ) (samples out : List ℕ) (work : List ℤ) (r : RunEnded) (out′ : List ℕ) (work′ : List ℤ) : Type 0 where
   pub bytes : out′ ≡ emitted s n (stateOf (q .place) work) samples (r .taken) ++ drop (r .written) out
   pub keeps : carried s n (stateOf (q .place) work) samples (r .taken) ≡ stateOf (r .quantizer .place) work′
 
 -- the bytes are the definition's, where the buffer is as the last call left it
-pub record Defined (s : Setting) (xs samples out : List ℕ) (r : Ran) (out′ : List ℕ) (work′ : List ℤ) : Type 0 where
+pub record Defined (s : Setting) (xs samples out : List ℕ) (r : RunEnded) (out′ : List ℕ) (work′ : List ℤ) : Type 0 where
   pub bytes : out′ ≡ newly s xs (xs ++ take (r .taken) samples) ++ drop (r .written) out
   pub holds : Holds (r .quantizer) work′ s (xs ++ take (r .taken) samples)
 
-pub record Runs (q : Quantizer) (samples out : List ℕ) (work : List ℤ) (r : Ran) (out′ : List ℕ) (work′ : List ℤ) : Type 0 where
+pub record Runs (q : Quantizer) (samples out : List ℕ) (work : List ℤ) (r : RunEnded) (out′ : List ℕ) (work′ : List ℤ) : Type 0 where
   pub taken : r .taken ≤ length samples
   pub written : r .written ≤ length out
   pub past : drop (r .written) out′ ≡ drop (r .written) out
