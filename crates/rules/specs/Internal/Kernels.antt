@@ -28,7 +28,8 @@ pub record DotMade (v : ℤ) (dot rest : ℕ) : Type 0 where
   pub dotIs : dot ≡ bit (white v)
   pub restIs : Biased (residual v) rest
 
--- above row y of w columns there are residuals for the first r columns, all or none: what is read above a row of so many is what is read above row y
+-- above row y of w columns there are residuals for the first r columns, all or none: what is read above a row of so many is what is read
+-- above row y
 pub record Reaches (w y r : ℕ) : Type 0 where
   pub most : r ≤ w
   pub all : 0 < r → r ≡ w
@@ -88,7 +89,8 @@ abbrev pub carryOf : ℕ → List ℤ → Carry
 carryOf corner work = record { corner = subℕ corner 128; kept = work }
 
 -- the digits of `begun` and of the samples' dots, from column x of row y on, and what is kept after them
-pub record Dots (rule : Rule) (w y x : ℕ) (gray : List ℕ) (begun corner : ℕ) (work : List ℤ) (dots corner′ : ℕ) (work′ : List ℤ) : Type 0 where
+pub record Dots (rule : Rule) (w y x : ℕ) (gray : List ℕ) (begun corner : ℕ) (work : List ℤ) (dots corner′ : ℕ)
+    (work′ : List ℤ) : Type 0 where
   pub digits : dots ≡ appended begun (rowBit rule w y x gray (carryOf corner work)) (length gray)
   pub carry : rowCarry rule w y x gray (carryOf corner work) (length gray) ≡ carryOf corner′ work′
   pub small : corner′ ≤ 256
