@@ -19,7 +19,7 @@ use Rattle.encoder.specs.Make.{fileOfScans}
 use Rattle.encoder.proofs.ScanTests.{passes}
 use Rattle.encode_session.specs.Model as Making
 use Rattle.encode_session.specs.Trace as MakingTrace
-use Rattle.encode_session.proofs.OpenCorrect.{enough-work, Passed, passed}
+use Rattle.encode_session.proofs.OpenCorrect.{work-numbers-enough, Passed, passed}
 use Rattle.encode_session.proofs.Theorems.{lists, bytes-joined, closed-whole}
 use Rattle.decode_session.specs.Model.{nothing}
 use Rattle.decode_session.proofs.Cuts.{unmet, whole}
@@ -104,7 +104,7 @@ module _ {a : Making.Opening} {header : List ℕ} {cs : List Making.Call} {rs : 
           presents = g .1;
           shown = λ {d = d} t adm r cut.
               shows d a (g .0) (f .count) _ _ w (l .wide) (l .high) (some-read r) (g .1) t adm
-              (file-is (f .count) w (f .some) (f .most) all (enough-work (a .options .quantize) (a .width))) r cut;
+              (file-is (f .count) w (f .some) (f .most) all (work-numbers-enough (a .options .quantize) (a .width))) r cut;
         },
       )
 

@@ -10,7 +10,7 @@ use lib.ListN.{length, take, drop, length-append, length-drop}
 use lib.Seq.{length-take-le}
 use Rattle.error.specs.Answer.{gives, refuses}
 use Rattle.laws.proofs.Tests.{if-true, zero-one}
-use Rattle.quantize.specs.declared.engine.Ran.{Ran}
+use Rattle.quantize.specs.declared.engine.RunEnded.{RunEnded}
 use Rattle.quantize.specs.Internal.Engine.{roomFor, Counts, Runs, Stands as QStands, Holds as QHolds}
 use Rattle.quantize.specs.Finished.{newly}
 use Rattle.quantize.proofs.FramesDone.{frames-done, room-behind}
@@ -56,7 +56,7 @@ module _ (s : EncodeSession) (xs out : List ℕ) (work : List ℤ) where
 
 module _ (s : EncodeSession) (xs out : List ℕ) (work : List ℤ) (l : s .live ≡ true) (b : Bool)
     (tells : b ≡ roomFor (s .quantizer) (length work)) (e : b ≡ true)
-    (r : Ran) (out′ : List ℕ) (work′ : List ℤ) (R : Runs (s .quantizer) xs out work r out′ work′) where
+    (r : RunEnded) (out′ : List ℕ) (work′ : List ℤ) (R : Runs (s .quantizer) xs out work r out′ work′) where
   abbrev next : EncodeSession
   next = record { quantizer = r .quantizer; live = true }
 

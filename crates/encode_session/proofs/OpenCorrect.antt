@@ -21,7 +21,7 @@ use Rattle.header.specs.Write.{extHeader}
 use Rattle.options.specs.declared.Quantize.{Quantize}
 use Rattle.options.specs.declared.Quantize.the-variants.{Threshold, Dither, Ordered}
 use Rattle.quantize.specs.declared.engine.Quantizer.{Quantizer}
-use Rattle.rules.specs.Rule.{Rule, meaning, roomy, knownRule}
+use Rattle.rules.specs.Rule.{Rule, meaning, enoughWork, knownRule}
 use Rattle.rules.proofs.RuleAsked.{asked-if}
 use Rattle.quantize.specs.Internal.Engine.{Opens as QOpens, Holds as QHolds}
 use Rattle.encode_session.specs.declared.EncodeOpened.{EncodeOpened}
@@ -29,10 +29,10 @@ use Rattle.encode_session.specs.Model.{Opening, settingOf, serves, heade
 use Rattle.encode_session.specs.Session.{isGiven, Opens}
 
 -- a work buffer that serves
-pub enough-work : (rule : Quantize) (width : ℕ) → roomy (meaning rule) width (2 * width) ≡ true
-enough-work (Threshold t) width = refl
-enough-work Dither width = le-leb (2 * width) (2 * width) (omega arith)
-enough-work (Ordered side) width = refl
+pub work-numbers-enough : (rule : Quantize) (width : ℕ) → enoughWork (meaning rule) width (2 * width) ≡ true
+work-numbers-enough (Threshold t) width = refl
+work-numbers-enough Dither width = le-leb (2 * width) (2 * width) (omega arith)
+work-numbers-enough (Ordered side) width = refl
 
 -- what is written was given
 headed-by : (n : ℕ) (old : List ℕ) (h : Answer (List ℕ)) → gives n ≡ emitted h old → (bytes : List ℕ) × (h ≡ gives bytes)
@@ -51,7 +51,7 @@ module _ (a : Opening) (work : ℕ) where
   unfolding header
   header-is =
       ap (λ (r : Answer (List ℕ)). if (eqb (a .width) 0 || eqb (a .height) 0) (refuses 8 0) r)
-      (asked-if (a .options) (λ (rule : Rule). if (roomy rule (a .width) work) fields (refuses 28 0)))
+      (asked-if (a .options) (λ (rule : Rule). if (enoughWork rule (a .width) work) fields (refuses 28 0)))
 
   pub no-width : a .width ≡ 0 → header a work ≡ refuses 8 0
   unfolding header

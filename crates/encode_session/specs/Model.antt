@@ -10,7 +10,7 @@ use Rattle.error.specs.Answer.{Answer, gives, refuses, bind}
 use Rattle.header.specs.Write.{extHeader}
 use Rattle.options.specs.Settings.{madeFrames}
 use Rattle.options.specs.declared.EncodeOptions.{EncodeOptions}
-use Rattle.rules.specs.Rule.{meaning, roomy, ruleAsked}
+use Rattle.rules.specs.Rule.{meaning, enoughWork, ruleAsked}
 use Rattle.quantize.specs.Finished.{setting, Setting, takes, newly, wholeFrames}
 
 -- what a session is opened with; pairs of the fields are two lengths each, beside one text
@@ -30,14 +30,14 @@ settingOf a = setting (a .options .quantize) (a .width) (a .height) madeFrames
 
 -- the work buffer, of so many numbers, is long enough
 abbrev pub serves : Opening → ℕ → Bool
-serves a work = roomy (meaning (a .options .quantize)) (a .width) work
+serves a work = enoughWork (meaning (a .options .quantize)) (a .width) work
 
 -- "Opening writes the header", behind "8, .. 29, 28, .. fields"; 25 where it does not fit is `Emits`
 unfoldable pub header : Opening → ℕ → Answer (List ℕ)
 header a work =
     if (eqb (a .width) 0 || eqb (a .height) 0) (refuses 8 0)
     (bind (ruleAsked (a .options))
-    (λ rule. if (roomy rule (a .width) work)
+    (λ rule. if (enoughWork rule (a .width) work)
     (extHeader (a .options .strict) (a .width) (a .height) (a .options .ext) (a .text) (a .lengths))
     (refuses 28 0)))
 

@@ -11,7 +11,7 @@ use Rattle.error.specs.Answer.{Answer, gives, refuses, bind}
 use Rattle.laws.proofs.Tests.{zero-one}
 use Rattle.options.specs.declared.EncodeOptions.{EncodeOptions}
 use Rattle.options.specs.declared.Quantize.{Quantize}
-use Rattle.rules.specs.Rule.{Rule, meaning, roomy, knownRule, ruleAsked}
+use Rattle.rules.specs.Rule.{Rule, meaning, enoughWork, knownRule, ruleAsked}
 use Rattle.rules.proofs.RuleAsked.{asked-if}
 use Rattle.encoder.specs.File.{checkCount}
 use Rattle.encoder.specs.Make.{checkScans}
@@ -21,7 +21,7 @@ use Rattle.encoder.proofs.CountTests.{Counted, counted, accepted}
 pub record Passed (ceiling : ℕ) (rule : Quantize) (w h n gray work : ℕ) : Type 0 where
   pub sized : Counted ceiling w h n
   pub known : knownRule rule ≡ true
-  pub room : roomy (meaning rule) w work ≡ true
+  pub room : enoughWork (meaning rule) w work ≡ true
   pub enough : n * (w * h) ≤ gray
 
 -- the tests behind those of the size and the count
@@ -36,7 +36,7 @@ module _ (ceiling : ℕ) (o : EncodeOptions) (w h n gray work : ℕ) where
   scans = checkScans ceiling o w h n gray work
 
   abbrev rest : Answer (Unit {0})
-  rest = tests (knownRule rule) (roomy (meaning rule) w work) (ltb gray (n * (w * h)))
+  rest = tests (knownRule rule) (enoughWork (meaning rule) w work) (ltb gray (n * (w * h)))
 
   by-count : (a : Answer (Unit {0})) → checkCount ceiling w h n ≡ a → scans ≡ bind a (λ _. rest)
   unfolding checkScans
@@ -45,7 +45,7 @@ module _ (ceiling : ℕ) (o : EncodeOptions) (w h n gray work : ℕ) where
       ∙ ap (λ (r : Answer (Unit {0})). bind a (λ _. r)) (asked-if o behind)
     where
       behind : Rule → Answer (Unit {0})
-      behind asked = if (roomy asked w work) (if (ltb gray (n * (w * h))) (refuses 22 0) (gives tt)) (refuses 28 0)
+      behind asked = if (enoughWork asked w work) (if (ltb gray (n * (w * h))) (refuses 22 0) (gives tt)) (refuses 28 0)
 
   pub not-counted : (code place : ℕ) → checkCount ceiling w h n ≡ refuses code place → scans ≡ refuses code place
   not-counted code place e = by-count (refuses code place) e
@@ -55,10 +55,10 @@ module _ (ceiling : ℕ) (o : EncodeOptions) (w h n gray work : ℕ) where
     not-known e = by-count (gives tt) c ∙ rw e
 
     module _ (known : knownRule rule ≡ true) where
-      pub not-roomy : roomy (meaning rule) w work ≡ false → scans ≡ refuses 28 0
-      not-roomy e = by-count (gives tt) c ∙ rw (known, e)
+      pub not-enough-work : enoughWork (meaning rule) w work ≡ false → scans ≡ refuses 28 0
+      not-enough-work e = by-count (gives tt) c ∙ rw (known, e)
 
-      module _ (room : roomy (meaning rule) w work ≡ true) where
+      module _ (room : enoughWork (meaning rule) w work ≡ true) where
         area : 0 < w * h
         area = let s = counted ceiling w h n c in mul-pos (s .wide) (s .high)
 
@@ -84,10 +84,10 @@ module _ (ceiling : ℕ) (o : EncodeOptions) (w h n gray work : ℕ) where
 
   pub passed : scans ≡ gives tt → Passed ceiling rule w h n gray work
   passed e =
-      go (checkCount ceiling w h n) (knownRule rule) (roomy (meaning rule) w work) (ltb gray (n * (w * h))) refl refl refl refl
+      go (checkCount ceiling w h n) (knownRule rule) (enoughWork (meaning rule) w work) (ltb gray (n * (w * h))) refl refl refl refl
       (sym (by-count (checkCount ceiling w h n) refl) ∙ e)
     where
-      go : (a : Answer (Unit {0})) (b c d : Bool) → checkCount ceiling w h n ≡ a → knownRule rule ≡ b → roomy (meaning rule) w work ≡ c
+      go : (a : Answer (Unit {0})) (b c d : Bool) → checkCount ceiling w h n ≡ a → knownRule rule ≡ b → enoughWork (meaning rule) w work ≡ c
           → ltb gray (n * (w * h)) ≡ d → bind a (λ _. tests b c d) ≡ gives tt → Passed ceiling rule w h n gray work
       go (refuses code place) b c d p q r s e = zero-one (cc)
       go (gives u) false c d p q r s e = zero-one (cc)

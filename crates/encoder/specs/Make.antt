@@ -12,7 +12,7 @@ use Rattle.error.specs.Answer.{Answer, gives, refuses, bind}
 use Rattle.error.specs.Emits.{Emits}
 use Rattle.options.specs.declared.EncodeOptions.{EncodeOptions}
 use Rattle.options.specs.declared.Quantize.{Quantize}
-use Rattle.rules.specs.Rule.{carries, meaning, roomy, ruleAsked}
+use Rattle.rules.specs.Rule.{carries, meaning, enoughWork, ruleAsked}
 use Rattle.quantize.specs.Finished.{setting, finished}
 use Rattle.encoder.specs.File.{checkCount, fileOf}
 
@@ -21,7 +21,7 @@ unfoldable pub checkScans : ℕ → EncodeOptions → ℕ → ℕ → ℕ → �
 checkScans ceiling o width height count gray work =
     bind (checkCount ceiling width height count)
     (λ _. bind (ruleAsked o)
-    (λ asked. if (roomy asked width work)
+    (λ asked. if (enoughWork asked width work)
     (if (ltb gray (count * (width * height))) (refuses 22 0) (gives tt))
     (refuses 28 0)))
 

@@ -48,7 +48,7 @@ fn check_scans(
     if !quantize::known_rule(rule) {
         return Checked::refused(UNKNOWN_SETTING);
     }
-    if !quantize::roomy(rule, width, work) {
+    if !quantize::enough_work(rule, width as usize, work) {
         return Checked::refused(BUFFER_TOO_SHORT);
     }
     let area = width as usize * height as usize;
@@ -64,8 +64,8 @@ fn put_scans(scans: Scans, gray: &[u8], options: EncodeOptions, work: &mut [i16]
     requires { ⌜ checkScans madeFrames options (scans .layout .width) (scans .layout .height) (scans .count) (length (now gray))
         (length (now work)) ≡ gives tt ⌝ }
     requires { ⌜ scans .count * planeBytes (scans .layout .width) (scans .layout .height) ≤ length (now out) ⌝ }
-    ensures { λ r. ⌜ PutsScans (options .quantize) (scans .layout .width) (scans .layout .height) (scans .count) (now (gray .entry)) (now (out .entry))
-        (now (work .entry)) (now (out .exit)) (now (work .exit)) ⌝ }
+    ensures { λ r. ⌜ PutsScans (options .quantize) (scans .layout .width) (scans .layout .height) (scans .count) (now (gray .entry))
+        (now (out .entry)) (now (work .entry)) (now (out .exit)) (now (work .exit)) ⌝ }
 {
     let rule = options.quantize;
     let width = scans.layout.width;

@@ -9,11 +9,11 @@ use borrow.Author.Tests.{eq-eqb, ne-eqb, lt-ltb, le-ltb, ltb-true, ltb-false}
 use lib.Dec.{ltb, eqb}
 use Rattle.quantize.specs.declared.engine.Quantizer.{Quantizer}
 use Rattle.quantize.specs.declared.engine.Spot.{Spot}
-use Rattle.rules.specs.Rule.{Rule, roomy}
+use Rattle.rules.specs.Rule.{Rule, enoughWork}
 use Rattle.quantize.specs.Finished.{Setting, wholeFrames}
 use Rattle.quantize.specs.Internal.Place.{At}
 use Rattle.quantize.specs.Internal.Engine.{Stands, spotOf, roomFor, behindFrames}
-use Rattle.quantize.proofs.DotsByRule.{roomy-same}
+use Rattle.quantize.proofs.DotsByRule.{enough-work-same}
 use Rattle.rules.proofs.PlaneBytes.{mod-at, div-at}
 
 and-false : (a b : Bool) → b ≡ false → false ≡ (a && b)
@@ -44,7 +44,8 @@ module _ (s : Setting) (n frames row column : ℕ) (a : At s n frames row column
   frames-done = rw (split .0, div-at area (s .frames - frames) (row * s .width + column) (split .1)) (omega (arith, a .most))
 
   pub in-row : (column ≡ 0 → ⊥) → false ≡ wholeFrames s n
-  in-row c = and-false (ltb 0 n) (eqb (n % (s .width * s .height)) 0) (ne-eqb (n % (s .width * s .height)) 0 (λ e. c (omega (arith, rest-is))))
+  in-row c =
+      and-false (ltb 0 n) (eqb (n % (s .width * s .height)) 0) (ne-eqb (n % (s .width * s .height)) 0 (λ e. c (omega (arith, rest-is))))
 
   pub in-frame : (row ≡ 0 → ⊥) → false ≡ wholeFrames s n
   in-frame c =
@@ -88,11 +89,11 @@ frames-behind q s n t = go (q .place .row) (q .place .column) (t .at)
     go (suc row) column a = rw (ne-eqb (suc row) 0 (λ e. omega arith)) (in-frame s n f (suc row) column a (λ e. omega arith))
 
 -- and its rule and width of the room
-pub room-behind : (q : Quantizer) (s : Setting) (n work : ℕ) → Stands q s n → roomFor q work ≡ roomy (s .rule) (s .width) work
+pub room-behind : (q : Quantizer) (s : Setting) (n work : ℕ) → Stands q s n → roomFor q work ≡ enoughWork (s .rule) (s .width) work
 room-behind q s n work t =
-    sym (roomy-same (q .rule) (q .table) (q .width) work)
-    ∙ ap (λ (x : Rule). roomy x (q .width) work) (sym (t .rule))
-    ∙ ap (λ (w : ℕ). roomy (s .rule) w work) (sym (t .width))
+    sym (enough-work-same (q .rule) (q .table) (q .width) work)
+    ∙ ap (λ (x : Rule). enoughWork x (q .width) work) (sym (t .rule))
+    ∙ ap (λ (w : ℕ). enoughWork (s .rule) w work) (sym (t .width))
 
 -- a test of the place that fails
 pub off-row : (q : Quantizer) (r : Spot) (frames : ℕ) → r ≡ spotOf q → (r .row ≡ 0 → ⊥) → false ≡ behindFrames q frames
@@ -102,7 +103,8 @@ pub off-column : (q : Quantizer) (r : Spot) (frames : ℕ) → r ≡ spotOf q �
 off-column q r frames e h =
     and-false (eqb (q .place .row) 0) _ (rw (ne-eqb (q .place .column) 0 (λ z. h (ap (λ (x : Spot). x .column) e ∙ z))))
 
-pub at-start : (q : Quantizer) (r : Spot) (frames : ℕ) → r ≡ spotOf q → r .row ≡ 0 → r .column ≡ 0 → ltb (r .frames) frames ≡ behindFrames q frames
+pub at-start : (q : Quantizer) (r : Spot) (frames : ℕ) → r ≡ spotOf q → r .row ≡ 0 → r .column ≡ 0
+    → ltb (r .frames) frames ≡ behindFrames q frames
 at-start q r frames e top left =
     let p : q .place .row ≡ 0 = ap (λ (x : Spot). x .row) (sym e) ∙ top in
     let c : q .place .column ≡ 0 = ap (λ (x : Spot). x .column) (sym e) ∙ left in

@@ -13,15 +13,15 @@ use lib.Seq.{length-take-le, drop-append-seam}
 use Rattle.laws.proofs.Tests.{lt-or-le, if-true, if-false}
 use Rattle.options.specs.declared.Quantize.{Quantize}
 use Rattle.quantize.specs.declared.engine.Quantizer.{Quantizer}
-use Rattle.quantize.specs.declared.engine.Ran.{Ran}
+use Rattle.quantize.specs.declared.engine.RunEnded.{RunEnded}
 use Rattle.quantize.specs.declared.turn.Place.{Place}
-use Rattle.rules.specs.Rule.{Rule, meaning, knownRule, roomy}
+use Rattle.rules.specs.Rule.{Rule, meaning, knownRule, enoughWork}
 use Rattle.quantize.specs.Finished.{Setting, Bytewise, count, finished, takes}
 use Rattle.quantize.specs.Internal.Machine.{State, carried, emitted}
 use Rattle.quantize.specs.Internal.Turn.{stateOf, ruleOf, Sound, SamplesForByte, Served}
 use Rattle.quantize.specs.Internal.Engine.{Stands, Keeps, Holds, Counts, Machines, Defined, Ready, Runs, ranTo}
 use Rattle.rules.proofs.HeldRange.{Held}
-use Rattle.quantize.proofs.DotsByRule.{roomy-same}
+use Rattle.quantize.proofs.DotsByRule.{enough-work-same}
 use Rattle.quantize.proofs.TakenMost.{takes-all, next-byte}
 use Rattle.quantize.proofs.MachineSteps.{emitted-count}
 use Rattle.quantize.proofs.TurnMoves.{Moved}
@@ -30,19 +30,21 @@ use Rattle.quantize.proofs.RunLoop.{Loop}
 
 -- ---- the work buffer
 
-not-roomy : (rule : Quantize) (table : List ℕ) (w work : ℕ) → knownRule rule ≡ true → (Served rule w work → ⊥) → roomy (ruleOf rule table) w work ≡ false
-not-roomy rule table w work k h = roomy-same rule table w work ∙ go (roomy (meaning rule) w work) refl
+not-enough-work : (rule : Quantize) (table : List ℕ) (w work : ℕ) → knownRule rule ≡ true → (Served rule w work → ⊥)
+    → enoughWork (ruleOf rule table) w work ≡ false
+not-enough-work rule table w work k h = enough-work-same rule table w work ∙ go (enoughWork (meaning rule) w work) refl
   where
-    go : (b : Bool) → roomy (meaning rule) w work ≡ b → b ≡ false
+    go : (b : Bool) → enoughWork (meaning rule) w work ≡ b → b ≡ false
     go true e = absurd (h (record { known = k; room = e }))
     go false e = refl
 
 -- ---- the definition's bytes, from the machine's
 
-module _ (q : Quantizer) (samples out : List ℕ) (work : List ℤ) (r : Ran) (out′ : List ℕ) (work′ : List ℤ) (fits : r .taken ≤ length samples) (octets : (i : ℕ) → getD samples i 0 < 256)
+module _ (q : Quantizer) (samples out : List ℕ) (work : List ℤ) (r : RunEnded) (out′ : List ℕ) (work′ : List ℤ)
+    (fits : r .taken ≤ length samples) (octets : (i : ℕ) → getD samples i 0 < 256)
     (counts : (s : Setting) (n : ℕ) → Stands q s n → Counts q s n (length samples) (length out) (length work) r)
     (machine : (s : Setting) (n : ℕ) → Stands q s n → Machines q s n samples out work r out′ work′)
-    (room : (s : Setting) (n : ℕ) → Stands q s n → 0 < r .taken → roomy (s .rule) (s .width) (length work) ≡ true) where
+    (room : (s : Setting) (n : ℕ) → Stands q s n → 0 < r .taken → enoughWork (s .rule) (s .width) (length work) ≡ true) where
   module _ (s : Setting) (xs : List ℕ) (H : Holds q work s xs) where
     abbrev n : ℕ
     n = length xs
@@ -89,8 +91,15 @@ module _ (q : Quantizer) (samples out : List ℕ) (work : List ℤ) (r : Ran) (o
     pub defined-is : Defined s xs samples out r out′ work′
     defined-is =
         record {
-          bytes = M .bytes ∙ ap (λ (l : List ℕ). l ++ drop (r .written) out) (sym (ap (drop (length (finished s xs))) (follows .bytesAre) ∙ drop-append-seam (finished s xs) (emitted s n st samples (r .taken))));
-          holds = record { stands = rw long (counts s n (H .stands) .stands); keeps = subst (λ (t : State). Keeps (s .rule) s joined t) (M .keeps) (follows .keeps) };
+          bytes =
+              M .bytes ∙ ap (λ (l : List ℕ). l ++ drop (r .written) out)
+              (sym (ap (drop (length (finished s xs))) (follows .bytesAre)
+              ∙ drop-append-seam (finished s xs) (emitted s n st samples (r .taken))));
+          holds =
+              record {
+                stands = rw long (counts s n (H .stands) .stands);
+                keeps = subst (λ (t : State). Keeps (s .rule) s joined t) (M .keeps) (follows .keeps);
+              };
         }
 
 -- ---- nothing can be taken
@@ -109,7 +118,9 @@ runs-none q samples out work octets h =
       idle = λ _. record { same = refl; taken = refl; written = refl; outSame = refl; workSame = refl };
       counts = counts;
       machine = machine;
-      defined = defined-is q samples out work (record { quantizer = q; taken = 0; written = 0 }) out work (omega arith) octets counts machine (λ s n t l. let f : ⊥ = omega arith in absurd f);
+      defined =
+          defined-is q samples out work (record { quantizer = q; taken = 0; written = 0 }) out work (omega arith) octets counts machine
+          (λ s n t l. let f : ⊥ = omega arith in absurd f);
     }
   where
     unserved : (s : Setting) (n : ℕ) → Stands q s n → Served (q .rule) (q .width) (length work) → ⊥
@@ -120,34 +131,42 @@ runs-none q samples out work octets h =
         let g = t .height in
         h (record { inRow = omega arith; inFrame = omega arith; cornerSmall = t .cornerSmall; begunSmall = t .begunSmall; served = k })
 
-    counts : (s : Setting) (n : ℕ) → Stands q s n → Counts q s n (length samples) (length out) (length work) (record { quantizer = q; taken = 0; written = 0 })
+    counts : (s : Setting) (n : ℕ) → Stands q s n
+        → Counts q s n (length samples) (length out) (length work) (record { quantizer = q; taken = 0; written = 0 })
     counts s n t =
         record {
-          taken = sym (if-false (roomy (s .rule) (s .width) (length work)) (takes s n (length samples) (length out)) 0 (rw (t .rule, t .width) (not-roomy (q .rule) (q .table) (q .width) (length work) (t .knows) (unserved s n t))));
+          taken =
+              sym (if-false (enoughWork (s .rule) (s .width) (length work)) (takes s n (length samples) (length out)) 0
+              (rw (t .rule, t .width) (not-enough-work (q .rule) (q .table) (q .width) (length work) (t .knows) (unserved s n t))));
           written = rw (add-zero, add-zero);
           stands = rw add-zero t;
         }
 
-    machine : (s : Setting) (n : ℕ) → Stands q s n → Machines q s n samples out work (record { quantizer = q; taken = 0; written = 0 }) out work
+    machine : (s : Setting) (n : ℕ) → Stands q s n
+        → Machines q s n samples out work (record { quantizer = q; taken = 0; written = 0 }) out work
     machine s n t = record { bytes = refl; keeps = refl }
 
 -- ---- the loop's end
 
 -- no frame is left, no sample is left, or what the next one finishes does not fit
 abbrev pub Full : Quantizer → List ℕ → List ℕ → Place → ℕ → Type 0
-Full q samples out p taken = (s : Setting) (n : ℕ) → Stands q s n → (p .frames ≤ 0) ⊎ ((length samples ≤ taken) ⊎ (count s n + length out < count s (n + taken + 1)))
+Full q samples out p taken =
+    (s : Setting) (n : ℕ) → Stands q s n → (p .frames ≤ 0) ⊎ ((length samples ≤ taken) ⊎ (count s n + length out < count s (n + taken + 1)))
 
 -- as `ran` tells it
-pub none-told : (q : Quantizer) (samples out : List ℕ) (work : List ℤ) (r : Ran) → r ≡ ranTo q (q .place) 0 0 → ((i : ℕ) → getD samples i 0 < 256)
-    → (Sound (q .rule) (q .width) (q .height) (q .place .row) (q .place .column) (q .place .begun) (q .place .corner) (length work) → ⊥) → Runs q samples out work r out work
-none-told q samples out work r e octets h = subst (λ (r : Ran). Runs q samples out work r out work) (sym e) (runs-none q samples out work octets h)
+pub none-told : (q : Quantizer) (samples out : List ℕ) (work : List ℤ) (r : RunEnded) → r ≡ ranTo q (q .place) 0 0
+    → ((i : ℕ) → getD samples i 0 < 256)
+    → (Sound (q .rule) (q .width) (q .height) (q .place .row) (q .place .column) (q .place .begun) (q .place .corner) (length work) → ⊥)
+    → Runs q samples out work r out work
+none-told q samples out work r e octets h =
+    subst (λ (r : RunEnded). Runs q samples out work r out work) (sym e) (runs-none q samples out work octets h)
 
 module _ (q : Quantizer) (samples out : List ℕ) (work : List ℤ) (out′ : List ℕ) (work′ : List ℤ) (p : Place) (taken written : ℕ)
     (L : Loop q samples out work out′ work′ p taken written) (octets : (i : ℕ) → getD samples i 0 < 256) where
   abbrev q′ : Quantizer
   q′ = record { rule = q .rule; table = q .table; width = q .width; height = q .height; place = p }
 
-  abbrev ran : Ran
+  abbrev ran : RunEnded
   ran = record { quantizer = q′; taken = taken; written = written }
 
   module _ (s : Setting) (n : ℕ) (t : Stands q s n) where
@@ -159,14 +178,17 @@ module _ (q : Quantizer) (samples out : List ℕ) (work : List ℤ) (out′ : Li
         emitted-count s n (stateOf (q .place) work) samples (let i = t .at .inRow in omega arith) taken
         ∙ ap (λ (k : ℕ). count s n + k) (ap length (P .emits) ∙ length-take-le written out′ (omega (arith, L .writtenFits, L .outLong)))
 
-    served : roomy (s .rule) (s .width) (length work) ≡ true
-    served = rw (t .rule, t .width, ← L .turn .long) (roomy-same (q .rule) (q .table) (q .width) (length work′) ∙ L .turn .sound .served .room)
+    served : enoughWork (s .rule) (s .width) (length work) ≡ true
+    served =
+        rw (t .rule, t .width, ← L .turn .long) (enough-work-same (q .rule) (q .table) (q .width) (length work′)
+        ∙ L .turn .sound .served .room)
 
     machine-are : Machines q s n samples out work ran out′ work′
     machine-are = record { bytes = sym (take-append-drop written out′) ∙ rw (← P .emits, L .past); keeps = P .keeps }
 
   -- no sample goes into the begun byte, in a row that is finished byte after byte
-  pub full-byte : (m : ℕ) → 0 < p .frames → Bytewise (ruleOf (q .rule) (q .table)) (p .row) → SamplesForByte (q .width) (p .column) (length samples - taken) (length out′ - written) m → m ≡ 0 → Full q samples out p taken
+  pub full-byte : (m : ℕ) → 0 < p .frames → Bytewise (ruleOf (q .rule) (q .table)) (p .row)
+      → SamplesForByte (q .width) (p .column) (length samples - taken) (length out′ - written) m → m ≡ 0 → Full q samples out p taken
   full-byte m left b sh z s n t =
       let f = L .takenFits in
       let o = L .outLong in
@@ -174,7 +196,8 @@ module _ (q : Quantizer) (samples out : List ℕ) (work : List ℤ) (out′ : Li
       inr (⊎-elim
       (λ e. inl (omega (arith, e)))
       (λ e. inr
-      (let c = next-byte s (n + taken) (p .frames) (p .row) (p .column) (P s n t .at) (subst (λ (x : Rule). Bytewise x (p .row)) (sym (t .rule)) b) (⊎-elim (λ c. inl (c ∙ sym (t .width))) (λ c. inr c) (e .1)) in
+      (let c = next-byte s (n + taken) (p .frames) (p .row) (p .column) (P s n t .at)
+      (subst (λ (x : Rule). Bytewise x (p .row)) (sym (t .rule)) b) (⊎-elim (λ c. inl (c ∙ sym (t .width))) (λ c. inr c) (e .1)) in
       omega (arith, c, counted s n t, e .0)))
       (sh .all z))
 
@@ -183,7 +206,8 @@ module _ (q : Quantizer) (samples out : List ℕ) (work : List ℤ) (out′ : Li
     counts-is s n t =
         record {
           taken = sym (if-true _ _ _ (served s n t)
-              ∙ takes-all s n (length samples) (length out) taken (p .frames) (p .row) (p .column) (P s n t .at) (L .takenFits) (omega (arith, counted s n t, L .writtenFits)) (full s n t));
+              ∙ takes-all s n (length samples) (length out) taken (p .frames) (p .row) (p .column) (P s n t .at) (L .takenFits)
+              (omega (arith, counted s n t, L .writtenFits)) (full s n t));
           written = counted s n t;
           stands = record {
             rule = t .rule;
@@ -200,7 +224,11 @@ module _ (q : Quantizer) (samples out : List ℕ) (work : List ℤ) (out′ : Li
     ready-is =
         let a = L .turn .sound .inRow in
         let b = L .turn .sound .inFrame in
-        record { wide = omega arith; high = omega arith; served = subst (λ (n : ℕ). Served (q .rule) (q .width) n) (L .turn .long) (L .turn .sound .served) }
+        record {
+          wide = omega arith;
+          high = omega arith;
+          served = subst (λ (n : ℕ). Served (q .rule) (q .width) n) (L .turn .long) (L .turn .sound .served);
+        }
 
     pub runs-end : Runs q samples out work ran out′ work′
     runs-end =
@@ -217,5 +245,5 @@ module _ (q : Quantizer) (samples out : List ℕ) (work : List ℤ) (out′ : Li
         }
 
     -- as `ran` tells it
-    pub end-told : (r : Ran) → r ≡ ranTo q p taken written → Runs q samples out work r out′ work′
-    end-told r e = subst (λ (r : Ran). Runs q samples out work r out′ work′) (sym e) runs-end
+    pub end-told : (r : RunEnded) → r ≡ ranTo q p taken written → Runs q samples out work r out′ work′
+    end-told r e = subst (λ (r : RunEnded). Runs q samples out work r out′ work′) (sym e) runs-end

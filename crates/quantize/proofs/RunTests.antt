@@ -9,7 +9,7 @@ use native.Mathlib.Omega.{arith}
 use borrow.Author.Tests.{le-leb, lt-leb}
 use lib.Dec.{leb}
 use Rattle.options.specs.declared.Quantize.{Quantize}
-use Rattle.rules.specs.Rule.{meaning, knownRule, roomy}
+use Rattle.rules.specs.Rule.{meaning, knownRule, enoughWork}
 use Rattle.quantize.specs.Internal.Turn.{Served, Sound, CanTake}
 use Rattle.laws.proofs.Tests.{lt-or-le}
 use Rattle.rules.proofs.Signed.{never}
@@ -38,5 +38,7 @@ module _ {rule : Quantize} {w h row column begun corner work : ℕ} where
     sound s = record { inRow = p; inFrame = q; cornerSmall = r; begunSmall = t; served = s }
 
     -- the rule is known, and b says whether the buffer is long enough
-    pub can-take-if : (b : Bool) → knownRule rule ≡ true → b ≡ roomy (meaning rule) w work → CanTake rule w h row column begun corner work b
-    can-take-if b k e = record { yes = λ f. sound (record { known = k; room = sym e ∙ f }); no = λ f s. never (sym f ∙ e ∙ s .served .room) }
+    pub can-take-if : (b : Bool) → knownRule rule ≡ true → b ≡ enoughWork (meaning rule) w work
+        → CanTake rule w h row column begun corner work b
+    can-take-if b k e =
+        record { yes = λ f. sound (record { known = k; room = sym e ∙ f }); no = λ f s. never (sym f ∙ e ∙ s .served .room) }

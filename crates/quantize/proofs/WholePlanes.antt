@@ -19,10 +19,10 @@ use Rattle.laws.proofs.Writers.{emits-none, emits-all}
 use Rattle.options.specs.declared.Quantize.{Quantize}
 use Rattle.image.specs.Geometry.{rowBytes}
 use Rattle.quantize.specs.declared.engine.Quantizer.{Quantizer}
-use Rattle.quantize.specs.declared.engine.Ran.{Ran}
+use Rattle.quantize.specs.declared.engine.RunEnded.{RunEnded}
 use Rattle.quantize.specs.Finished.{Setting, count, dotOf, finished, takes, setting}
 use Rattle.rules.specs.Packed.{byteAt}
-use Rattle.rules.specs.Rule.{meaning, knownRule, carries, roomy}
+use Rattle.rules.specs.Rule.{meaning, knownRule, carries, enoughWork}
 use Rattle.rules.specs.Internal.Planes.{plane, planeIn}
 use Rattle.quantize.specs.Internal.Engine.{Opens, Holds, Runs}
 use Rattle.quantize.specs.Whole.{refusedBy, quantized, Quantizes}
@@ -46,13 +46,13 @@ module _ (rule : Quantize) (w h gray work : ℕ) where
       refused-rule e = rw (ne-eqb w 0 pw, ne-eqb h 0 ph, e)
 
       module _ (known : knownRule rule ≡ true) where
-        pub refused-work : roomy (meaning rule) w work ≡ false → 28 ≡ refusedBy rule w h gray work
+        pub refused-work : enoughWork (meaning rule) w work ≡ false → 28 ≡ refusedBy rule w h gray work
         refused-work e = rw (ne-eqb w 0 pw, ne-eqb h 0 ph, known, e)
 
-        pub refused-gray : roomy (meaning rule) w work ≡ true → gray < w * h → 22 ≡ refusedBy rule w h gray work
+        pub refused-gray : enoughWork (meaning rule) w work ≡ true → gray < w * h → 22 ≡ refusedBy rule w h gray work
         refused-gray e l = rw (ne-eqb w 0 pw, ne-eqb h 0 ph, known, e, lt-leb (w * h) gray l)
 
-        pub refused-none : roomy (meaning rule) w work ≡ true → w * h ≤ gray → 0 ≡ refusedBy rule w h gray work
+        pub refused-none : enoughWork (meaning rule) w work ≡ true → w * h ≤ gray → 0 ≡ refusedBy rule w h gray work
         refused-none e l = rw (ne-eqb w 0 pw, ne-eqb h 0 ph, known, e, le-leb (w * h) gray l)
 
   -- where nothing is refused, all tests passed
@@ -60,13 +60,13 @@ module _ (rule : Quantize) (w h gray work : ℕ) where
     pub wide : 0 < w
     pub high : 0 < h
     pub known : knownRule rule ≡ true
-    pub room : roomy (meaning rule) w work ≡ true
+    pub room : enoughWork (meaning rule) w work ≡ true
     pub enough : w * h ≤ gray
 
   pub passed : 0 ≡ refusedBy rule w h gray work → Passed
-  passed e = go (eqb w 0) (eqb h 0) (knownRule rule) (roomy (meaning rule) w work) (leb (w * h) gray) refl refl refl refl refl e
+  passed e = go (eqb w 0) (eqb h 0) (knownRule rule) (enoughWork (meaning rule) w work) (leb (w * h) gray) refl refl refl refl refl e
     where
-      go : (a b c d f : Bool) → eqb w 0 ≡ a → eqb h 0 ≡ b → knownRule rule ≡ c → roomy (meaning rule) w work ≡ d → leb (w * h) gray ≡ f
+      go : (a b c d f : Bool) → eqb w 0 ≡ a → eqb h 0 ≡ b → knownRule rule ≡ c → enoughWork (meaning rule) w work ≡ d → leb (w * h) gray ≡ f
           → _≡_ {A = ℕ} 0 (if (a || b) 8 (if c (if d (if f 0 22) 28) 29)) → Passed
       go true b c d f p q r s t z = let x : ⊥ = omega arith in absurd x
       go false true c d f p q r s t z = let x : ⊥ = omega arith in absurd x
@@ -113,7 +113,8 @@ module _ (rule : Quantize) (w h : ℕ) (wide : 0 < w) (high : 0 < h) where
 
 -- ---- the answers
 
-module _ (rule : Quantize) (w h : ℕ) (gray out : List ℕ) (work : List ℤ) (code : ℕ) (e : code ≡ refusedBy rule w h (length gray) (length work)) where
+module _ (rule : Quantize) (w h : ℕ) (gray out : List ℕ) (work : List ℤ) (code : ℕ)
+    (e : code ≡ refusedBy rule w h (length gray) (length work)) where
   refused-is : (code ≡ 0 → ⊥) → quantized rule w h gray (length work) ≡ refuses code 0
   unfolding quantized
   refused-is n = rw (← e, ne-eqb code 0 n)
@@ -125,7 +126,8 @@ module _ (rule : Quantize) (w h : ℕ) (gray out : List ℕ) (work : List ℤ) (
   pub quantizes-refused : (code ≡ 0 → ⊥) → Quantizes rule w h gray out work (refuses code 0) out work
   quantizes-refused n =
       record {
-        emits = subst (λ (a : Answer (List ℕ)). Emits a (refuses code 0) out out) (sym (refused-is n)) (record { answer = refl; bytes = refl });
+        emits =
+            subst (λ (a : Answer (List ℕ)). Emits a (refuses code 0) out out) (sym (refused-is n)) (record { answer = refl; bytes = refl });
         beyond = refl;
         spared = λ _. refl;
         refused = λ _ _ _. refl;
@@ -165,7 +167,8 @@ module _ (rule : Quantize) (w h : ℕ) (gray out : List ℕ) (work : List ℤ) (
           refused = λ code place f. zero-one (cc);
         }
 
-    module _ (l : rowBytes w * h ≤ length out) (q : Quantizer) (o : Opens rule w h 1 q) (r : Ran) (out′ : List ℕ) (work′ : List ℤ) (R : Runs q gray out work r out′ work′) where
+    module _ (l : rowBytes w * h ≤ length out) (q : Quantizer) (o : Opens rule w h 1 q) (r : RunEnded) (out′ : List ℕ) (work′ : List ℤ)
+        (R : Runs q gray out work r out′ work′) where
       abbrev sp : Setting
       sp = setting rule w h 1
 
@@ -179,7 +182,9 @@ module _ (rule : Quantize) (w h : ℕ) (gray out : List ℕ) (work : List ℤ) (
       fits = let m = mul-comm (rowBytes w) h in omega arith
 
       taken-is : r .taken ≡ w * h
-      taken-is = R .counts sp 0 (H .stands) .taken ∙ if-true _ _ _ (p .room) ∙ takes-plane rule w h (p .wide) (p .high) (length gray) (length out) (p .enough) fits
+      taken-is =
+          R .counts sp 0 (H .stands) .taken ∙ if-true _ _ _ (p .room)
+          ∙ takes-plane rule w h (p .wide) (p .high) (length gray) (length out) (p .enough) fits
 
       written-is : r .written ≡ h * rowBytes w
       written-is =

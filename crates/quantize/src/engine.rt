@@ -1,5 +1,5 @@
-// The quantising engine, which whole planes and making sessions run.
-use crate::asked::enough;
+// The quantising engine, which making sessions run, and whole planes that are ordered, or tiny and gray.
+use crate::asked::enough_work;
 use crate::asked::known_rule;
 use crate::turn::Place;
 use crate::turn::fill_row;
@@ -29,7 +29,7 @@ pub struct Spot {
 }
 
 // How many samples were taken, and how many bytes were written at the output's front.
-pub struct Ran {
+pub struct RunEnded {
     pub quantizer: Quantizer,
     pub taken: usize,
     pub written: usize,
@@ -54,7 +54,7 @@ fn can_take(rule: Quantize, width: usize, height: usize, p: Place, work: usize) 
     if !known_rule(rule) {
         return false;
     }
-    enough(rule, width, work)
+    enough_work(rule, width, work)
 }
 
 // The ordered numbers of the rule's side, row by row, at the front.
@@ -88,8 +88,9 @@ impl Quantizer {
         }
     }
 
-    // Takes the most samples whose finished bytes fit. Takes nothing and alters nothing where the width or the height is 0, the ordered side is unknown, or dithering finds fewer than 2 × width numbers of work.
-    pub fn run(self, samples: &[u8], out: &mut [u8], work: &mut [i16]) -> Ran
+    // Takes the most samples whose finished bytes fit. Takes nothing and alters nothing where the width or the height is 0, the ordered
+    // side is unknown, or dithering finds fewer than 2 × width numbers of work.
+    pub fn run(self, samples: &[u8], out: &mut [u8], work: &mut [i16]) -> RunEnded
         ensures { λ r. ⌜ Runs self (now (samples .entry)) (now (out .entry)) (now (work .entry)) r (now (out .exit)) (now (work .exit)) ⌝ }
     {
         let rule = self.rule;
@@ -125,11 +126,11 @@ impl Quantizer {
     }
 
     // This quantizer at another place, and what was taken and written on the way there.
-    fn ran(mut self, place: Place, taken: usize, written: usize) -> Ran
+    fn ran(mut self, place: Place, taken: usize, written: usize) -> RunEnded
         ensures { λ r. ⌜ r ≡ ranTo self place taken written ⌝ }
     {
         self.place = place;
-        Ran {
+        RunEnded {
             quantizer: self,
             taken: taken,
             written: written,
@@ -153,11 +154,7 @@ impl Quantizer {
     {
         let rule = self.rule;
         let width = self.width;
-        match rule {
-            Quantize::Threshold(_) => true,
-            Quantize::Dither => width <= work / 2,
-            Quantize::Ordered(_) => true,
-        }
+        enough_work(rule, width, work)
     }
 
     // Whether the samples so far are whole frames, and at least one, where the engine was made for so many frames.

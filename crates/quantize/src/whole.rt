@@ -1,6 +1,6 @@
 // Whole planes, one frame each: at once, or by the engine.
+use crate::asked::enough_work;
 use crate::asked::known_rule;
-use crate::asked::roomy;
 use crate::engine::Quantizer;
 use diffusion::dither_plane;
 use error::BUFFER_TOO_SHORT;
@@ -13,6 +13,7 @@ use error::ZERO_DIMENSION;
 use options::Quantize;
 use rules::threshold_plane;
 ghost use mathlib.Core.Path.{_≡_};
+ghost use mathlib.Core.Bool.{true};
 ghost use Prim.Native.Nat.{_≤_};
 ghost use lib.ListN.{length};
 ghost use Rattle.error.specs.Answer.{written};
@@ -34,7 +35,7 @@ fn refused(width: u32, height: u32, gray: usize, rule: Quantize, work: usize) ->
     if !known_rule(rule) {
         return UNKNOWN_SETTING;
     }
-    if !roomy(rule, width, work) {
+    if !enough_work(rule, width as usize, work) {
         return BUFFER_TOO_SHORT;
     }
     let area = width as usize * height as usize;
@@ -53,17 +54,24 @@ fn engine_plane(
     work: &mut [i16],
     out: &mut [u8],
 ) -> Written
-    requires { ⌜ (0 ≡ refusedBy rule width height (length (now gray)) (length (now work))) × (planeBytes width height ≤ length (now out)) ⌝ }
-    ensures { λ r. ⌜ Quantizes rule width height (now (gray .entry)) (now (out .entry)) (now (work .entry)) (written r) (now (out .exit)) (now (work .exit)) ⌝ }
+    requires { ⌜ (0 ≡ refusedBy rule width height (length (now gray)) (length (now work)))
+        × (planeBytes width height ≤ length (now out)) ⌝ }
+    ensures { λ r. ⌜ Quantizes rule width height (now (gray .entry)) (now (out .entry)) (now (work .entry)) (written r) (now (out .exit))
+        (now (work .exit)) ⌝ }
 {
     let q = Quantizer::new(rule, width, height, 1);
     let r = q.run(gray, out, work);
     Written::Bytes(r.written)
 }
 
-// Whether there are few samples and a gray one among them: the engine dithers these before the tables of `dither_plane` are bound.
-fn few_grays(area: usize, gray: &[u8]) -> bool {
-    if 16 < area {
+// So many samples the engine dithers in the time in which `dither_plane` binds its tables.
+const FEW_SAMPLES: usize = 16;
+
+// Whether there are few samples and a gray one among them.
+fn few_grays(area: usize, gray: &[u8]) -> bool
+    ensures { λ r. ⌜ (r ≡ true → area ≤ 16) ⌝ }
+{
+    if FEW_SAMPLES < area {
         return false;
     }
     if gray.len() < area {
@@ -81,8 +89,10 @@ fn few_grays(area: usize, gray: &[u8]) -> bool {
 
 // The dithered plane, where nothing is refused and there is room for it.
 fn dithered_plane(width: u32, height: u32, gray: &[u8], work: &mut [i16], out: &mut [u8]) -> Written
-    requires { ⌜ (0 ≡ refusedBy Dither width height (length (now gray)) (length (now work))) × (planeBytes width height ≤ length (now out)) ⌝ }
-    ensures { λ r. ⌜ Quantizes Dither width height (now (gray .entry)) (now (out .entry)) (now (work .entry)) (written r) (now (out .exit)) (now (work .exit)) ⌝ }
+    requires { ⌜ (0 ≡ refusedBy Dither width height (length (now gray)) (length (now work)))
+        × (planeBytes width height ≤ length (now out)) ⌝ }
+    ensures { λ r. ⌜ Quantizes Dither width height (now (gray .entry)) (now (out .entry)) (now (work .entry)) (written r) (now (out .exit))
+        (now (work .exit)) ⌝ }
 {
     let area = width as usize * height as usize;
     if few_grays(area, gray) {
@@ -101,7 +111,8 @@ pub fn quantize_gray8(
     work: &mut [i16],
     out: &mut [u8],
 ) -> Written
-    ensures { λ r. ⌜ Quantizes rule width height (now (gray .entry)) (now (out .entry)) (now (work .entry)) (written r) (now (out .exit)) (now (work .exit)) ⌝ }
+    ensures { λ r. ⌜ Quantizes rule width height (now (gray .entry)) (now (out .entry)) (now (work .entry)) (written r) (now (out .exit))
+        (now (work .exit)) ⌝ }
 {
     let code = refused(width, height, gray.len(), rule, work.len());
     if code != 0 {
@@ -132,7 +143,8 @@ pub fn from_gray8(
     work: &mut [i16],
     out: &mut [u8],
 ) -> Written
-    ensures { λ r. ⌜ Quantizes quantize width height (now (gray .entry)) (now (out .entry)) (now (work .entry)) (written r) (now (out .exit)) (now (work .exit)) ⌝ }
+    ensures { λ r. ⌜ Quantizes quantize width height (now (gray .entry)) (now (out .entry)) (now (work .entry)) (written r)
+        (now (out .exit)) (now (work .exit)) ⌝ }
 {
     quantize_gray8(width, height, gray, quantize, work, out)
 }
@@ -145,7 +157,8 @@ pub fn threshold_bits(
     threshold: u8,
     out: &mut [u8],
 ) -> Written
-    ensures { λ r. ⌜ Emits (quantized (Threshold threshold) width height (now (gray .entry)) 0) (written r) (now (out .entry)) (now (out .exit)) ⌝ }
+    ensures { λ r. ⌜ Emits (quantized (Threshold threshold) width height (now (gray .entry)) 0) (written r) (now (out .entry))
+        (now (out .exit)) ⌝ }
 {
     let mut work = [0i16; 1];
     quantize_gray8(
@@ -166,14 +179,16 @@ pub fn dither_bits(
     work: &mut [i16],
     out: &mut [u8],
 ) -> Written
-    ensures { λ r. ⌜ Quantizes Dither width height (now (gray .entry)) (now (out .entry)) (now (work .entry)) (written r) (now (out .exit)) (now (work .exit)) ⌝ }
+    ensures { λ r. ⌜ Quantizes Dither width height (now (gray .entry)) (now (out .entry)) (now (work .entry)) (written r) (now (out .exit))
+        (now (work .exit)) ⌝ }
 {
     quantize_gray8(width, height, gray, Quantize::Dither, work, out)
 }
 
 // The ordered rule of this side. No work buffer is needed.
 pub fn ordered_bits(width: u32, height: u32, gray: &[u8], side: u8, out: &mut [u8]) -> Written
-    ensures { λ r. ⌜ Emits (quantized (Ordered side) width height (now (gray .entry)) 0) (written r) (now (out .entry)) (now (out .exit)) ⌝ }
+    ensures { λ r. ⌜ Emits (quantized (Ordered side) width height (now (gray .entry)) 0) (written r) (now (out .entry))
+        (now (out .exit)) ⌝ }
 {
     let mut work = [0i16; 1];
     quantize_gray8(width, height, gray, Quantize::Ordered(side), &mut work, out)

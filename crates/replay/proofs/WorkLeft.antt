@@ -11,7 +11,7 @@ use Rattle.error.specs.Answer.{gives}
 use Rattle.error.specs.Choice.{if}
 use Rattle.laws.proofs.Tests.{zero-one}
 use Rattle.quantize.specs.declared.engine.Quantizer.{Quantizer}
-use Rattle.quantize.specs.declared.engine.Ran.{Ran}
+use Rattle.quantize.specs.declared.engine.RunEnded.{RunEnded}
 use Rattle.rules.specs.Rule.{meaning, carries}
 use Rattle.quantize.specs.Internal.Engine.{Machines}
 use Rattle.quantize.specs.Finished.{Setting}
@@ -31,7 +31,7 @@ drop-front (suc k) (x ∷ a) [] c l e = absurd (omega arith)
 drop-front (suc k) (x ∷ a) (y ∷ b) c l e = drop-front k a b c (omega arith) e
 
 -- where the engine takes no sample, it keeps what it found
-pub none-taken : (q : Quantizer) (s : Setting) (n : ℕ) (xs out : List ℕ) (work : List ℤ) (r : Ran) (out′ : List ℕ) (work′ : List ℤ)
+pub none-taken : (q : Quantizer) (s : Setting) (n : ℕ) (xs out : List ℕ) (work : List ℤ) (r : RunEnded) (out′ : List ℕ) (work′ : List ℤ)
     → Machines q s n xs out work r out′ work′ → r .taken ≡ 0 → work′ ≡ work
 unfolding carried
 none-taken q s n xs out work r out′ work′ M z =

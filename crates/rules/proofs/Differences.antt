@@ -64,7 +64,8 @@ unfolding part
 part-neg k b h =
     let m = suc (128 - suc b) in
     let e : k * 128 ≡ k * b + k * m = ap (λ (n : ℕ). k * n) (omega arith) ∙ mul-add k b m in
-    rw (sub-neg b 128 h) (round-neg (k * m) ∙ neg-is ((k * m + 8) / 16) ∙ sub-eq 0 ((k * m + 8) / 16) ((k * b + 7) / 16) (8 * k) (omega arith))
+    rw (sub-neg b 128 h) (round-neg (k * m) ∙ neg-is ((k * m + 8) / 16)
+    ∙ sub-eq 0 ((k * m + 8) / 16) ((k * b + 7) / 16) (8 * k) (omega arith))
 
 -- both by one quotient
 pub part-is : (k b : ℕ) → b ≤ 256 → part k (subℕ b 128) ≡ subℕ (((128 * k + 1) * b + 896) / 2048) (8 * k)
@@ -106,7 +107,8 @@ residual-black v h = rw (white-no v h)
 
 -- a dot's value, from its four parts
 pub value-is : (g l c a r pl pc pa pr : ℕ)
-    → part 7 (subℕ l 128) ≡ subℕ pl 56 → part 1 (subℕ c 128) ≡ subℕ pc 8 → part 5 (subℕ a 128) ≡ subℕ pa 40 → part 3 (subℕ r 128) ≡ subℕ pr 24
+    → part 7 (subℕ l 128) ≡ subℕ pl 56 → part 1 (subℕ c 128) ≡ subℕ pc 8 → part 5 (subℕ a 128) ≡ subℕ pa 40
+    → part 3 (subℕ r 128) ≡ subℕ pr 24
     → value g (subℕ l 128) (subℕ c 128) (subℕ a 128) (subℕ r 128) ≡ subℕ (g + pl + pc + pa + pr) 128
 unfolding value
 value-is g l c a r pl pc pa pr el ec ea er =
@@ -142,9 +144,11 @@ stepped v e h =
 -- a black or white sample with no residual around it: its dot, and no residual
 value-residual-free : (g : ℕ) → value g (subℕ 128 128) (subℕ 128 128) (subℕ 128 128) (subℕ 128 128) ≡ subℕ (g + 56 + 8 + 40 + 24) 128
 value-residual-free g =
-    value-is g 128 128 128 128 56 8 40 24 (part-pos 7 128 (omega arith)) (part-pos 1 128 (omega arith)) (part-pos 5 128 (omega arith)) (part-pos 3 128 (omega arith))
+    value-is g 128 128 128 128 56 8 40 24 (part-pos 7 128 (omega arith)) (part-pos 1 128 (omega arith)) (part-pos 5 128 (omega arith))
+    (part-pos 3 128 (omega arith))
 
-pub stepped-residual-free : (g : ℕ) → g < 256 → g % 255 ≡ 0 → DotMade (value g (subℕ 128 128) (subℕ 128 128) (subℕ 128 128) (subℕ 128 128)) (g / 128) 128
+pub stepped-residual-free : (g : ℕ) → g < 256 → g % 255 ≡ 0
+    → DotMade (value g (subℕ 128 128) (subℕ 128 128) (subℕ 128 128) (subℕ 128 128)) (g / 128) 128
 stepped-residual-free g h e =
     ⊎-elim
     (λ k. let z : g ≡ 0 = omega arith in rw z (stepped-black 128 (value-residual-free 0) (omega arith)))

@@ -21,7 +21,8 @@ use Rattle.rules.proofs.ListPiece.{piece, piece-length}
 use Rattle.rules.proofs.DitherDotsLoop.{dots-small}
 use Rattle.rules.proofs.RowKept.{row-long}
 
-pub bytes-none : (rule : Rule) (w y x : ℕ) (samples : List ℕ) (corner : ℕ) (work : List ℤ) (out : List ℕ) → length out ≡ 0 → Bytes rule w y x samples corner work (length out) out corner work
+pub bytes-none : (rule : Rule) (w y x : ℕ) (samples : List ℕ) (corner : ℕ) (work : List ℤ) (out : List ℕ) → length out ≡ 0
+    → Bytes rule w y x samples corner work (length out) out corner work
 unfolding Bytes
 bytes-none rule w y x samples corner work [] e = (refl, (refl, refl))
 bytes-none rule w y x samples corner work (b ∷ out) e = let z : ⊥ = omega arith in absurd z
@@ -41,22 +42,27 @@ module _ (w y x : ℕ) (gray : List ℕ) (work : List ℤ) (a b : ℕ) (same : c
   bit-same zero = rw first
   bit-same (suc i) = ap (λ (c : Carry). bit (machineDot dither w y (x + suc i) (getD gray (suc i) 0) c)) (carry-same i)
 
-  pub dots-corner : (begun dots corner : ℕ) (work′ : List ℤ) → 0 < length gray → Dots dither w y x gray begun a work dots corner work′ → Dots dither w y x gray begun b work dots corner work′
+  pub dots-corner : (begun dots corner : ℕ) (work′ : List ℤ) → 0 < length gray → Dots dither w y x gray begun a work dots corner work′
+      → Dots dither w y x gray begun b work dots corner work′
   dots-corner begun dots corner work′ h d =
       record {
-        digits = d .digits ∙ appended-ext begun (rowBit dither w y x gray (carryOf a work)) (rowBit dither w y x gray (carryOf b work)) (length gray) (λ i _. bit-same i);
+        digits =
+            d .digits ∙ appended-ext begun (rowBit dither w y x gray (carryOf a work)) (rowBit dither w y x gray (carryOf b work))
+            (length gray) (λ i _. bit-same i);
         carry = go (length gray) refl h ∙ d .carry;
         small = d .small;
       }
     where
-      go : (n : ℕ) → n ≡ length gray → 0 < n → rowCarry dither w y x gray (carryOf b work) (length gray) ≡ rowCarry dither w y x gray (carryOf a work) (length gray)
+      go : (n : ℕ) → n ≡ length gray → 0 < n
+          → rowCarry dither w y x gray (carryOf b work) (length gray) ≡ rowCarry dither w y x gray (carryOf a work) (length gray)
       go zero e l = let z : ⊥ = omega arith in absurd z
       go (suc n) e l = rw (← e) (sym (carry-same n))
 
 -- the number at hand is itself a corner
 pub near-own : (w y x corner : ℕ) (work : List ℤ) (n : Neighbours) → Near w y x corner work n → Near w y x (n .corner) work n
 near-own w y zero corner work n h = record { leftIs = h .leftIs; cornerIs = h .cornerIs; aboveIs = h .aboveIs }
-near-own w y (suc x) corner work n h = record { leftIs = h .leftIs; cornerIs = record { is = refl; small = h .cornerIs .small }; aboveIs = h .aboveIs }
+near-own w y (suc x) corner work n h =
+    record { leftIs = h .leftIs; cornerIs = record { is = refl; small = h .cornerIs .small }; aboveIs = h .aboveIs }
 
 module _ (w y x : ℕ) (samples : List ℕ) (corner : ℕ) (work₀ : List ℤ) (count : ℕ) where
   -- after k bytes
@@ -72,16 +78,26 @@ module _ (w y x : ℕ) (samples : List ℕ) (corner : ℕ) (work₀ : List ℤ) 
   pub chain-start : (out : List ℕ) (n : Neighbours) → length out ≡ count → Near w y x corner work₀ n → Chain out work₀ n 0
   unfolding Bytes
   chain-start out n e h =
-      record { bound = omega arith; outLong = e; workLong = refl; last = corner; bytes = (refl, (refl, refl)); near = rw add-zero h; lastIs = λ h. let z : ⊥ = omega arith in absurd z }
+      record {
+        bound = omega arith;
+        outLong = e;
+        workLong = refl;
+        last = corner;
+        bytes = (refl, (refl, refl));
+        near = rw add-zero h;
+        lastIs = λ h. let z : ⊥ = omega arith in absurd z;
+      }
 
-  module _ (out : List ℕ) (work : List ℤ) (n : Neighbours) (k : ℕ) (C : Chain out work n k) (more : k < count) (there : 8 * k + 8 ≤ length samples)
+  module _ (out : List ℕ) (work : List ℤ) (n : Neighbours) (k : ℕ) (C : Chain out work n k) (more : k < count)
+      (there : 8 * k + 8 ≤ length samples)
       (r : DitheredByte) (work′ : List ℤ) (d : Diffused w y (x + 8 * k) (piece samples (8 * k) 8) (n .corner) work r work′) where
     eight : length (piece samples (8 * k) 8) ≡ 8
     eight = piece-length samples (8 * k) 8 there
 
     pub byte-small : r .digits < 256
     byte-small =
-        dots-small dither w y (x + 8 * k) (piece samples (8 * k) 8) 0 (n .corner) work (r .digits) (r .next .corner) work′ 0 8 (d .dots) (omega arith) eight
+        dots-small dither w y (x + 8 * k) (piece samples (8 * k) 8) 0 (n .corner) work (r .digits) (r .next .corner) work′ 0 8 (d .dots)
+        (omega arith) eight
 
     same : cornerOf (subℕ (n .corner) 128) (x + 8 * k) ≡ cornerOf (subℕ (C .last) 128) (x + 8 * k)
     same = near-own w y (x + 8 * k) (C .last) work n (C .near) .cornerIs .is ∙ sym (C .near .cornerIs .is)
@@ -107,7 +123,9 @@ module _ (w y x : ℕ) (samples : List ℕ) (corner : ℕ) (work₀ : List ℤ) 
                 work = work;
                 byte = r .digits;
                 before = C .bytes;
-                dots = dots-corner w y (x + 8 * k) (piece samples (8 * k) 8) work (n .corner) (C .last) same 0 (r .digits) (r .next .corner) work′ (omega (arith, eight)) (d .dots);
+                dots =
+                    dots-corner w y (x + 8 * k) (piece samples (8 * k) 8) work (n .corner) (C .last) same 0 (r .digits) (r .next .corner)
+                    work′ (omega (arith, eight)) (d .dots);
                 more = take-suc-set out k (r .digits) (omega (arith, C .outLong));
               });
           near = subst (λ (i : ℕ). Near w y i (r .next .corner) work′ (r .next)) e

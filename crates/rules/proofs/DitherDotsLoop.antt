@@ -41,10 +41,12 @@ unfolding rowBit
 row-bit-le rule w y x gray c i = bit-le (machineDot rule w y (x + i) (getD gray i 0) (rowCarry rule w y x gray c i))
 
 -- the digits after n samples more
-pub dots-small : (rule : Rule) (w y x : ℕ) (gray : List ℕ) (begun corner : ℕ) (work : List ℤ) (digits corner′ : ℕ) (work′ : List ℤ) (a n : ℕ)
+pub dots-small : (rule : Rule) (w y x : ℕ) (gray : List ℕ) (begun corner : ℕ) (work : List ℤ) (digits corner′ : ℕ) (work′ : List ℤ)
+    (a n : ℕ)
     → Dots rule w y x gray begun corner work digits corner′ work′ → begun < 2 ^ a → length gray ≡ n → digits < 2 ^ (a + n)
 dots-small rule w y x gray begun corner work digits corner′ work′ a n d h e =
-    rw (d .digits, e) (appended-lt begun (rowBit rule w y x gray (carryOf corner work)) (row-bit-le rule w y x gray (carryOf corner work)) a n h)
+    rw (d .digits, e) (appended-lt begun (rowBit rule w y x gray (carryOf corner work)) (row-bit-le rule w y x gray (carryOf corner work))
+    a n h)
 
 module _ (w y x : ℕ) (gray : List ℕ) (begun corner : ℕ) (work₀ : List ℤ) where
   abbrev at : ℕ → Carry
@@ -60,16 +62,26 @@ module _ (w y x : ℕ) (gray : List ℕ) (begun corner : ℕ) (work₀ : List �
     pub aboveIs : Biased (overOf w y work (x + i)) above
     pub digitsIs : digits ≡ appended begun (rowBit dither w y x gray (carryOf corner work₀)) i
 
-  pub inv-start : (left aboveLeft above : ℕ) → Biased (leftOf work₀ x) left → Biased (cornerOf (subℕ corner 128) x) aboveLeft → Biased (overOf w y work₀ x) above
+  pub inv-start : (left aboveLeft above : ℕ) → Biased (leftOf work₀ x) left → Biased (cornerOf (subℕ corner 128) x) aboveLeft
+      → Biased (overOf w y work₀ x) above
       → Inv work₀ left begun aboveLeft above 0
   unfolding rowCarry appended
   inv-start left aboveLeft above hl hc ha =
-      record { bound = omega arith; long = refl; keptIs = refl; leftIs = rw add-zero hl; cornerIs = rw add-zero hc; aboveIs = rw add-zero ha; digitsIs = refl }
+      record {
+        bound = omega arith;
+        long = refl;
+        keptIs = refl;
+        leftIs = rw add-zero hl;
+        cornerIs = rw add-zero hc;
+        aboveIs = rw add-zero ha;
+        digitsIs = refl;
+      }
 
   module _ (work : List ℤ) (left digits aboveLeft above i : ℕ) (I : Inv work left digits aboveLeft above i)
       (ahead dot rest : ℕ) (hr : Biased (overOf w y work (x + i + 1)) ahead)
       (st : DotMade (value (getD gray i 0) (subℕ left 128) (subℕ aboveLeft 128) (subℕ above 128) (subℕ ahead 128)) dot rest) where
-    value-is : valueOf toRight w y (x + i) (getD gray i 0) (at i) ≡ value (getD gray i 0) (subℕ left 128) (subℕ aboveLeft 128) (subℕ above 128) (subℕ ahead 128)
+    value-is : valueOf toRight w y (x + i) (getD gray i 0) (at i)
+        ≡ value (getD gray i 0) (subℕ left 128) (subℕ aboveLeft 128) (subℕ above 128) (subℕ ahead 128)
     unfolding valueOf
     value-is = rw (I .keptIs, I .leftIs .is, I .cornerIs .is, I .aboveIs .is, hr .is)
 
@@ -77,7 +89,8 @@ module _ (w y x : ℕ) (gray : List ℕ) (begun corner : ℕ) (work₀ : List �
     unfolding rowBit machineDot
     dot-is = st .dotIs ∙ ap (λ (v : ℤ). bit (white v)) (sym value-is)
 
-    pub inv-more : (z : ℤ) → z ≡ subℕ rest 128 → i < length gray → x + i < length work → Inv (set work (x + i) z) rest (digits * 2 + dot) above ahead (i + 1)
+    pub inv-more : (z : ℤ) → z ≡ subℕ rest 128 → i < length gray → x + i < length work
+        → Inv (set work (x + i) z) rest (digits * 2 + dot) above ahead (i + 1)
     unfolding rowCarry next diffused
     inv-more z ez h k =
         let zr : residual (valueOf toRight w y (x + i) (getD gray i 0) (at i)) ≡ z = ap residual value-is ∙ st .restIs .is ∙ sym ez in
@@ -87,7 +100,8 @@ module _ (w y x : ℕ) (gray : List ℕ) (begun corner : ℕ) (work₀ : List �
           bound = omega arith;
           long = length-set work (x + i) z ∙ I .long;
           keptIs = rw (add-one i, zr, I .keptIs);
-          leftIs = rw (left-at (set work (x + i) z) (x + (i + 1)) (x + i) e, getD-set-same work (x + i) z (pos 0) k) (biased-clamp z rest b);
+          leftIs =
+              rw (left-at (set work (x + i) z) (x + (i + 1)) (x + i) e, getD-set-same work (x + i) z (pos 0) k) (biased-clamp z rest b);
           cornerIs = rw (add-one i, corner-at (overOf w y (at i .kept) (x + i)) (x + suc i) (omega arith), I .keptIs) (I .aboveIs);
           aboveIs = rw (e, over-set w work y (x + i) (x + i + 1) z (λ (o : x + i + 1 ≡ x + i). omega arith)) hr;
           digitsIs = one-more begun (rowBit dither w y x gray (carryOf corner work₀)) i digits dot (I .digitsIs) dot-is;
@@ -98,11 +112,14 @@ module _ (w y x : ℕ) (gray : List ℕ) (begun corner : ℕ) (work₀ : List �
       → 0 < y → x + i < w → w ≤ length work → i < length gray → getD gray i 0 < 256 → getD gray i 0 % 255 ≡ 0
       → Inv work 128 (digits * 2 + getD gray i 0 / 128) 128 128 (i + 1)
   inv-residual-free work digits i I hr h k l m b e =
-      subst (λ (kept : List ℤ). Inv kept 128 (digits * 2 + getD gray i 0 / 128) 128 128 (i + 1)) (kept-zero w work y (x + i) h k (I .aboveIs .is))
-      (inv-more work 128 digits 128 128 i I 128 (getD gray i 0 / 128) 128 hr (stepped-residual-free (getD gray i 0) b e) (pos 0) refl m (omega arith))
+      subst (λ (kept : List ℤ). Inv kept 128 (digits * 2 + getD gray i 0 / 128) 128 128 (i + 1))
+      (kept-zero w work y (x + i) h k (I .aboveIs .is))
+      (inv-more work 128 digits 128 128 i I 128 (getD gray i 0 / 128) 128 hr (stepped-residual-free (getD gray i 0) b e) (pos 0) refl m
+      (omega arith))
 
   -- the residuals next to the dot after the last one
-  pub inv-near : (work : List ℤ) (left digits aboveLeft above i : ℕ) → Inv work left digits aboveLeft above i → length gray ≤ i → 0 < length gray
+  pub inv-near : (work : List ℤ) (left digits aboveLeft above i : ℕ) → Inv work left digits aboveLeft above i → length gray ≤ i
+      → 0 < length gray
       → Near w y (x + length gray) aboveLeft work (record { left = left; corner = aboveLeft; above = above })
   inv-near work left digits aboveLeft above i I h k =
       let b = I .bound in
@@ -113,7 +130,8 @@ module _ (w y x : ℕ) (gray : List ℕ) (begun corner : ℕ) (work₀ : List �
         aboveIs = subst (λ (n : ℕ). Biased (overOf w y work (x + n)) above) e (I .aboveIs);
       }
 
-  pub inv-end : (work : List ℤ) (left digits aboveLeft above i : ℕ) → Inv work left digits aboveLeft above i → length gray ≤ i → 0 < length gray
+  pub inv-end : (work : List ℤ) (left digits aboveLeft above i : ℕ) → Inv work left digits aboveLeft above i → length gray ≤ i
+      → 0 < length gray
       → Dots dither w y x gray begun corner work₀ digits aboveLeft work
   inv-end work left digits aboveLeft above i I h k =
       let b = I .bound in

@@ -1,4 +1,5 @@
--- What a dot depends on: the rows above and, in its own row, the samples up to its own in the order of visiting. Each row runs in its own direction.
+-- What a dot depends on: the rows above and, in its own row, the samples up to its own in the order of visiting. Each row runs in its own
+-- direction.
 -- Assumes nothing.
 use Prim.Native.Nat.{ℕ, zero, suc, _-_, _≤_, _<_}
 use mathlib.Core.Path.{_≡_, refl, sym, ap, _∙_}
@@ -9,7 +10,8 @@ use borrow.Author.Tests.{ltb-true, lt-ltb, le-ltb}
 use lib.Dec.{ltb}
 use lib.IntN.{ℤ, pos}
 use Rattle.error.specs.Choice.{if}
-use Rattle.rules.specs.Diffusion.{Scan, Direction, toRight, toLeft, value, residual, onLeft, onRight, before, after, visited, valueFrom, handed, rowValue, above, valueAt, residualAt}
+use Rattle.rules.specs.Diffusion.{Scan, Direction, toRight, toLeft, value, residual, onLeft, onRight, before, after, visited}
+use Rattle.rules.specs.Diffusion.{valueFrom, handed, rowValue, above, valueAt, residualAt}
 use Rattle.laws.proofs.Tests.{lt-or-le}
 
 -- ---- the order of visiting
@@ -50,17 +52,21 @@ module _ (w : ℕ) (a b : ℕ → ℤ) (same : (k : ℕ) → k < w → a k ≡ b
       unfolding handed
       handed-ext zero h i = refl
       handed-ext (suc k) h i =
-          ap residual (value-ext (visited d w k) (handed d e w f a k) (handed d e w g b k) (visited-in d w k h) (i k (omega arith)) (handed-ext k (omega arith) (λ j l. i j (omega arith))))
+          ap residual (value-ext (visited d w k) (handed d e w f a k) (handed d e w g b k) (visited-in d w k h) (i k (omega arith))
+          (handed-ext k (omega arith) (λ j l. i j (omega arith))))
 
-      row-ext : (x : ℕ) → x < w → ((j : ℕ) → j ≤ visited d w x → f (visited d w j) ≡ g (visited d w j)) → rowValue d e w f a x ≡ rowValue d e w g b x
+      row-ext : (x : ℕ) → x < w → ((j : ℕ) → j ≤ visited d w x → f (visited d w j) ≡ g (visited d w j))
+          → rowValue d e w f a x ≡ rowValue d e w g b x
       unfolding rowValue
       row-ext x h i =
           let own : f x ≡ g x = ap f (sym (visited-twice d w x h)) ∙ i (visited d w x) (omega arith) ∙ ap g (visited-twice d w x h) in
           let l = visited-in d w x h in
-          value-ext x (handed d e w f a (visited d w x)) (handed d e w g b (visited d w x)) h own (handed-ext (visited d w x) (omega arith) (λ j m. i j (omega arith)))
+          value-ext x (handed d e w f a (visited d w x)) (handed d e w g b (visited d w x)) h own
+          (handed-ext (visited d w x) (omega arith) (λ j m. i j (omega arith)))
 
 -- what a row hands to the dot at column x is the residual before it
-pub handed-before : (d e : Direction) (w : ℕ) (f : ℕ → ℕ) (a : ℕ → ℤ) (x : ℕ) → x < w → handed d e w f a (visited d w x) ≡ before d w (λ k. residual (rowValue d e w f a k)) x
+pub handed-before : (d e : Direction) (w : ℕ) (f : ℕ → ℕ) (a : ℕ → ℤ) (x : ℕ) → x < w
+    → handed d e w f a (visited d w x) ≡ before d w (λ k. residual (rowValue d e w f a k)) x
 unfolding handed rowValue
 handed-before toRight e w f a zero h = refl
 handed-before toRight e w f a (suc x) h = refl
@@ -89,10 +95,13 @@ module _ (dirs : ℕ → Direction) (w : ℕ) (p q : Scan) where
   above-ext (suc y) e x h =
       let n = visited-in (dirs y) w x h in
       ap residual
-      (row-ext w (above dirs w p y) (above dirs w q y) (above-ext y (λ j k l m. e j k (omega arith) m)) (dirs (y - 1)) (λ c. p c y) (λ c. q c y) (dirs y) x h
+      (row-ext w (above dirs w p y) (above dirs w q y) (above-ext y (λ j k l m. e j k (omega arith) m)) (dirs (y - 1)) (λ c. p c y)
+      (λ c. q c y) (dirs y) x h
       (λ j l. e (visited (dirs y) w j) y (omega arith) (visited-in (dirs y) w j (omega arith))))
 
-  pub valueAt-ext : (x y : ℕ) → x < w → Agree y → ((j : ℕ) → j ≤ visited (dirs y) w x → p (visited (dirs y) w j) y ≡ q (visited (dirs y) w j) y) → valueAt dirs w p x y ≡ valueAt dirs w q x y
+  pub valueAt-ext : (x y : ℕ) → x < w → Agree y
+      → ((j : ℕ) → j ≤ visited (dirs y) w x → p (visited (dirs y) w j) y ≡ q (visited (dirs y) w j) y)
+      → valueAt dirs w p x y ≡ valueAt dirs w q x y
   unfolding valueAt
   valueAt-ext x y h e k =
       row-ext w (above dirs w p y) (above dirs w q y) (above-ext y e) (dirs (y - 1)) (λ c. p c y) (λ c. q c y) (dirs y) x h k
@@ -105,14 +114,20 @@ module _ (dirs : ℕ → Direction) (w : ℕ) (scan : Scan) where
   residual-is x y = refl
 
   -- what the row hands to column x
-  pub handed-is : (x y : ℕ) → x < w → handed (dirs y) (dirs (y - 1)) w (λ c. scan c y) (above dirs w scan y) (visited (dirs y) w x) ≡ before (dirs y) w (λ k. residualAt dirs w scan k y) x
+  pub handed-is : (x y : ℕ) → x < w
+      → handed (dirs y) (dirs (y - 1)) w (λ c. scan c y) (above dirs w scan y) (visited (dirs y) w x)
+      ≡ before (dirs y) w (λ k. residualAt dirs w scan k y) x
   unfolding above
   handed-is x y h = handed-before (dirs y) (dirs (y - 1)) w (λ c. scan c y) (above dirs w scan y) x h
 
   pub value-is : (x y : ℕ) → x < w
-      → valueAt dirs w scan x y ≡ value (scan x y) (before (dirs y) w (λ k. residualAt dirs w scan k y) x) (before (dirs (y - 1)) w (above dirs w scan y) x) (above dirs w scan y x) (after (dirs (y - 1)) w (above dirs w scan y) x)
+      → valueAt dirs w scan x y
+      ≡ value (scan x y) (before (dirs y) w (λ k. residualAt dirs w scan k y) x) (before (dirs (y - 1)) w (above dirs w scan y) x)
+      (above dirs w scan y x) (after (dirs (y - 1)) w (above dirs w scan y) x)
   unfolding valueAt rowValue valueFrom
-  value-is x y h = ap (λ (l : ℤ). value (scan x y) l (before (dirs (y - 1)) w (above dirs w scan y) x) (above dirs w scan y x) (after (dirs (y - 1)) w (above dirs w scan y) x)) (handed-is x y h)
+  value-is x y h =
+      ap (λ (l : ℤ). value (scan x y) l (before (dirs (y - 1)) w (above dirs w scan y) x) (above dirs w scan y x)
+      (after (dirs (y - 1)) w (above dirs w scan y) x)) (handed-is x y h)
 
   pub above-top : (x : ℕ) → above dirs w scan 0 x ≡ pos 0
   unfolding above

@@ -27,8 +27,13 @@ within z h =
     (lt-or-le (h .n) 128)
 
 pub held : (z : ℤ) → natAbs z ≤ 128 → Held z
-held (pos n) h = record { n = n + 128; holds = record { is = sym (sub-pos (n + 128) 128 (omega arith) ∙ ap pos (omega arith)); small = omega arith } }
-held (negsuc n) h = record { n = 128 - suc n; holds = record { is = sym (sub-neg (128 - suc n) 128 (omega arith) ∙ ap negsuc (omega arith)); small = omega arith } }
+held (pos n) h =
+    record { n = n + 128; holds = record { is = sym (sub-pos (n + 128) 128 (omega arith) ∙ ap pos (omega arith)); small = omega arith } }
+held (negsuc n) h =
+    record {
+      n = 128 - suc n;
+      holds = record { is = sym (sub-neg (128 - suc n) 128 (omega arith) ∙ ap negsuc (omega arith)); small = omega arith };
+    }
 
 -- a number within the range is clamped to itself, and every clamped number is within it
 pub clamp-same : (z : ℤ) → natAbs z ≤ 128 → clamp z ≡ z
@@ -66,4 +71,5 @@ residual-held g l c a r hg hl hc ha hr =
     let pa = rounded 5 (ha .n) (ha .holds .small) in
     let pr = rounded 3 (hr .n) (hr .holds .small) in
     rw (hl .holds .is, hc .holds .is, ha .holds .is, hr .holds .is)
-    (stepped-held (g + pl .n + pc .n + pa .n + pr .n) (value-is g (hl .n) (hc .n) (ha .n) (hr .n) (pl .n) (pc .n) (pa .n) (pr .n) (pl .is .is) (pc .is .is) (pa .is .is) (pr .is .is)) (omega (arith, pl .is .small, pc .is .small, pa .is .small, pr .is .small)))
+    (stepped-held (g + pl .n + pc .n + pa .n + pr .n) (value-is g (hl .n) (hc .n) (ha .n) (hr .n) (pl .n) (pc .n) (pa .n) (pr .n)
+    (pl .is .is) (pc .is .is) (pa .is .is) (pr .is .is)) (omega (arith, pl .is .small, pc .is .small, pa .is .small, pr .is .small)))

@@ -27,9 +27,11 @@ half : (g : ℕ) → g < 256 → g / 128 ≡ bit (leb 128 g)
 half g h = ⊎-elim (λ l. rw (lt-leb 128 g l) (omega arith)) (λ l. rw (le-leb 128 g l) (omega arith)) (lt-or-le g 128)
 
 -- one byte
-module _ (w y x corner : ℕ) (samples : List ℕ) (from : ℕ) (work : List ℤ) (there : from + 8 ≤ length samples) (below : 0 < y) (inRow : x + 8 < w) (room : w ≤ length work)
+module _ (w y x corner : ℕ) (samples : List ℕ) (from : ℕ) (work : List ℤ) (there : from + 8 ≤ length samples) (below : 0 < y)
+    (inRow : x + 8 < w) (room : w ≤ length work)
     (octets : (i : ℕ) → getD samples i 0 < 256) (plain : (i : ℕ) → i < 8 → getD samples (from + i) 0 % 255 ≡ 0)
-    (near : Near w y x corner work (record { left = 128; corner = 128; above = 128 })) (over : (i : ℕ) → i ≤ 8 → Biased (overOf w y work (x + i)) 128) where
+    (near : Near w y x corner work (record { left = 128; corner = 128; above = 128 }))
+    (over : (i : ℕ) → i ≤ 8 → Biased (overOf w y work (x + i)) 128) where
   abbrev eight : List ℕ
   eight = piece samples from 8
 
@@ -43,16 +45,20 @@ module _ (w y x corner : ℕ) (samples : List ℕ) (from : ℕ) (work : List ℤ
       let d : getD eight i 0 / 128 ≡ thresholdFrom 128 samples from i = half (getD eight i 0) g ∙ ap (λ (n : ℕ). bit (leb 128 n)) (sym e) in
       let o : Biased (overOf w y work (x + i + 1)) 128 = subst (λ (n : ℕ). Biased (overOf w y work n) 128) (omega arith) (over (suc i) h) in
       rw (← add-one i, ← d)
-      (inv-residual-free w y x eight 0 corner work work (appended 0 (thresholdFrom 128 samples from) i) i (turns i (omega arith)) o below (omega arith) room (omega (arith, piece-length samples from 8 there)) g p)
+      (inv-residual-free w y x eight 0 corner work work (appended 0 (thresholdFrom 128 samples from) i) i (turns i (omega arith)) o below
+      (omega arith) room (omega (arith, piece-length samples from 8 there)) g p)
 
   pub residual-free-byte : Dots dither w y x eight 0 corner work (digits (thresholdFrom 128 samples from) 8) 128 work
   residual-free-byte =
       let n = piece-length samples from 8 there in
-      inv-end w y x eight 0 corner work work 128 (appended 0 (thresholdFrom 128 samples from) 8) 128 128 8 (turns 8 (omega arith)) (omega arith) (omega arith)
+      inv-end w y x eight 0 corner work work 128 (appended 0 (thresholdFrom 128 samples from) 8) 128 128 8 (turns 8 (omega arith))
+      (omega arith) (omega arith)
 
 -- so many bytes
-module _ (w y x corner : ℕ) (samples : List ℕ) (count : ℕ) (work : List ℤ) (n : Neighbours) (there : 8 * count ≤ length samples) (inRow : x + 8 * count < w) (room : w ≤ length work)
-    (octets : (i : ℕ) → getD samples i 0 < 256) (leftIs : Biased (leftOf work x) (n .left)) (cornerIs : Biased (cornerOf (subℕ corner 128) x) (n .corner)) (residual-free : ResidualFree y x samples (8 * count) n work) where
+module _ (w y x corner : ℕ) (samples : List ℕ) (count : ℕ) (work : List ℤ) (n : Neighbours) (there : 8 * count ≤ length samples)
+    (inRow : x + 8 * count < w) (room : w ≤ length work)
+    (octets : (i : ℕ) → getD samples i 0 < 256) (leftIs : Biased (leftOf work x) (n .left))
+    (cornerIs : Biased (cornerOf (subℕ corner 128) x) (n .corner)) (residual-free : ResidualFree y x samples (8 * count) n work) where
   -- the corner after so many bytes
   abbrev after : ℕ → ℕ
   after zero = corner
@@ -90,8 +96,10 @@ module _ (w y x corner : ℕ) (samples : List ℕ) (count : ℕ) (work : List �
         work = work;
         byte = digits (thresholdFrom 128 samples (8 * k)) 8;
         before = residual-free-bytes k (omega arith);
-        dots = residual-free-byte w y (x + 8 * k) (after k) samples (8 * k) work (omega arith) (residual-free .below) (omega arith) room octets
-            (λ i l. let e : 8 * k + i ≡ 0 + (8 * k + i) = omega arith in rw e (residual-free .plain (8 * k + i) (omega arith))) (near k (omega arith))
+        dots =
+            residual-free-byte w y (x + 8 * k) (after k) samples (8 * k) work (omega arith) (residual-free .below) (omega arith) room octets
+            (λ i l. let e : 8 * k + i ≡ 0 + (8 * k + i) = omega arith in rw e (residual-free .plain (8 * k + i) (omega arith)))
+            (near k (omega arith))
             (λ i l. let e : x + 8 * k + i ≡ x + (8 * k + i) = omega arith in rw e (over (8 * k + i) (omega arith)));
         more = refl;
       }
@@ -101,4 +109,6 @@ module _ (w y x corner : ℕ) (samples : List ℕ) (count : ℕ) (work : List �
     where
       go : (k : ℕ) → k ≡ count → Bytes dither w y x samples corner work count (thresholdBytes 128 samples count) 128 work
       go zero e = let z : ⊥ = omega arith in absurd z
-      go (suc k) e = subst (λ (i : ℕ). Bytes dither w y x samples corner work i (thresholdBytes 128 samples i) 128 work) e (residual-free-bytes (suc k) (omega arith))
+      go (suc k) e =
+          subst (λ (i : ℕ). Bytes dither w y x samples corner work i (thresholdBytes 128 samples i) 128 work) e
+          (residual-free-bytes (suc k) (omega arith))

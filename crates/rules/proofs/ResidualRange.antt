@@ -6,7 +6,8 @@ use native.Mathlib.Omega.{arith}
 use lib.Dec.{ltb}
 use lib.IntN.{ℤ, pos, natAbs}
 use Rattle.error.specs.Choice.{if}
-use Rattle.rules.specs.Diffusion.{Scan, Direction, toRight, toLeft, residual, onLeft, onRight, before, after, visited, valueFrom, handed, rowValue, above, residualAt}
+use Rattle.rules.specs.Diffusion.{Scan, Direction, toRight, toLeft, residual, onLeft, onRight, before, after, visited, valueFrom}
+use Rattle.rules.specs.Diffusion.{handed, rowValue, above, residualAt}
 use Rattle.rules.specs.Rule.{rightwards}
 use Rattle.rules.proofs.HeldRange.{Held, held, within, residual-held}
 
@@ -35,7 +36,8 @@ module _ (w : ℕ) (row : ℕ → ℤ) (h : (k : ℕ) → Held (row k)) where
   module _ (d e : Direction) (gray : ℕ → ℕ) (bytes : (x : ℕ) → gray x < 256) where
     from-held : (x : ℕ) (p : ℤ) → Held p → Held (residual (valueFrom e w gray row x p))
     unfolding valueFrom
-    from-held x p k = residual-held (gray x) p (before e w row x) (row x) (after e w row x) (bytes x) k (before-held e x) (h x) (after-held e x)
+    from-held x p k =
+        residual-held (gray x) p (before e w row x) (row x) (after e w row x) (bytes x) k (before-held e x) (h x) (after-held e x)
 
     -- each dot after those that were visited before it
     pub handed-held : (k : ℕ) → Held (handed d e w gray row k)

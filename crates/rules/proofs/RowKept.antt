@@ -29,7 +29,8 @@ module _ (rule : Rule) (w y x : ℕ) (gray : List ℕ) (c : Carry) where
   pub row-beyond : (k i : ℕ) → x + i ≤ k → drop k (rowCarry rule w y x gray c i .kept) ≡ drop k (c .kept)
   unfolding rowCarry
   row-beyond k zero h = refl
-  row-beyond k (suc i) h = next-beyond rule w y (x + i) (getD gray i 0) (rowCarry rule w y x gray c i) k (omega arith) ∙ row-beyond k i (omega arith)
+  row-beyond k (suc i) h =
+      next-beyond rule w y (x + i) (getD gray i 0) (rowCarry rule w y x gray c i) k (omega arith) ∙ row-beyond k i (omega arith)
 
   pub row-long : (i : ℕ) → length (rowCarry rule w y x gray c i .kept) ≡ length (c .kept)
   unfolding rowCarry
@@ -43,7 +44,9 @@ next-spared (threshold t) w y x g c h = refl
 next-spared dither w y x g c h = never (sym h)
 next-spared (ordered side table) w y x g c h = refl
 
-pub row-spared : (rule : Rule) (w y x : ℕ) (gray : List ℕ) (c : Carry) → carries rule ≡ false → (i : ℕ) → rowCarry rule w y x gray c i .kept ≡ c .kept
+pub row-spared : (rule : Rule) (w y x : ℕ) (gray : List ℕ) (c : Carry) → carries rule ≡ false → (i : ℕ)
+    → rowCarry rule w y x gray c i .kept ≡ c .kept
 unfolding rowCarry
 row-spared rule w y x gray c h zero = refl
-row-spared rule w y x gray c h (suc i) = next-spared rule w y (x + i) (getD gray i 0) (rowCarry rule w y x gray c i) h ∙ row-spared rule w y x gray c h i
+row-spared rule w y x gray c h (suc i) =
+    next-spared rule w y (x + i) (getD gray i 0) (rowCarry rule w y x gray c i) h ∙ row-spared rule w y x gray c h i

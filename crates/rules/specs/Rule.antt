@@ -45,9 +45,9 @@ carries dither = true
 carries (ordered side table) = false
 
 -- a work buffer is long enough: carries need 2 × width numbers
-abbrev pub roomy : Rule → ℕ → ℕ → Bool
-roomy rule w work = if (carries rule) (leb (2 * w) work) true
+abbrev pub enoughWork : Rule → ℕ → ℕ → Bool
+enoughWork rule w work = if (carries rule) (leb (2 * w) work) true
 
--- the rule that the settings of making ask for: "29, 0: .. unknown" otherwise
+-- the rule that the settings of making ask for: 29 for an "unknown rule or side", place 0
 abbrev pub ruleAsked : EncodeOptions → Answer Rule
 ruleAsked o = if (knownRule (o .quantize)) (gives (meaning (o .quantize))) (refuses 29 0)

@@ -1,4 +1,5 @@
-// The kernels as the engine calls them. Each asks nothing: it tests once a call what its kernel asks, and where that does not hold it alters nothing.
+// The kernels as the engine calls them. Each asks nothing: it tests once a call what its kernel asks, and where that does not hold it
+// alters nothing.
 use crate::dither::RowDots;
 use crate::dither::dither_dots;
 use crate::row::dither_bytes;
@@ -13,7 +14,7 @@ ghost use Rattle.rules.specs.Internal.Entry.{Tells, Where};
 ghost use Rattle.rules.specs.Internal.Kernels.{Packs, Diffusing, Diffuses, thresholdBit, thresholdBytes};
 ghost use Rattle.rules.specs.Internal.Row.{Filling, Bytes};
 
-// Whether there is room for n digits more.
+// Whether n is at most a byte's dots, and the digits of the begun byte are at most eight.
 pub fn packs(begun: u32, n: usize) -> bool
     ensures { λ r. ⌜ Tells (Packs begun n) r ⌝ }
 {
@@ -71,9 +72,11 @@ fn filling(
     corner <= 256
 }
 
-// The digits of `begun`, and then a dot for each sample: 1 where it is at least `bound`. Answers `begun` where they are no byte's.
+// The digits of `begun`, and then a dot for each sample: 1 where it is at least `bound`. Answers `begun` where there are more than
+// eight samples, or the digits are more than a byte's.
 pub fn threshold_row_dots(bound: u8, gray: &[u8], begun: u32) -> u32
-    ensures { λ r. ⌜ Where (Packs begun (length (now (gray .entry)))) (r ≡ appended begun (thresholdBit bound (now (gray .entry))) (length (now (gray .entry)))) (r ≡ begun) ⌝ }
+    ensures { λ r. ⌜ Where (Packs begun (length (now (gray .entry))))
+        (r ≡ appended begun (thresholdBit bound (now (gray .entry))) (length (now (gray .entry)))) (r ≡ begun) ⌝ }
 {
     if packs(begun, gray.len()) {
         return threshold_dots(bound, gray, begun);
@@ -83,7 +86,8 @@ pub fn threshold_row_dots(bound: u8, gray: &[u8], begun: u32) -> u32
 
 // As many bytes as the output has, of eight samples each. The output stays as it is where there are fewer samples.
 pub fn threshold_row_bytes(bound: u8, samples: &[u8], out: &mut [u8])
-    ensures { λ r. ⌜ Where (8 * length (now (out .entry)) ≤ length (now (samples .entry))) (now (out .exit) ≡ thresholdBytes bound (now (samples .entry)) (length (now (out .entry)))) (now (out .exit) ≡ now (out .entry)) ⌝ }
+    ensures { λ r. ⌜ Where (8 * length (now (out .entry)) ≤ length (now (samples .entry)))
+        (now (out .exit) ≡ thresholdBytes bound (now (samples .entry)) (length (now (out .entry)))) (now (out .exit) ≡ now (out .entry)) ⌝ }
 {
     let count = out.len();
     if samples.len() / 8 < count {
@@ -92,7 +96,8 @@ pub fn threshold_row_bytes(bound: u8, samples: &[u8], out: &mut [u8])
     threshold_bytes(bound, samples, 0, out, 0, count);
 }
 
-// The digits of `begun`, and then a dot for each sample, from a column of row y on. Answers `begun` and the corner where the samples do not stay within the row or a byte, or the numbers within their range and the work buffer.
+// The digits of `begun`, and then a dot for each sample, from a column of row y on. Answers `begun` and the corner where the samples do not
+// stay within the row or a byte, or the numbers within their range and the work buffer.
 pub fn dither_row_dots(
     width: usize,
     y: usize,
@@ -102,7 +107,9 @@ pub fn dither_row_dots(
     corner: u32,
     work: &mut [i16],
 ) -> RowDots
-    ensures { λ r. ⌜ Where (Diffusing width column (length (now (gray .entry))) begun corner (length (now (work .entry)))) (Diffuses width y column (now (gray .entry)) begun corner (now (work .entry)) r (now (work .exit))) ((r .digits ≡ begun) × ((r .corner ≡ corner) × (now (work .exit) ≡ now (work .entry)))) ⌝ }
+    ensures { λ r. ⌜ Where (Diffusing width column (length (now (gray .entry))) begun corner (length (now (work .entry))))
+        (Diffuses width y column (now (gray .entry)) begun corner (now (work .entry)) r (now (work .exit)))
+        ((r .digits ≡ begun) × ((r .corner ≡ corner) × (now (work .exit) ≡ now (work .entry)))) ⌝ }
 {
     if diffusing(width, column, gray.len(), begun, corner, work.len()) {
         return dither_dots(width, y, column, gray, begun, corner, work);
@@ -113,7 +120,8 @@ pub fn dither_row_dots(
     }
 }
 
-// As many bytes as the output has, from a column of row y on. Answers the residual above the last dot, plus 128. Alters nothing and answers the corner where there are fewer samples, the row ends with them, or the work buffer is shorter than the row.
+// As many bytes as the output has, from a column of row y on. Answers the residual above the last dot, plus 128. Alters nothing and answers
+// the corner where there are fewer samples, the row ends with them, or the work buffer is shorter than the row.
 pub fn dither_row_bytes(
     width: usize,
     y: usize,
@@ -123,7 +131,10 @@ pub fn dither_row_bytes(
     corner: u32,
     work: &mut [i16],
 ) -> u32
-    ensures { λ r. ⌜ Where (Filling width column (length (now (samples .entry))) (length (now (out .entry))) corner (length (now (work .entry)))) (Bytes dither width y column (now (samples .entry)) corner (now (work .entry)) (length (now (out .entry))) (now (out .exit)) r (now (work .exit))) ((r ≡ corner) × ((now (out .exit) ≡ now (out .entry)) × (now (work .exit) ≡ now (work .entry)))) ⌝ }
+    ensures { λ r. ⌜ Where (Filling width column (length (now (samples .entry))) (length (now (out .entry))) corner
+        (length (now (work .entry)))) (Bytes dither width y column (now (samples .entry)) corner (now (work .entry))
+        (length (now (out .entry))) (now (out .exit)) r (now (work .exit)))
+        ((r ≡ corner) × ((now (out .exit) ≡ now (out .entry)) × (now (work .exit) ≡ now (work .entry)))) ⌝ }
 {
     if filling(width, column, samples.len(), out.len(), corner, work.len()) {
         return dither_bytes(width, y, column, samples, out, corner, work);

@@ -1,11 +1,11 @@
 // Whole bytes of a dithered row, but not its last.
 use crate::dither::corner_of;
-use crate::dither::left_of;
-use crate::dither::to_held;
 use crate::dither::from_held;
+use crate::dither::left_of;
 use crate::dither::over;
 use crate::dither::reach;
 use crate::dither::step;
+use crate::dither::to_held;
 use crate::threshold::threshold_bytes;
 ghost use mathlib.Core.Path.{_≡_};
 ghost use mathlib.Core.Bool.{true};
@@ -37,7 +37,8 @@ fn inside(work: &[i16], reach: usize, x: usize) -> u32
     if 0 < reach { to_held(work[x]) } else { 128 }
 }
 
-// A dot for each sample, as `dither_dots` makes them, from a column of a row on and not to its end: without the test for the end the compiler unrolls the loop.
+// A dot for each sample, as `dither_dots` makes them, from a column of a row on and not to its end: without the test for the end the
+// compiler unrolls the loop.
 fn dither_byte(
     width: usize,
     y: usize,
@@ -46,7 +47,8 @@ fn dither_byte(
     near: Neighbours,
     work: &mut [i16],
 ) -> DitheredByte
-    requires { ⌜ Diffusing width column (length (now gray)) 0 (near .corner) (length (now work)) × (column + length (now gray) < width) × Near width y column (near .corner) (now work) near ⌝ }
+    requires { ⌜ Diffusing width column (length (now gray)) 0 (near .corner) (length (now work)) × (column + length (now gray) < width)
+        × Near width y column (near .corner) (now work) near ⌝ }
     ensures { λ r. ⌜ Diffused width y column (now (gray .entry)) (near .corner) (now (work .entry)) r (now (work .exit)) ⌝ }
 {
     let reached = reach(width, y);
@@ -110,8 +112,16 @@ fn clear(work: &[i16], x: usize, n: usize) -> bool
     others == 0
 }
 
-// Whether the first n samples, which go to row y from column x on, are black or white and nothing is handed to them: dithering alters none of them, and keeps no residual.
-fn residual_free(y: usize, x: usize, samples: &[u8], n: usize, near: Neighbours, work: &[i16]) -> bool
+// Whether the first n samples, which go to row y from column x on, are black or white and nothing is handed to them: dithering alters none
+// of them, and keeps no residual.
+fn residual_free(
+    y: usize,
+    x: usize,
+    samples: &[u8],
+    n: usize,
+    near: Neighbours,
+    work: &[i16],
+) -> bool
     requires { ⌜ (n ≤ length (now samples)) × (x + n < length (now work)) ⌝ }
     ensures { λ r. ⌜ (r ≡ true → ResidualFree y x (now (samples .entry)) n near (now (work .entry))) ⌝ }
 {
@@ -141,7 +151,8 @@ pub(crate) fn dither_bytes(
     work: &mut [i16],
 ) -> u32
     requires { ⌜ Filling width column (length (now samples)) (length (now out)) corner (length (now work)) ⌝ }
-    ensures { λ r. ⌜ Bytes dither width y column (now (samples .entry)) corner (now (work .entry)) (length (now (out .entry))) (now (out .exit)) r (now (work .exit)) ⌝ }
+    ensures { λ r. ⌜ Bytes dither width y column (now (samples .entry)) corner (now (work .entry)) (length (now (out .entry)))
+        (now (out .exit)) r (now (work .exit)) ⌝ }
 {
     let count = out.len();
     if count == 0 {

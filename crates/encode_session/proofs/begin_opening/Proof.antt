@@ -51,8 +51,8 @@ returns-3 c lengths h =
     (unknown _ _ (e .before .if1 .left) (e .if2 .left) (sym (k .known-rule .ensures) ∙ not-true _ (c .before .if3 .taken))) _ _
     (c .unopened3 .ensures)
 
-roomy-requires : tie.Need-roomy-requires
-roomy-requires c κs = search needs
+enough-work-requires : tie.Need-enough-work-requires
+enough-work-requires c κs = search needs
 
 unopened-requires-4 : tie.Need-unopened-requires-4
 unopened-requires-4 c κs = search needs
@@ -63,7 +63,7 @@ returns-4 c lengths h =
     let k = r .before in
     let e = k .before .before in
     left-no (asked (e .before .before) lengths) _ 28
-    (short _ _ (e .before .if1 .left) (e .if2 .left) (known k) (sym (r .roomy .ensures) ∙ not-true _ (c .before .if4 .taken))) _ _
+    (short _ _ (e .before .if1 .left) (e .if2 .left) (known k) (sym (r .enough-work .ensures) ∙ not-true _ (c .before .if4 .taken))) _ _
     (c .unopened4 .ensures)
 
 begin-header-requires : tie.Need-begin-header-requires
@@ -80,7 +80,7 @@ returns-5 c lengths h =
     let k = r .before in
     let e = k .before .before in
     left-as (asked (e .before .before) lengths) _
-    (tested _ _ (e .before .if1 .left) (e .if2 .left) (known k) (sym (r .roomy .ensures) ∙ not-false _ (s .if4 .left))) _ _ _
+    (tested _ _ (e .before .if1 .left) (e .if2 .left) (known k) (sym (r .enough-work .ensures) ∙ not-false _ (s .if4 .left))) _ _ _
     (w .begin-header .ensures .1 _ lengths h)
 
 pub begin-opening-spec : {M : Type 1} → statement M
@@ -94,7 +94,7 @@ begin-opening-spec =
     known-rule-requires
     unopened-requires-3
     returns-3
-    roomy-requires
+    enough-work-requires
     unopened-requires-4
     returns-4
     begin-header-requires

@@ -9,11 +9,11 @@ use lib.ListN.{length, getD, take, drop}
 use Rattle.error.specs.Choice.{if}
 use Rattle.options.specs.declared.Quantize.{Quantize}
 use Rattle.quantize.specs.declared.engine.Quantizer.{Quantizer}
-use Rattle.quantize.specs.declared.engine.Ran.{Ran}
+use Rattle.quantize.specs.declared.engine.RunEnded.{RunEnded}
 use Rattle.quantize.specs.declared.engine.Spot.{Spot}
 use Rattle.quantize.specs.declared.turn.Place.{Place}
 use Rattle.rules.specs.Diffusion.{Direction, Scan, onLeft, above, residualAt}
-use Rattle.rules.specs.Rule.{Rule, threshold, dither, ordered, rightwards, meaning, knownRule, carries, roomy}
+use Rattle.rules.specs.Rule.{Rule, threshold, dither, ordered, rightwards, meaning, knownRule, carries, enoughWork}
 use Rattle.quantize.specs.Internal.Turn.{Served, stateOf, ruleOf}
 use Rattle.quantize.specs.Finished.{Setting, count, frame, dotOf, newly, takes, setting}
 use Rattle.rules.specs.Internal.Carry.{Carry, clamp}
@@ -32,7 +32,8 @@ pub record Stands (q : Quantizer) (s : Setting) (n : ℕ) : Type 0 where
   pub cornerSmall : q .place .corner ≤ 256
   pub begunSmall : q .place .begun < 2 ^ (q .place .column % 8)
 
--- the residuals of rows that run in these directions, where the next sample goes to column x of row y of the scan and row y, if it is begun, runs to the right: up to there the row's residuals, from there on those above
+-- the residuals of rows that run in these directions, where the next sample goes to column x of row y of the scan and row y, if it is
+-- begun, runs to the right: up to there the row's residuals, from there on those above
 pub record Diffusion (dirs : ℕ → Direction) (w : ℕ) (scan : Scan) (x y : ℕ) (c : Carry) : Type 0 where
   pub done : (k : ℕ) → k < x → clamp (getD (c .kept) k (pos 0)) ≡ residualAt dirs w scan k y
   pub ahead : (k : ℕ) → x ≤ k → k < w → 0 < y → clamp (getD (c .kept) k (pos 0)) ≡ above dirs w scan y k
@@ -44,7 +45,9 @@ Begins s xs st = Begun (s .width) (dotOf s xs) (length xs) (st .begun)
 
 -- the residuals after the samples xs
 abbrev pub DiffusedBy : (ℕ → Direction) → Setting → List ℕ → Carry → Type 0
-DiffusedBy dirs s xs c = Diffusion dirs (s .width) (frame (s .width) (s .height) xs (length xs / s .width / s .height)) (length xs % s .width) (length xs / s .width % s .height) c
+DiffusedBy dirs s xs c =
+    Diffusion dirs (s .width) (frame (s .width) (s .height) xs (length xs / s .width / s .height)) (length xs % s .width)
+    (length xs / s .width % s .height) c
 
 -- what is kept after the samples xs, the rule's say: at a frame's start, and under the other rules, any residuals
 abbrev pub Keeps : Rule → Setting → List ℕ → State → Type 0
@@ -78,7 +81,7 @@ pub record Ready (rule : Quantize) (w h work : ℕ) : Type 0 where
   pub served : Served rule w work
 
 -- nothing is taken and nothing is altered
-pub record Idles (q : Quantizer) (out : List ℕ) (work : List ℤ) (r : Ran) (out′ : List ℕ) (work′ : List ℤ) : Type 0 where
+pub record Idles (q : Quantizer) (out : List ℕ) (work : List ℤ) (r : RunEnded) (out′ : List ℕ) (work′ : List ℤ) : Type 0 where
   pub same : r .quantizer ≡ q
   pub taken : r .taken ≡ 0
   pub written : r .written ≡ 0
@@ -86,7 +89,7 @@ pub record Idles (q : Quantizer) (out : List ℕ) (work : List ℤ) (r : Ran) (o
   pub workSame : work′ ≡ work
 
 -- the quantizer at another place, and what was taken and written on the way there
-abbrev pub ranTo : Quantizer → Place → ℕ → ℕ → Ran
+abbrev pub ranTo : Quantizer → Place → ℕ → ℕ → RunEnded
 ranTo q place taken written =
     record {
       quantizer = record { rule = q .rule; table = q .table; width = q .width; height = q .height; place = place };
@@ -95,22 +98,23 @@ ranTo q place taken written =
     }
 
 -- how many samples are taken and bytes written after n samples, for every work buffer
-pub record Counts (q : Quantizer) (s : Setting) (n samples room work : ℕ) (r : Ran) : Type 0 where
-  pub taken : r .taken ≡ if (roomy (s .rule) (s .width) work) (takes s n samples room) 0
+pub record Counts (q : Quantizer) (s : Setting) (n samples room work : ℕ) (r : RunEnded) : Type 0 where
+  pub taken : r .taken ≡ if (enoughWork (s .rule) (s .width) work) (takes s n samples room) 0
   pub written : count s (n + r .taken) ≡ count s n + r .written
   pub stands : Stands (r .quantizer) s (n + r .taken)
 
 -- the bytes are those that the running machine emits from the numbers found, and the numbers left are those that it keeps
-pub record Machines (q : Quantizer) (s : Setting) (n : ℕ) (samples out : List ℕ) (work : List ℤ) (r : Ran) (out′ : List ℕ) (work′ : List ℤ) : Type 0 where
+pub record Machines (q : Quantizer) (s : Setting) (n : ℕ) (samples out : List ℕ) (work : List ℤ) (r : RunEnded) (out′ : List ℕ)
+    (work′ : List ℤ) : Type 0 where
   pub bytes : out′ ≡ emitted s n (stateOf (q .place) work) samples (r .taken) ++ drop (r .written) out
   pub keeps : carried s n (stateOf (q .place) work) samples (r .taken) ≡ stateOf (r .quantizer .place) work′
 
 -- the bytes are the definition's, where the buffer is as the last call left it
-pub record Defined (s : Setting) (xs samples out : List ℕ) (r : Ran) (out′ : List ℕ) (work′ : List ℤ) : Type 0 where
+pub record Defined (s : Setting) (xs samples out : List ℕ) (r : RunEnded) (out′ : List ℕ) (work′ : List ℤ) : Type 0 where
   pub bytes : out′ ≡ newly s xs (xs ++ take (r .taken) samples) ++ drop (r .written) out
   pub holds : Holds (r .quantizer) work′ s (xs ++ take (r .taken) samples)
 
-pub record Runs (q : Quantizer) (samples out : List ℕ) (work : List ℤ) (r : Ran) (out′ : List ℕ) (work′ : List ℤ) : Type 0 where
+pub record Runs (q : Quantizer) (samples out : List ℕ) (work : List ℤ) (r : RunEnded) (out′ : List ℕ) (work′ : List ℤ) : Type 0 where
   pub taken : r .taken ≤ length samples
   pub written : r .written ≤ length out
   pub past : drop (r .written) out′ ≡ drop (r .written) out
@@ -127,7 +131,7 @@ spotOf q = record { frames = q .place .frames; row = q .place .row; column = q .
 
 -- whether a work buffer of so many numbers is long enough
 abbrev pub roomFor : Quantizer → ℕ → Bool
-roomFor q work = roomy (meaning (q .rule)) (q .width) work
+roomFor q work = enoughWork (meaning (q .rule)) (q .width) work
 
 -- whether it stands behind whole frames, and at least one, where it was made for so many
 abbrev pub behindFrames : Quantizer → ℕ → Bool

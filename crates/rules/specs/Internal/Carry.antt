@@ -37,8 +37,10 @@ overOf w y kept x = if (ltb 0 y && ltb x w) (clamp (getD kept x (pos 0))) (pos 0
 
 -- the value of the dot at column x of row y, which runs to the right, where the row above ran in this direction
 unfoldable pub valueOf : Direction → ℕ → ℕ → ℕ → ℕ → Carry → ℤ
-valueOf toRight w y x gray c = value gray (leftOf (c .kept) x) (cornerOf (c .corner) x) (overOf w y (c .kept) x) (overOf w y (c .kept) (x + 1))
-valueOf toLeft w y x gray c = value gray (leftOf (c .kept) x) (overOf w y (c .kept) (x + 1)) (overOf w y (c .kept) x) (cornerOf (c .corner) x)
+valueOf toRight w y x gray c =
+    value gray (leftOf (c .kept) x) (cornerOf (c .corner) x) (overOf w y (c .kept) x) (overOf w y (c .kept) (x + 1))
+valueOf toLeft w y x gray c =
+    value gray (leftOf (c .kept) x) (overOf w y (c .kept) (x + 1)) (overOf w y (c .kept) x) (cornerOf (c .corner) x)
 
 -- what is kept after that dot
 unfoldable pub diffused : Direction → ℕ → ℕ → ℕ → ℕ → Carry → Carry

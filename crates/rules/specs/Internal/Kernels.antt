@@ -1,15 +1,13 @@
 -- What the kernels ask and promise. A residual r is held as the number r + 128.
-use Prim.Native.Nat.{ℕ, zero, suc, _+_, _*_, _^_, _≤_, _<_}
+use Prim.Native.Nat.{ℕ, zero, suc, _+_, _*_, _≤_, _<_}
 use mathlib.Core.Path.{_≡_}
-use mathlib.Core.Bool.{true}
 use mathlib.Core.List.{List}
 use lib.Dec.{leb}
 use lib.IntN.{ℤ, subℕ}
-use lib.ListN.{length, getD, take, set}
+use lib.ListN.{length, getD, set}
 use Rattle.rules.specs.declared.dither.RowDots.{RowDots}
 use Rattle.rules.specs.Bits.{bit, appended, digits, upto}
 use Rattle.rules.specs.Diffusion.{part, white, residual}
-use Rattle.rules.specs.Ordered.{number, numbers, exponent, bound, cell, knownSide}
 use Rattle.rules.specs.Rule.{Rule, dither}
 use Rattle.rules.specs.Internal.Carry.{Carry, overOf, machineDot, next}
 
@@ -28,7 +26,8 @@ pub record DotMade (v : ℤ) (dot rest : ℕ) : Type 0 where
   pub dotIs : dot ≡ bit (white v)
   pub restIs : Biased (residual v) rest
 
--- above row y of w columns there are residuals for the first r columns, all or none: what is read above a row of so many is what is read above row y
+-- above row y of w columns there are residuals for the first r columns, all or none: what is read above a row of so many is what is read
+-- above row y
 pub record Reaches (w y r : ℕ) : Type 0 where
   pub most : r ≤ w
   pub all : 0 < r → r ≡ w
@@ -67,7 +66,8 @@ abbrev pub carryOf : ℕ → List ℤ → Carry
 carryOf corner work = record { corner = subℕ corner 128; kept = work }
 
 -- the digits of `begun` and of the samples' dots, from column x of row y on, and what is kept after them
-pub record Dots (rule : Rule) (w y x : ℕ) (gray : List ℕ) (begun corner : ℕ) (work : List ℤ) (dots corner′ : ℕ) (work′ : List ℤ) : Type 0 where
+pub record Dots (rule : Rule) (w y x : ℕ) (gray : List ℕ) (begun corner : ℕ) (work : List ℤ) (dots corner′ : ℕ)
+    (work′ : List ℤ) : Type 0 where
   pub digits : dots ≡ appended begun (rowBit rule w y x gray (carryOf corner work)) (length gray)
   pub carry : rowCarry rule w y x gray (carryOf corner work) (length gray) ≡ carryOf corner′ work′
   pub small : corner′ ≤ 256

@@ -43,7 +43,8 @@ pub record Filling (w x samples count corner work : ℕ) : Type 0 where
   pub small : corner ≤ 256
 
 -- after bytes before, the byte of the eight samples from an index on, from column x of row y on
-pub record ByteMore (rule : Rule) (w y x : ℕ) (samples : List ℕ) (from : ℕ) (Before : List ℕ → ℕ → List ℤ → Type 0) (bytes′ : List ℕ) (corner′ : ℕ) (work′ : List ℤ) : Type 0 where
+pub record ByteMore (rule : Rule) (w y x : ℕ) (samples : List ℕ) (from : ℕ) (Before : List ℕ → ℕ → List ℤ → Type 0) (bytes′ : List ℕ)
+    (corner′ : ℕ) (work′ : List ℤ) : Type 0 where
   pub bytes : List ℕ
   pub corner : ℕ
   pub work : List ℤ
@@ -55,4 +56,5 @@ pub record ByteMore (rule : Rule) (w y x : ℕ) (samples : List ℕ) (from : ℕ
 -- so many bytes, one after the other, and what is kept after them
 unfoldable pub Bytes : Rule → ℕ → ℕ → ℕ → List ℕ → ℕ → List ℤ → ℕ → List ℕ → ℕ → List ℤ → Type 0
 Bytes rule w y x samples corner work zero bytes′ corner′ work′ = (bytes′ ≡ []) × ((corner′ ≡ corner) × (work′ ≡ work))
-Bytes rule w y x samples corner work (suc k) bytes′ corner′ work′ = ByteMore rule w y (x + 8 * k) samples (8 * k) (Bytes rule w y x samples corner work k) bytes′ corner′ work′
+Bytes rule w y x samples corner work (suc k) bytes′ corner′ work′ =
+    ByteMore rule w y (x + 8 * k) samples (8 * k) (Bytes rule w y x samples corner work k) bytes′ corner′ work′

@@ -6,10 +6,10 @@ use borrow.Author.Tests.{not-true, not-false}
 use borrow.Author.Needs.{needs}
 use Rattle.error.specs.Answer.{checked, gives}
 use Rattle.laws.proofs.Products.{product-below}
-use Rattle.rules.specs.Rule.{meaning, roomy, knownRule}
+use Rattle.rules.specs.Rule.{meaning, enoughWork, knownRule}
 use Rattle.encoder.specs.File.{checkCount}
 use Rattle.encoder.proofs.CountTests.{counted}
-use Rattle.encoder.proofs.ScanTests.{not-counted, not-known, not-roomy, too-short, long-enough}
+use Rattle.encoder.proofs.ScanTests.{not-counted, not-known, not-enough-work, too-short, long-enough}
 use Rattle.encoder.proofs.gray8.check_scans.Statement.{statement}
 use Rattle.encoder.proofs.gray8.check_scans.Tie as tie
 
@@ -20,9 +20,10 @@ sized c = sym (c .before .before .check-count .ensures) ∙ ap checked (c .enum-
 known : (c : tie.Else1) → knownRule (c .before .before .before .before .before .args .options .quantize) ≡ true
 known c = sym (c .before .known-rule .ensures) ∙ not-false _ (c .if1 .left)
 
-served : (c : tie.Else2) → let a = c .before .before .before .before .before .before .before .args in roomy (meaning (a .options .quantize)) (a .width)
-    (a .work) ≡ true
-served c = sym (c .before .roomy .ensures) ∙ not-false _ (c .if2 .left)
+served : (c : tie.Else2)
+    → let a = c .before .before .before .before .before .before .before .args in
+    enoughWork (meaning (a .options .quantize)) (a .width) (a .work) ≡ true
+served c = sym (c .before .enough-work .ensures) ∙ not-false _ (c .if2 .left)
 
 check-count-requires : tie.Need-check-count-requires
 check-count-requires c κs = search needs
@@ -55,8 +56,8 @@ returns-2 c =
     ∙ sym (not-known 16 (a .options) (a .width) (a .height) (a .count) (a .gray) (a .work) (sized t)
     (sym (k .known-rule .ensures) ∙ not-true _ (c .before .if1 .taken)))
 
-roomy-requires : tie.Need-roomy-requires
-roomy-requires c κs = search needs
+enough-work-requires : tie.Need-enough-work-requires
+enough-work-requires c κs = search needs
 
 refused-requires-2 : tie.Need-refused-requires-2
 refused-requires-2 c κs = search needs
@@ -68,8 +69,8 @@ returns-3 c =
     let t = k .before .before in
     let a = t .before .before .before .args in
     ap checked (c .refused2 .ensures)
-    ∙ sym (not-roomy 16 (a .options) (a .width) (a .height) (a .count) (a .gray) (a .work) (sized t) (known k)
-    (sym (r .roomy .ensures) ∙ not-true _ (c .before .if2 .taken)))
+    ∙ sym (not-enough-work 16 (a .options) (a .width) (a .height) (a .count) (a .gray) (a .work) (sized t) (known k)
+    (sym (r .enough-work .ensures) ∙ not-true _ (c .before .if2 .taken)))
 
 mul-area : tie.Need-mul-area
 mul-area c =
@@ -115,7 +116,7 @@ check-scans-spec =
     known-rule-requires
     refused-requires
     returns-2
-    roomy-requires
+    enough-work-requires
     refused-requires-2
     returns-3
     mul-area

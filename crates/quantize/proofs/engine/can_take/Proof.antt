@@ -36,15 +36,17 @@ known-rule-requires c κs = search needs
 returns-5 : tie.Need-returns-5
 returns-5 c = denied (λ s. never (sym (not-true _ (c .if5 .taken)) ∙ c .before .known-rule .ensures ∙ s .served .known))
 
-enough-requires : tie.Need-enough-requires
-enough-requires c κs = search needs
+enough-work-requires : tie.Need-enough-work-requires
+enough-work-requires c κs = search needs
 
 returns-6 : tie.Need-returns-6
 returns-6 c =
     let e = c .before in
     let b = e .before .before in
-    can-take-if (b .before .before .before .before .before .before .before .if1 .left) (b .before .before .before .before .before .if2 .left) (b .before .before .before .if3 .left) (div-zero _ _ (pow-pos (b .before .before .before .before .before .before .before .before .before .args .p .column % 8)) (b .if4 .left)) _
-    (sym (e .before .known-rule .ensures) ∙ not-false _ (e .if5 .left)) (c .enough .ensures)
+    can-take-if (b .before .before .before .before .before .before .before .if1 .left)
+    (b .before .before .before .before .before .if2 .left) (b .before .before .before .if3 .left)
+    (div-zero _ _ (pow-pos (b .before .before .before .before .before .before .before .before .before .args .p .column % 8)) (b .if4 .left))
+    _ (sym (e .before .known-rule .ensures) ∙ not-false _ (e .if5 .left)) (c .enough-work .ensures)
 
 pub can-take-spec : {M : Type 1} → statement M
 can-take-spec =
@@ -58,5 +60,5 @@ can-take-spec =
     returns-4
     known-rule-requires
     returns-5
-    enough-requires
+    enough-work-requires
     returns-6)

@@ -36,7 +36,8 @@ low l =
     let a = start l .args in
     let f = rowBit dither (a .width) (a .y) (a .column) (now (a .gray)) (carryOf (a .corner) (now (a .work))) in
     subst (λ (n : ℕ). n < 65536) (sym (l .loop .inv .digitsIs))
-    (appended-fits (a .begun) f (row-bit-le dither (a .width) (a .y) (a .column) (now (a .gray)) _) (length (now (a .gray))) (l .loop .i) (start l .pre .packs) (l .loop .inv .bound))
+    (appended-fits (a .begun) f (row-bit-le dither (a .width) (a .y) (a .column) (now (a .gray)) _) (length (now (a .gray))) (l .loop .i)
+    (start l .pre .packs) (l .loop .inv .bound))
 
 left-of-requires : tie.Need-left-of-requires Inv-loop μ-loop
 left-of-requires c κs = let p = c .before .before .pre in omega (arith, p .within, p .room)
@@ -55,7 +56,8 @@ loop-holds c =
     let r = c .before .before in
     let a = r .before .before .before .before .before .args in
     inv-start (a .width) (a .y) (a .column) (now (a .gray)) (a .begun) (a .corner) (now (a .work)) _ _ _
-    (r .before .before .left-of .ensures) (r .before .corner-of .ensures) (rw (r .reach .ensures .is (now (a .work)) (a .column)) (c .over .ensures))
+    (r .before .before .left-of .ensures) (r .before .corner-of .ensures)
+    (rw (r .reach .ensures .is (now (a .work)) (a .column)) (c .over .ensures))
 
 add-x : tie.Need-add-x Inv-loop μ-loop
 add-x c = let s = start (c .before) in omega (arith, s .pre .within, s .pre .room, s .good)
@@ -70,15 +72,20 @@ shared-slice-read-step : tie.Need-shared-slice-read-step Inv-loop μ-loop
 shared-slice-read-step c = omega arith
 
 step-requires : tie.Need-step-requires Inv-loop μ-loop
-step-requires c κs = let i = c .before .before .before .before .loop .inv in (i .leftIs .small, i .cornerIs .small, i .aboveIs .small, c .before .over2 .ensures .small)
+step-requires c κs =
+    let i = c .before .before .before .before .loop .inv in
+    (i .leftIs .small, i .cornerIs .small, i .aboveIs .small, c .before .over2 .ensures .small)
 
 from-held-requires : tie.Need-from-held-requires Inv-loop μ-loop
 from-held-requires c κs = c .step .ensures .restIs .small
 
 mul-t21 : tie.Need-mul-t21 Inv-loop μ-loop
-mul-t21 c = let l = c .before .before .before .before .before .before in let s = start l in omega (arith, s .pre .within, s .pre .room, s .good, l .loop .inv .long)
+mul-t21 c =
+    let l = c .before .before .before .before .before .before in
+    let s = start l in omega (arith, s .pre .within, s .pre .room, s .good, l .loop .inv .long)
 
-in-work : (l : tie.At-loop Inv-loop μ-loop) → l .loop .i < length (now (start l .args .gray)) → start l .args .column + l .loop .i < length (l .loop .work)
+in-work : (l : tie.At-loop Inv-loop μ-loop) → l .loop .i < length (now (start l .args .gray))
+    → start l .args .column + l .loop .i < length (l .loop .work)
 in-work l h = let s = start l in omega (arith, s .pre .within, s .pre .room, l .loop .inv .long)
 
 slice-set-from-work : tie.Need-slice-set-from-work Inv-loop μ-loop
@@ -96,7 +103,8 @@ add-i c = let l = c .before .before .before .before .before .before .before in o
 loop-less : tie.Need-loop-less Inv-loop μ-loop
 loop-less c = omega arith
 
-stored : (s : tie.After-struct-known Inv-loop μ-loop) → toZ w16 (ofZ w16 (s .before .from-held .result)) ≡ subℕ (s .before .before .step .result .rest) 128
+stored : (s : tie.After-struct-known Inv-loop μ-loop)
+    → toZ w16 (ofZ w16 (s .before .from-held .result)) ≡ subℕ (s .before .before .step .result .rest) 128
 stored s = toZ-ofZ w16 _ (record { sfits = s .before .from-held .ok }) ∙ s .before .from-held .ensures
 
 loop-again : tie.Need-loop-again Inv-loop μ-loop
@@ -104,8 +112,10 @@ loop-again c =
     let l = c .before .before .before .before .before .before .before in
     let a = start l .args in
     let t = c .before .before .before .before .before .before .loop-test .taken in
-    inv-more (a .width) (a .y) (a .column) (now (a .gray)) (a .begun) (a .corner) (now (a .work)) (l .loop .work) _ _ _ _ (l .loop .i) (l .loop .inv) _ _ _
-    (rw (reached l .reach .ensures .is (l .loop .work) (a .column + l .loop .i + 1)) (c .before .before .before .before .over2 .ensures)) (c .before .before .step .ensures)
+    inv-more (a .width) (a .y) (a .column) (now (a .gray)) (a .begun) (a .corner) (now (a .work)) (l .loop .work) _ _ _ _ (l .loop .i)
+    (l .loop .inv) _ _ _
+    (rw (reached l .reach .ensures .is (l .loop .work) (a .column + l .loop .i + 1)) (c .before .before .before .before .over2 .ensures))
+    (c .before .before .step .ensures)
     _ (stored c) t (in-work l t)
 
 same-length : tie.Need-same-length Inv-loop μ-loop
@@ -115,7 +125,8 @@ returns : tie.Need-returns Inv-loop μ-loop
 returns c =
     let l = c .before in
     let a = start l .args in
-    inv-end (a .width) (a .y) (a .column) (now (a .gray)) (a .begun) (a .corner) (now (a .work)) _ _ _ _ _ _ (l .loop .inv) (c .loop-test .left) (start l .pre .some)
+    inv-end (a .width) (a .y) (a .column) (now (a .gray)) (a .begun) (a .corner) (now (a .work)) _ _ _ _ _ _ (l .loop .inv)
+    (c .loop-test .left) (start l .pre .some)
 
 pub dither-dots-spec : {M : Type 1} → statement M
 dither-dots-spec =

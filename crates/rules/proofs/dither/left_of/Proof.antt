@@ -36,7 +36,8 @@ returns-2 c =
     let a = c .before .before .before .args in
     let n = c .before .before .if1 .left in
     rw (left-at (now (a .work)) (a .x) (a .x - 1) (omega (arith, n)))
-    (subst (λ (z : ℤ). Biased (clamp z) (c .to-held .result)) (toZ-ofZ w16 (getD (now (a .work)) (a .x - 1) (pos 0)) (record { sfits = c .before .to-held-arg .given })) (c .to-held .ensures))
+    (subst (λ (z : ℤ). Biased (clamp z) (c .to-held .result)) (toZ-ofZ w16 (getD (now (a .work)) (a .x - 1) (pos 0))
+    (record { sfits = c .before .to-held-arg .given })) (c .to-held .ensures))
 
 pub left-of-spec : {M : Type 1} → statement M
 left-of-spec =

@@ -28,7 +28,8 @@ returns : tie.Need-returns
 returns c =
     let a = c .before .before .before .args in
     rw (over-in (a .reach) (now (a .work)) 1 (a .x) (omega arith) (c .before .before .if1 .taken))
-    (subst (λ (z : ℤ). Biased (clamp z) (c .to-held .result)) (toZ-ofZ w16 (getD (now (a .work)) (a .x) (pos 0)) (record { sfits = c .before .to-held-arg .given })) (c .to-held .ensures))
+    (subst (λ (z : ℤ). Biased (clamp z) (c .to-held .result)) (toZ-ofZ w16 (getD (now (a .work)) (a .x) (pos 0))
+    (record { sfits = c .before .to-held-arg .given })) (c .to-held .ensures))
 
 returns-2 : tie.Need-returns-2
 returns-2 c =

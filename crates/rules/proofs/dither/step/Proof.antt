@@ -39,10 +39,13 @@ add-t9 c = search needs
 
 -- the value, plus 128, and that it is
 abbrev sum : tie.After-part4 → ℕ
-sum j = j .before .before .before .before .args .gray + j .before .before .before .part .result + j .before .before .part2 .result + j .before .part3 .result + j .part4 .result
+sum j =
+    j .before .before .before .before .args .gray + j .before .before .before .part .result
+    + j .before .before .part2 .result + j .before .part3 .result + j .part4 .result
 
 sum-is : (j : tie.After-part4)
-    → let a = j .before .before .before .before .args in value (a .gray) (subℕ (a .left) 128) (subℕ (a .corner) 128) (subℕ (a .above) 128) (subℕ (a .ahead) 128) ≡ subℕ (sum j) 128
+    → let a = j .before .before .before .before .args in
+    value (a .gray) (subℕ (a .left) 128) (subℕ (a .corner) 128) (subℕ (a .above) 128) (subℕ (a .ahead) 128) ≡ subℕ (sum j) 128
 sum-is j =
     let a = j .before .before .before .before .args in
     let l = j .part4 .result in
@@ -51,7 +54,8 @@ sum-is j =
     let r = j .before .part3 .result in
     let e : a .gray + l + p + q + r ≡ a .gray + p + q + r + l = omega arith in
     value-is (a .gray) (a .left) (a .corner) (a .above) (a .ahead) l p q r
-    (j .part4 .ensures .is) (j .before .before .before .part .ensures .is) (j .before .before .part2 .ensures .is) (j .before .part3 .ensures .is)
+    (j .part4 .ensures .is) (j .before .before .before .part .ensures .is) (j .before .before .part2 .ensures .is)
+    (j .before .part3 .ensures .is)
     ∙ ap (λ (n : ℕ). subℕ n 128) e
 
 returns : tie.Need-returns

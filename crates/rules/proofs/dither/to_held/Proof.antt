@@ -12,7 +12,8 @@ use Rattle.rules.proofs.dither.to_held.Statement.{statement}
 use Rattle.rules.proofs.dither.to_held.Tie as tie
 
 same : (c : tie.Start) → toZ w32 (ofZ w32 (toZ w16 (ofZ w16 (c .args .x)))) ≡ c .args .x
-same c = ap (λ (z : ℤ). toZ w32 (ofZ w32 z)) (toZ-ofZ w16 (c .args .x) (c .fits .x)) ∙ toZ-ofZ w32 (c .args .x) (wider (c .args .x) (c .fits .x))
+same c =
+    ap (λ (z : ℤ). toZ w32 (ofZ w32 z)) (toZ-ofZ w16 (c .args .x) (c .fits .x)) ∙ toZ-ofZ w32 (c .args .x) (wider (c .args .x) (c .fits .x))
 
 not-low : (c : tie.Else1) → ltZ (c .before .args .x) (negsuc 127) ≡ false
 not-low c = sym (ap (λ (z : ℤ). ltZ z (negsuc 127)) (same (c .before))) ∙ c .if1 .left
@@ -29,7 +30,8 @@ add-result c = rw (same (c .before .before)) (to-held-add (c .before .before .ar
 cast-result : tie.Need-cast-result
 cast-result c =
     let z = c .before .before .args .x in
-    rw (same (c .before .before), toZ-ofZ w32 (z +ℤ pos 128) (to-held-add z (not-low (c .before)) (not-high c))) (to-held-cast z (not-low (c .before)) (not-high c))
+    rw (same (c .before .before), toZ-ofZ w32 (z +ℤ pos 128) (to-held-add z (not-low (c .before)) (not-high c)))
+    (to-held-cast z (not-low (c .before)) (not-high c))
 
 returns : tie.Need-returns
 returns c = to-held-low (c .before .args .x) (sym (ap (λ (z : ℤ). ltZ z (negsuc 127)) (same (c .before))) ∙ c .if1 .taken)
@@ -40,7 +42,8 @@ returns-2 c = to-held-high (c .before .before .args .x) (sym (ap (λ (z : ℤ). 
 returns-3 : tie.Need-returns-3
 returns-3 c =
     let z = c .before .before .args .x in
-    rw (same (c .before .before), toZ-ofZ w32 (z +ℤ pos 128) (to-held-add z (not-low (c .before)) (not-high c))) (to-held-mid z (not-low (c .before)) (not-high c))
+    rw (same (c .before .before), toZ-ofZ w32 (z +ℤ pos 128) (to-held-add z (not-low (c .before)) (not-high c)))
+    (to-held-mid z (not-low (c .before)) (not-high c))
 
 pub to-held-spec : {M : Type 1} → statement M
 to-held-spec = tie.close (tie.spec cast-v add-result cast-result returns returns-2 returns-3)

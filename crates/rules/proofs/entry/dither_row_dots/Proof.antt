@@ -16,7 +16,9 @@ same-length : tie.Need-same-length
 same-length c = search needs
 
 returns : tie.Need-returns
-returns c = where-does (c .before .before .before .before .diffusing .ensures .yes (c .before .before .before .if1 .taken)) (c .before .dither-dots .ensures)
+returns c =
+    where-does (c .before .before .before .before .diffusing .ensures .yes (c .before .before .before .if1 .taken))
+    (c .before .dither-dots .ensures)
 
 returns-2 : tie.Need-returns-2
 returns-2 c = where-idles (c .before .diffusing .ensures .no (c .if1 .left)) (refl, (refl, refl))

@@ -33,7 +33,8 @@ low l =
     let a = start l .args in
     let f = rowBit dither (a .width) (a .y) (a .column) (now (a .gray)) (carryOf (a .near .corner) (now (a .work))) in
     subst (λ (n : ℕ). n < 65536) (sym (l .loop .inv .digitsIs))
-    (appended-fits 0 f (row-bit-le dither (a .width) (a .y) (a .column) (now (a .gray)) _) (length (now (a .gray))) (l .loop .i) (start l .pre .0 .packs) (l .loop .inv .bound))
+    (appended-fits 0 f (row-bit-le dither (a .width) (a .y) (a .column) (now (a .gray)) _) (length (now (a .gray))) (l .loop .i)
+    (start l .pre .0 .packs) (l .loop .inv .bound))
 
 reach-requires : tie.Need-reach-requires Inv-loop μ-loop
 reach-requires c κs = search needs
@@ -42,7 +43,8 @@ loop-holds : tie.Need-loop-holds Inv-loop μ-loop
 loop-holds c =
     let s = c .before .before in
     let a = s .args in
-    inv-start (a .width) (a .y) (a .column) (now (a .gray)) 0 (a .near .corner) (now (a .work)) _ _ _ (s .pre .2 .leftIs) (s .pre .2 .cornerIs) (s .pre .2 .aboveIs)
+    inv-start (a .width) (a .y) (a .column) (now (a .gray)) 0 (a .near .corner) (now (a .work)) _ _ _ (s .pre .2 .leftIs)
+    (s .pre .2 .cornerIs) (s .pre .2 .aboveIs)
 
 add-x : tie.Need-add-x Inv-loop μ-loop
 add-x c = let s = start (c .before) in omega (arith, s .pre .0 .within, s .pre .0 .room, s .good)
@@ -61,15 +63,20 @@ shared-slice-read-step : tie.Need-shared-slice-read-step Inv-loop μ-loop
 shared-slice-read-step c = omega arith
 
 step-requires : tie.Need-step-requires Inv-loop μ-loop
-step-requires c κs = let i = c .before .before .before .before .loop .inv in (i .leftIs .small, i .cornerIs .small, i .aboveIs .small, c .before .inside .ensures .small)
+step-requires c κs =
+    let i = c .before .before .before .before .loop .inv in
+    (i .leftIs .small, i .cornerIs .small, i .aboveIs .small, c .before .inside .ensures .small)
 
 from-held-requires : tie.Need-from-held-requires Inv-loop μ-loop
 from-held-requires c κs = c .step .ensures .restIs .small
 
 mul-t16 : tie.Need-mul-t16 Inv-loop μ-loop
-mul-t16 c = let l = c .before .before .before .before .before .before in let s = start l in omega (arith, s .pre .0 .within, s .pre .0 .room, s .good, l .loop .inv .long)
+mul-t16 c =
+    let l = c .before .before .before .before .before .before in
+    let s = start l in omega (arith, s .pre .0 .within, s .pre .0 .room, s .good, l .loop .inv .long)
 
-in-work : (l : tie.At-loop Inv-loop μ-loop) → l .loop .i < length (now (start l .args .gray)) → start l .args .column + l .loop .i < length (l .loop .work)
+in-work : (l : tie.At-loop Inv-loop μ-loop) → l .loop .i < length (now (start l .args .gray))
+    → start l .args .column + l .loop .i < length (l .loop .work)
 in-work l h = let s = start l in omega (arith, s .pre .0 .within, s .pre .0 .room, l .loop .inv .long)
 
 slice-set-from-work : tie.Need-slice-set-from-work Inv-loop μ-loop
@@ -87,7 +94,8 @@ add-i c = let l = c .before .before .before .before .before .before .before in o
 loop-less : tie.Need-loop-less Inv-loop μ-loop
 loop-less c = omega arith
 
-stored : (s : tie.After-struct-known Inv-loop μ-loop) → toZ w16 (ofZ w16 (s .before .from-held .result)) ≡ subℕ (s .before .before .step .result .rest) 128
+stored : (s : tie.After-struct-known Inv-loop μ-loop)
+    → toZ w16 (ofZ w16 (s .before .from-held .result)) ≡ subℕ (s .before .before .step .result .rest) 128
 stored s = toZ-ofZ w16 _ (record { sfits = s .before .from-held .ok }) ∙ s .before .from-held .ensures
 
 loop-again : tie.Need-loop-again Inv-loop μ-loop
@@ -95,8 +103,10 @@ loop-again c =
     let l = c .before .before .before .before .before .before .before in
     let a = start l .args in
     let t = c .before .before .before .before .before .before .loop-test .taken in
-    inv-more (a .width) (a .y) (a .column) (now (a .gray)) 0 (a .near .corner) (now (a .work)) (l .loop .work) _ _ _ _ (l .loop .i) (l .loop .inv) _ _ _
-    (rw (l .before .reach .ensures .is (l .loop .work) (a .column + l .loop .i + 1)) (c .before .before .before .before .inside .ensures)) (c .before .before .step .ensures)
+    inv-more (a .width) (a .y) (a .column) (now (a .gray)) 0 (a .near .corner) (now (a .work)) (l .loop .work) _ _ _ _ (l .loop .i)
+    (l .loop .inv) _ _ _
+    (rw (l .before .reach .ensures .is (l .loop .work) (a .column + l .loop .i + 1)) (c .before .before .before .before .inside .ensures))
+    (c .before .before .step .ensures)
     _ (stored c) t (in-work l t)
 
 same-length : tie.Need-same-length Inv-loop μ-loop

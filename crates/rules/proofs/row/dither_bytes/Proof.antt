@@ -39,7 +39,11 @@ begun c = c .before .before .before .before .before .before
 near : (o : tie.After-over Inv-loop μ-loop)
     → let a = entered o .args in
     Near (a .width) (a .y) (a .column) (a .corner) (now (a .work))
-    (record { left = o .before .before .before .before .left-of .result; corner = o .before .before .before .corner-of .result; above = o .over .result })
+    (record {
+      left = o .before .before .before .before .left-of .result;
+      corner = o .before .before .before .corner-of .result;
+      above = o .over .result;
+    })
 near o =
     let a = entered o .args in
     record {
@@ -53,7 +57,8 @@ some : (o : tie.After-over Inv-loop μ-loop) → 0 < length (now (entered o .arg
 some o = let e = o .before .before .before .before .before .before .if1 .left in omega (arith, e)
 
 -- the samples of the next byte
-there : (l : tie.At-loop Inv-loop μ-loop) → l .loop .k < length (now (start l .args .out)) → 8 * l .loop .k + 8 ≤ length (now (start l .args .samples))
+there : (l : tie.At-loop Inv-loop μ-loop) → l .loop .k < length (now (start l .args .out))
+    → 8 * l .loop .k + 8 ≤ length (now (start l .args .samples))
 there l h = let s = start l in omega (arith, s .pre .there)
 
 returns : tie.Need-returns Inv-loop μ-loop
@@ -71,7 +76,8 @@ reach-requires : tie.Need-reach-requires Inv-loop μ-loop
 reach-requires c κs = tt
 
 over-requires : tie.Need-over-requires Inv-loop μ-loop
-over-requires c κs = let s = c .before .before .before .before .before .before .before .before in omega (arith, c .reach .ensures .most, s .pre .room)
+over-requires c κs =
+    let s = c .before .before .before .before .before .before .before .before in omega (arith, c .reach .ensures .most, s .pre .room)
 
 mul-residual-free : tie.Need-mul-residual-free Inv-loop μ-loop
 mul-residual-free c = let s = entered c in omega (arith, s .pre .there, s .good)
@@ -99,9 +105,11 @@ returns-2 c =
     let a = s .args in
     let n = near o in
     subst
-    (λ (out : List ℕ). Bytes dither (a .width) (a .y) (a .column) (now (a .samples)) (a .corner) (now (a .work)) (length (now (a .out))) out 128 (now (a .work)))
+    (λ (out : List ℕ). Bytes dither (a .width) (a .y) (a .column) (now (a .samples)) (a .corner) (now (a .work)) (length (now (a .out)))
+    out 128 (now (a .work)))
     (sym (t .threshold-bytes .ensures ∙ stored-all 128 (now (a .samples)) (now (a .out))))
-    (residual-free-all (a .width) (a .y) (a .column) (a .corner) (now (a .samples)) (length (now (a .out))) (now (a .work)) _ (s .pre .there) (s .pre .inRow) (s .pre .room)
+    (residual-free-all (a .width) (a .y) (a .column) (a .corner) (now (a .samples)) (length (now (a .out))) (now (a .work)) _
+    (s .pre .there) (s .pre .inRow) (s .pre .room)
     (λ i. let f = o .before .before .before .before .before .before .before .before .shared-slice-known .given i in omega arith)
     (n .leftIs) (n .cornerIs) (m .residual-free .ensures (t .before .before .if2 .taken)) (some o))
 
@@ -109,7 +117,8 @@ loop-holds : tie.Need-loop-holds Inv-loop μ-loop
 loop-holds c =
     let o = c .before .before .before in
     let a = entered o .args in
-    chain-start (a .width) (a .y) (a .column) (now (a .samples)) (a .corner) (now (a .work)) (length (now (a .out))) (now (a .out)) _ refl (near o)
+    chain-start (a .width) (a .y) (a .column) (now (a .samples)) (a .corner) (now (a .work)) (length (now (a .out))) (now (a .out)) _ refl
+    (near o)
 
 mul-from : tie.Need-mul-from Inv-loop μ-loop
 mul-from c = let l = c .before in omega (arith, there l (c .loop-test .taken), start l .good)
@@ -183,7 +192,8 @@ returns-3 : tie.Need-returns-3 Inv-loop μ-loop
 returns-3 c =
     let l = c .before in
     let a = start l .args in
-    chain-end (a .width) (a .y) (a .column) (now (a .samples)) (a .corner) (now (a .work)) (length (now (a .out))) _ _ _ _ (l .loop .inv) (c .loop-test .left)
+    chain-end (a .width) (a .y) (a .column) (now (a .samples)) (a .corner) (now (a .work)) (length (now (a .out))) _ _ _ _ (l .loop .inv)
+    (c .loop-test .left)
     (some (l .before .before .before .before))
 
 pub dither-bytes-spec : {M : Type 1} → statement M

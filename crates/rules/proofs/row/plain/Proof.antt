@@ -38,7 +38,8 @@ loop-again c =
     let a = l .before .args in (
       omega arith,
       λ e. ⊎-elim (λ v. let z : ⊥ = omega (arith, v .1) in absurd z)
-          (λ v. one-further (λ j. getD (now (a .samples)) (a .at + j) 0 % 255 ≡ 0) (l .loop .i) (l .loop .inv .1 (sym (v .1) ∙ e)) (v .0 .left))
+          (λ v. one-further (λ j. getD (now (a .samples)) (a .at + j) 0 % 255 ≡ 0) (l .loop .i) (l .loop .inv .1 (sym (v .1) ∙ e))
+          (v .0 .left))
           (c .if1 .came),
     )
 
