@@ -21,13 +21,15 @@ unfolding begunBy appended
 begun-none w d n h = rw h
 
 -- the dots of row n / w before sample n make the begun byte
-pub begun-ext : (w : ℕ) (d e : ℕ → ℕ) (n begun : ℕ) → 0 < w → ((c : ℕ) → c < n % w → d (n / w * w + c) ≡ e (n / w * w + c)) → Begun w d n begun → Begun w e n begun
+pub begun-ext : (w : ℕ) (d e : ℕ → ℕ) (n begun : ℕ) → 0 < w → ((c : ℕ) → c < n % w → d (n / w * w + c) ≡ e (n / w * w + c))
+    → Begun w d n begun → Begun w e n begun
 unfolding begunBy
 begun-ext w d e n begun p h b =
     let c = n % w in
     let l = mod-lt n p in
     b ∙ appended-ext 0 (λ i. paddedBit w d (n / w) (8 * (c / 8) + i)) (λ i. paddedBit w e (n / w) (8 * (c / 8) + i)) (c % 8)
-    (λ i k. bit-in w d (n / w) (8 * (c / 8) + i) (omega arith) ∙ h (8 * (c / 8) + i) (omega arith) ∙ sym (bit-in w e (n / w) (8 * (c / 8) + i) (omega arith)))
+    (λ i k. bit-in w d (n / w) (8 * (c / 8) + i) (omega arith) ∙ h (8 * (c / 8) + i) (omega arith)
+    ∙ sym (bit-in w e (n / w) (8 * (c / 8) + i) (omega arith)))
 
 -- the byte that sample n goes into
 module _ (s : Setting) (n : ℕ) (wide : 0 < s .width) (d : ℕ → ℕ) where
@@ -64,13 +66,15 @@ module _ (s : Setting) (n : ℕ) (wide : 0 < s .width) (d : ℕ → ℕ) where
       byte-is = rw (count-now s n wide b, byte-at w d (n / w) (column / 8) (col-row w column in-row))
 
       -- eight dots, or the row's last ones and zeros
-      pub byte-last : (s .width ≤ n % s .width + 1) ⊎ (7 ≤ n % s .width % 8) → g * 2 ^ (7 - n % s .width % 8) ≡ byteAt (s .width) d (count s n)
+      pub byte-last : (s .width ≤ n % s .width + 1) ⊎ (7 ≤ n % s .width % 8)
+          → g * 2 ^ (7 - n % s .width % 8) ≡ byteAt (s .width) d (count s n)
       byte-last k =
           ap (λ (x : ℕ). x * 2 ^ (7 - column % 8)) digits-are
           ∙ ⊎-elim
           (λ (h : w ≤ column + 1).
           let t : column % 8 + 1 + (7 - column % 8) ≡ 8 = omega arith in
-          sym (digits-tail f (column % 8 + 1) (7 - column % 8) (λ i l. bit-past w d (n / w) (8 * (column / 8) + i) (omega arith))) ∙ ap (digits f) t)
+          sym (digits-tail f (column % 8 + 1) (7 - column % 8) (λ i l. bit-past w d (n / w) (8 * (column / 8) + i) (omega arith)))
+          ∙ ap (digits f) t)
           (λ (h : 7 ≤ column % 8).
           let t : column % 8 ≡ 7 = omega arith in
           rw t (mul-one (digits f 8)))

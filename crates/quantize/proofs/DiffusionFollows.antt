@@ -1,4 +1,5 @@
--- THE MACHINE FOLLOWS THE DEFINITION: one sample of a row that runs to the right, below a row that ran in either direction. The machine's dot is the definition's, and what it keeps are the definition's residuals.
+-- THE MACHINE FOLLOWS THE DEFINITION: one sample of a row that runs to the right, below a row that ran in either direction. The machine's
+-- dot is the definition's, and what it keeps are the definition's residuals.
 -- Assumes nothing.
 use Prim.Native.Nat.{ℕ, zero, suc, _+_, _-_, _≤_, _<_}
 use mathlib.Core.Path.{_≡_, refl, sym, ap, _∙_, subst}
@@ -11,7 +12,8 @@ use borrow.Author.Tests.{lt-ltb, le-ltb}
 use lib.IntN.{ℤ, pos}
 use lib.ListN.{length, getD}
 use lib.Seq.{getD-set-same, getD-set-other}
-use Rattle.rules.specs.Diffusion.{Scan, Direction, toRight, toLeft, value, residual, onLeft, onRight, before, after, above, valueAt, residualAt}
+use Rattle.rules.specs.Diffusion.{Scan, Direction, toRight, toLeft, value, residual, onLeft, onRight, before, after, above}
+use Rattle.rules.specs.Diffusion.{valueAt, residualAt}
 use Rattle.rules.specs.Internal.Carry.{Carry, clamp, leftOf, cornerOf, overOf, valueOf, diffused}
 use Rattle.quantize.specs.Internal.Engine.{Diffusion}
 use Rattle.laws.proofs.Tests.{lt-or-le}
@@ -41,7 +43,8 @@ corner-held c zero h = held-zero
 corner-held c (suc x) h = h
 
 -- the scan p before the sample and q after it: they agree up to column x of row y, where q has the sample
-module _ (dirs : ℕ → Direction) (w : ℕ) (p q : Scan) (x y g : ℕ) (c : Carry) (runs : dirs y ≡ toRight) (inRow : x < w) (room : w ≤ length (c .kept)) (byte : g < 256) (small : Held (c .corner))
+module _ (dirs : ℕ → Direction) (w : ℕ) (p q : Scan) (x y g : ℕ) (c : Carry) (runs : dirs y ≡ toRight) (inRow : x < w)
+    (room : w ≤ length (c .kept)) (byte : g < 256) (small : Held (c .corner))
     (earlier : (j k : ℕ) → k < y → j < w → p j k ≡ q j k) (sofar : (j : ℕ) → j < x → residualAt dirs w p j y ≡ residualAt dirs w q j y)
     (here : q x y ≡ g) (D : Diffusion dirs w p x y c) where
   -- the direction of the row above
@@ -70,11 +73,14 @@ module _ (dirs : ℕ → Direction) (w : ℕ) (p q : Scan) (x y g : ℕ) (c : Ca
   corner-is : (k : ℕ) → k ≡ x → cornerOf (c .corner) k ≡ onLeft (above dirs w q y) k
   corner-is zero i = refl
   corner-is (suc k) i =
-      let t : c .corner ≡ onLeft (above dirs w p y) (suc k) = subst (λ (n : ℕ). c .corner ≡ onLeft (above dirs w p y) n) (sym i) (D .corner (omega arith)) in
+      let t : c .corner ≡ onLeft (above dirs w p y) (suc k) =
+      subst (λ (n : ℕ). c .corner ≡ onLeft (above dirs w p y) n) (sym i) (D .corner (omega arith)) in
       t ∙ above-ext dirs w p q y earlier k (omega arith)
 
   from-above : (d : Direction)
-      → valueOf d w y x g c ≡ value (q x y) (onLeft (λ j. residualAt dirs w q j y) x) (before d w (above dirs w q y) x) (above dirs w q y x) (after d w (above dirs w q y) x)
+      → valueOf d w y x g c
+      ≡ value (q x y) (onLeft (λ j. residualAt dirs w q j y) x) (before d w (above dirs w q y) x) (above dirs w q y x)
+      (after d w (above dirs w q y) x)
   unfolding valueOf
   from-above toRight = rw (left-is x (omega arith), corner-is x refl, over-is x (omega arith) inRow, ahead-is, ← here)
   from-above toLeft = rw (left-is x (omega arith), corner-is x refl, over-is x (omega arith) inRow, ahead-is, ← here)
@@ -83,7 +89,8 @@ module _ (dirs : ℕ → Direction) (w : ℕ) (p q : Scan) (x y g : ℕ) (c : Ca
   follows =
       from-above e
       ∙ sym (value-is dirs w q x y inRow
-      ∙ ap (λ (d : Direction). value (q x y) (before d w (λ k. residualAt dirs w q k y) x) (before e w (above dirs w q y) x) (above dirs w q y x) (after e w (above dirs w q y) x)) runs)
+      ∙ ap (λ (d : Direction). value (q x y) (before d w (λ k. residualAt dirs w q k y) x) (before e w (above dirs w q y) x)
+      (above dirs w q y x) (after e w (above dirs w q y) x)) runs)
 
   value-held : (d : Direction) → Held (residual (valueOf d w y x g c))
   unfolding valueOf
@@ -119,7 +126,8 @@ module _ (dirs : ℕ → Direction) (w : ℕ) (p q : Scan) (x y g : ℕ) (c : Ca
   pub ahead-are : (k : ℕ) → x < k → k < w → 0 < y → clamp (getD (c′ .kept) k (pos 0)) ≡ above dirs w q y k
   unfolding diffused
   ahead-are k h l m =
-      rw (getD-set-other (c .kept) x k (residual (valueOf e w y x g c)) (pos 0) (λ i. omega arith)) (D .ahead k (omega arith) l m ∙ above-ext dirs w p q y earlier k l)
+      rw (getD-set-other (c .kept) x k (residual (valueOf e w y x g c)) (pos 0) (λ i. omega arith))
+      (D .ahead k (omega arith) l m ∙ above-ext dirs w p q y earlier k l)
 
   -- the next dot is in the same row
   pub diffusion-on : Diffusion dirs w q (x + 1) y c′

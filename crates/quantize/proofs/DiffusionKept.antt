@@ -1,4 +1,5 @@
--- One sample of a row that runs to the right: the machine's value is the definition's, and the residuals that it keeps are those of the samples so far.
+-- One sample of a row that runs to the right: the machine's value is the definition's, and the residuals that it keeps are those of the
+-- samples so far.
 -- Assumes nothing.
 use Prim.Native.Nat.{ℕ, _+_, _-_, _*_, _/_, _%_, _≤_, _<_}
 use mathlib.Core.Path.{_≡_, ap, _∙_}
@@ -42,7 +43,8 @@ module _ (w h : ℕ) (xs : List ℕ) (g : ℕ) (wide : 0 < w) (high : 0 < h) (by
   up-to = let e = place-of w h (length xs) in omega arith
 
   -- a row that runs to the right
-  module _ (dirs : ℕ → Direction) (runs : dirs y ≡ toRight) (c : Carry) (room : w ≤ length (c .kept)) (small : Held (c .corner)) (D : Diffusion dirs w (frame w h xs f) x y c) where
+  module _ (dirs : ℕ → Direction) (runs : dirs y ≡ toRight) (c : Carry) (room : w ≤ length (c .kept)) (small : Held (c .corner))
+      (D : Diffusion dirs w (frame w h xs f) x y c) where
     abbrev c′ : Carry
     c′ = diffused (dirs (y - 1)) w y x g c
 
@@ -56,7 +58,8 @@ module _ (w h : ℕ) (xs : List ℕ) (g : ℕ) (wide : 0 < w) (high : 0 < h) (by
     value-next = follows dirs w (frame w h xs f) q x y g c runs in-row room byte small (earlier w h xs (g ∷ []) f x y up-to) before here D
 
     pub corner-next : Held (c′ .corner)
-    corner-next = corner-small dirs w (frame w h xs f) q x y g c runs in-row room byte small (earlier w h xs (g ∷ []) f x y up-to) before here D
+    corner-next =
+        corner-small dirs w (frame w h xs f) q x y g c runs in-row room byte small (earlier w h xs (g ∷ []) f x y up-to) before here D
 
     one : length (xs ++ (g ∷ [])) ≡ (f * h + y) * w + x + 1
     one = length-append xs (g ∷ []) ∙ ap (λ (k : ℕ). k + 1) (place-of w h (length xs))
@@ -66,7 +69,8 @@ module _ (w h : ℕ) (xs : List ℕ) (g : ℕ) (wide : 0 < w) (high : 0 < h) (by
     Kept-by ys = Diffusion dirs w (frame w h ys (length ys / w / h)) (length ys % w) (length ys / w % h) c′
 
     -- wherever the next sample goes
-    keeps-at : (f′ y′ x′ : ℕ) → x′ < w → y′ < h → length (xs ++ (g ∷ [])) ≡ (f′ * h + y′) * w + x′ → Diffusion dirs w (frame w h (xs ++ (g ∷ [])) f′) x′ y′ c′ → Kept-by (xs ++ (g ∷ []))
+    keeps-at : (f′ y′ x′ : ℕ) → x′ < w → y′ < h → length (xs ++ (g ∷ [])) ≡ (f′ * h + y′) * w + x′
+        → Diffusion dirs w (frame w h (xs ++ (g ∷ [])) f′) x′ y′ c′ → Kept-by (xs ++ (g ∷ []))
     keeps-at f′ y′ x′ i j e d =
         rw (e, div-at w (f′ * h + y′) x′ i, mod-at w (f′ * h + y′) x′ i, div-at h f′ y′ j, mod-at h f′ y′ j) d
 
@@ -74,7 +78,8 @@ module _ (w h : ℕ) (xs : List ℕ) (g : ℕ) (wide : 0 < w) (high : 0 < h) (by
     keeps-next =
         ⊎-elim
         (λ (k : x + 1 ≡ w).
-        let r : (f * h + y) * w + x + 1 ≡ (f * h + y + 1) * w + 0 = (let t : (f * h + y) * w + x + 1 ≡ (f * h + y) * w + w = omega arith in t ∙ next-row w (f * h + y)) in
+        let r : (f * h + y) * w + x + 1 ≡ (f * h + y + 1) * w + 0 =
+        (let t : (f * h + y) * w + x + 1 ≡ (f * h + y) * w + w = omega arith in t ∙ next-row w (f * h + y)) in
         ⊎-elim
         (λ (l : y + 1 ≡ h).
         keeps-at (f + 1) 0 0 wide high

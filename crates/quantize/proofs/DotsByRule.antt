@@ -36,7 +36,8 @@ module _ (w y x : ℕ) (gray : List ℕ) (c : Carry) where
   unfolding rowBit machineDot
   threshold-bit t i = refl
 
-  ordered-bit : (side : ℕ) (table : List ℕ) → knownSide side ≡ true → (i : ℕ) → rowBit (ordered side (take (side * side) table)) w y x gray c i ≡ orderedBit side table y x gray i
+  ordered-bit : (side : ℕ) (table : List ℕ) → knownSide side ≡ true → (i : ℕ)
+      → rowBit (ordered side (take (side * side) table)) w y x gray c i ≡ orderedBit side table y x gray i
   unfolding rowBit machineDot
   ordered-bit side table h i =
       ap (λ (n : ℕ). bit (leb (bound side n) (getD gray i 0))) (cell-front side table (x + i) y (known-small side h .0))
@@ -45,25 +46,33 @@ module _ (rule : Quantize) (table : List ℕ) (w y x : ℕ) (gray : List ℕ) (b
   abbrev Gives : Quantize → ℕ → ℕ → List ℤ → Type 0
   Gives r digits corner′ work′ = Dotted r table w y x gray begun corner work (record { digits = digits; corner = corner′ }) work′
 
-  pub dots-threshold : (t digits : ℕ) → rule ≡ Threshold t → corner ≤ 256 → digits ≡ appended begun (thresholdBit t gray) (length gray) → Gives rule digits corner work
+  pub dots-threshold : (t digits : ℕ) → rule ≡ Threshold t → corner ≤ 256 → digits ≡ appended begun (thresholdBit t gray) (length gray)
+      → Gives rule digits corner work
   dots-threshold t digits e h g =
       subst (λ (r : Quantize). Gives r digits corner work) (sym e)
       (record {
-        digits = g ∙ appended-ext begun (thresholdBit t gray) (rowBit (threshold t) w y x gray (carryOf corner work)) (length gray) (λ i l. sym (threshold-bit w y x gray (carryOf corner work) t i));
+        digits =
+            g ∙ appended-ext begun (thresholdBit t gray) (rowBit (threshold t) w y x gray (carryOf corner work)) (length gray)
+            (λ i l. sym (threshold-bit w y x gray (carryOf corner work) t i));
         carry = threshold-carry w y x gray (carryOf corner work) t (length gray);
         small = h;
       })
 
-  pub dots-dither : (r : RowDots) (work′ : List ℤ) → rule ≡ Dither → Diffuses w y x gray begun corner work r work′ → Gives rule (r .digits) (r .corner) work′
+  pub dots-dither : (r : RowDots) (work′ : List ℤ) → rule ≡ Dither → Diffuses w y x gray begun corner work r work′
+      → Gives rule (r .digits) (r .corner) work′
   dots-dither r work′ e d =
-      subst (λ (x : Quantize). Gives x (r .digits) (r .corner) work′) (sym e) (record { digits = d .digits; carry = d .carry; small = d .small })
+      subst (λ (x : Quantize). Gives x (r .digits) (r .corner) work′) (sym e)
+      (record { digits = d .digits; carry = d .carry; small = d .small })
 
-  pub dots-ordered : (side digits : ℕ) → rule ≡ Ordered side → knownSide side ≡ true → corner ≤ 256 → digits ≡ appended begun (orderedBit side table y x gray) (length gray) → Gives rule digits corner work
+  pub dots-ordered : (side digits : ℕ) → rule ≡ Ordered side → knownSide side ≡ true → corner ≤ 256
+      → digits ≡ appended begun (orderedBit side table y x gray) (length gray) → Gives rule digits corner work
   dots-ordered side digits e k h g =
       let t = take (side * side) table in
       subst (λ (r : Quantize). Gives r digits corner work) (sym e)
       (record {
-        digits = g ∙ appended-ext begun (orderedBit side table y x gray) (rowBit (ordered side t) w y x gray (carryOf corner work)) (length gray) (λ i l. sym (ordered-bit w y x gray (carryOf corner work) side table k i));
+        digits =
+            g ∙ appended-ext begun (orderedBit side table y x gray) (rowBit (ordered side t) w y x gray (carryOf corner work)) (length gray)
+            (λ i l. sym (ordered-bit w y x gray (carryOf corner work) side table k i));
         carry = ordered-carry w y x gray (carryOf corner work) side t (length gray);
         small = h;
       })
@@ -81,5 +90,6 @@ carries-same (Threshold t) table = refl
 carries-same Dither table = refl
 carries-same (Ordered side) table = refl
 
-pub enough-work-same : (rule : Quantize) (table : List ℕ) (w work : ℕ) → enoughWork (ruleOf rule table) w work ≡ enoughWork (meaning rule) w work
+pub enough-work-same : (rule : Quantize) (table : List ℕ) (w work : ℕ)
+    → enoughWork (ruleOf rule table) w work ≡ enoughWork (meaning rule) w work
 enough-work-same rule table w work = ap (λ (b : Bool). if b (leb (2 * w) work) true) (carries-same rule table)

@@ -1,4 +1,5 @@
--- What a finished byte depends on: the samples that are counted for it. So the bytes that samples have finished stay, whatever comes after them.
+-- What a finished byte depends on: the samples that are counted for it. So the bytes that samples have finished stay, whatever comes after
+-- them.
 -- Assumes nothing.
 use Prim.Native.Nat.{ℕ, _+_, _*_, _/_, _%_, _≤_, _<_}
 use mathlib.Core.Path.{_≡_, refl, sym, ap, _∙_, subst}
@@ -53,7 +54,8 @@ module _ (w h : ℕ) (xs ys : List ℕ) where
       value-same : (j : ℕ) → j < x → x ≤ w → valueAt dirs w (frame w h xs f) j y ≡ valueAt dirs w (frame w h (xs ++ ys) f) j y
       value-same j m o =
           valueAt-ext dirs w (frame w h xs f) (frame w h (xs ++ ys) f) j y (omega arith) earlier
-          (subst (λ (d : Direction). (i : ℕ) → i ≤ visited d w j → frame w h xs f (visited d w i) y ≡ frame w h (xs ++ ys) f (visited d w i) y) (sym runs)
+          (subst (λ (d : Direction). (i : ℕ) → i ≤ visited d w j
+          → frame w h xs f (visited d w i) y ≡ frame w h (xs ++ ys) f (visited d w i) y) (sym runs)
           (λ i n. row-same i (omega arith)))
 
       pub residual-same : (j : ℕ) → j < x → x ≤ w → residualAt dirs w (frame w h xs f) j y ≡ residualAt dirs w (frame w h (xs ++ ys) f) j y
@@ -65,19 +67,25 @@ module _ (w h : ℕ) (xs ys : List ℕ) where
 -- ---- the rule's say
 
 -- where the row is finished byte after byte, a dot depends on the samples up to its own
-dot-same : (rule : Rule) (w h : ℕ) (xs ys : List ℕ) (f x y : ℕ) → Bytewise rule y → x < w → (f * h + y) * w + x < length xs → dot rule w (frame w h xs f) x y ≡ dot rule w (frame w h (xs ++ ys) f) x y
+dot-same : (rule : Rule) (w h : ℕ) (xs ys : List ℕ) (f x y : ℕ) → Bytewise rule y → x < w → (f * h + y) * w + x < length xs
+    → dot rule w (frame w h xs f) x y ≡ dot rule w (frame w h (xs ++ ys) f) x y
 unfolding dot
 dot-same (threshold t) w h xs ys f x y b i l = ap (leb t) (frame-same w h xs ys f x y l)
-dot-same dither w h xs ys f x y b i l = ap white (value-same w h xs ys f (x + 1) y (omega arith) rightwards refl x (omega arith) (omega arith))
+dot-same dither w h xs ys f x y b i l =
+    ap white (value-same w h xs ys f (x + 1) y (omega arith) rightwards refl x (omega arith) (omega arith))
 dot-same (ordered side table) w h xs ys f x y b i l = ap (leb (bound side (cell side table x y))) (frame-same w h xs ys f x y l)
 
 -- a dot of a full row, or of a counted byte of a begun one, depends on the samples of its row that have come and on those before
-dot-counted : (rule : Rule) (w h : ℕ) (xs ys : List ℕ) (f x y c : ℕ) → x < w → c ≤ w → (f * h + y) * w + c ≤ length xs → (w ≤ c) ⊎ (x < 8 * begunBytes rule y c)
+dot-counted : (rule : Rule) (w h : ℕ) (xs ys : List ℕ) (f x y c : ℕ) → x < w → c ≤ w → (f * h + y) * w + c ≤ length xs
+    → (w ≤ c) ⊎ (x < 8 * begunBytes rule y c)
     → dot rule w (frame w h xs f) x y ≡ dot rule w (frame w h (xs ++ ys) f) x y
 unfolding begunBytes
-dot-counted (threshold t) w h xs ys f x y c i m l k = dot-same (threshold t) w h xs ys f x y (bytewise (threshold t) y) i (⊎-elim (λ e. omega arith) (λ e. omega arith) k)
-dot-counted dither w h xs ys f x y c i m l k = dot-same dither w h xs ys f x y (bytewise dither y) i (⊎-elim (λ e. omega arith) (λ e. omega arith) k)
-dot-counted (ordered side table) w h xs ys f x y c i m l k = dot-same (ordered side table) w h xs ys f x y (bytewise (ordered side table) y) i (⊎-elim (λ e. omega arith) (λ e. omega arith) k)
+dot-counted (threshold t) w h xs ys f x y c i m l k =
+    dot-same (threshold t) w h xs ys f x y (bytewise (threshold t) y) i (⊎-elim (λ e. omega arith) (λ e. omega arith) k)
+dot-counted dither w h xs ys f x y c i m l k =
+    dot-same dither w h xs ys f x y (bytewise dither y) i (⊎-elim (λ e. omega arith) (λ e. omega arith) k)
+dot-counted (ordered side table) w h xs ys f x y c i m l k =
+    dot-same (ordered side table) w h xs ys f x y (bytewise (ordered side table) y) i (⊎-elim (λ e. omega arith) (λ e. omega arith) k)
 
 -- ---- counted bytes
 
@@ -89,21 +97,26 @@ module _ (s : Setting) (wide : 0 < s .width) (xs ys : List ℕ) where
   n = length xs
 
   -- column c of row q, all rows counted, of whose samples the first m have come
-  dotOf-counted : (q c m : ℕ) → c < w → m ≤ w → q * w + m ≤ n → (w ≤ m) ⊎ (c < 8 * begunBytes (s .rule) (q % s .height) m) → dotOf s (xs ++ ys) (q * w + c) ≡ dotOf s xs (q * w + c)
+  dotOf-counted : (q c m : ℕ) → c < w → m ≤ w → q * w + m ≤ n → (w ≤ m) ⊎ (c < 8 * begunBytes (s .rule) (q % s .height) m)
+      → dotOf s (xs ++ ys) (q * w + c) ≡ dotOf s xs (q * w + c)
   unfolding dotOf
   dotOf-counted q c m h i l k =
       let e : (q / s .height * s .height + q % s .height) * w + m ≡ q * w + m = ap (λ (r : ℕ). r * w + m) (div-add-mod' q (s .height)) in
-      rw (div-at w q c h, mod-at w q c h) (ap bit (sym (dot-counted (s .rule) w (s .height) xs ys (q / s .height) c (q % s .height) m h i (omega arith) k)))
+      rw (div-at w q c h, mod-at w q c h) (ap bit (sym (dot-counted (s .rule) w (s .height) xs ys (q / s .height) c (q % s .height) m h i
+      (omega arith) k)))
 
   -- a dot of a row that is finished byte after byte
-  pub dotOf-begun : (q c : ℕ) → c < w → Bytewise (s .rule) (q % s .height) → q * w + c < n → dotOf s (xs ++ ys) (q * w + c) ≡ dotOf s xs (q * w + c)
+  pub dotOf-begun : (q c : ℕ) → c < w → Bytewise (s .rule) (q % s .height) → q * w + c < n
+      → dotOf s (xs ++ ys) (q * w + c) ≡ dotOf s xs (q * w + c)
   unfolding dotOf
   dotOf-begun q c h b l =
       let e : (q / s .height * s .height + q % s .height) * w + c ≡ q * w + c = ap (λ (r : ℕ). r * w + c) (div-add-mod' q (s .height)) in
-      rw (div-at w q c h, mod-at w q c h) (ap bit (sym (dot-same (s .rule) w (s .height) xs ys (q / s .height) c (q % s .height) b h (omega arith))))
+      rw (div-at w q c h, mod-at w q c h) (ap bit (sym (dot-same (s .rule) w (s .height) xs ys (q / s .height) c (q % s .height) b h
+      (omega arith))))
 
   -- the dots of byte b of row q
-  dot-stays : (q b i : ℕ) → q * rowBytes w + b < n / w * rowBytes w + begunBytes (s .rule) (n / w % s .height) (n % w) → b < rowBytes w → i < 8 → 8 * b + i < w
+  dot-stays : (q b i : ℕ) → q * rowBytes w + b < n / w * rowBytes w + begunBytes (s .rule) (n / w % s .height) (n % w) → b < rowBytes w
+      → i < 8 → 8 * b + i < w
       → dotOf s (xs ++ ys) (q * w + (8 * b + i)) ≡ dotOf s xs (q * w + (8 * b + i))
   dot-stays q b i l m o k =
       let c = mod-lt n wide in
@@ -125,7 +138,8 @@ module _ (s : Setting) (wide : 0 < s .width) (xs ys : List ℕ) where
       let e : n / w ≡ q = omega arith in
       let g : q * rowBytes w ≡ n / w * rowBytes w = ap (λ (r : ℕ). r * rowBytes w) (sym e) in
       let u : q * w ≡ n / w * w = ap (λ (r : ℕ). r * w) (sym e) in
-      let x : b < begunBytes (s .rule) (q % s .height) (n % w) = subst (λ (r : ℕ). b < begunBytes (s .rule) (r % s .height) (n % w)) e (omega arith) in
+      let x : b < begunBytes (s .rule) (q % s .height) (n % w) =
+      subst (λ (r : ℕ). b < begunBytes (s .rule) (r % s .height) (n % w)) e (omega arith) in
       dotOf-counted q (8 * b + i) (n % w) k (omega arith) (omega arith) (inr (omega arith)))
       (lt-or-le (n / w) q))
       (lt-or-le q (n / w))
@@ -138,10 +152,12 @@ module _ (s : Setting) (wide : 0 < s .width) (xs ys : List ℕ) where
       let x = div-add-mod' j (rowBytes w) in
       appended-ext 0 _ _ 8 (λ i o. here (j / rowBytes w) (j % rowBytes w) i (omega arith) (mod-lt j p) o)
     where
-      here : (q b i : ℕ) → q * rowBytes w + b < n / w * rowBytes w + begunBytes (s .rule) (n / w % s .height) (n % w) → b < rowBytes w → i < 8
+      here : (q b i : ℕ) → q * rowBytes w + b < n / w * rowBytes w + begunBytes (s .rule) (n / w % s .height) (n % w) → b < rowBytes w
+          → i < 8
           → paddedBit w (dotOf s (xs ++ ys)) q (8 * b + i) ≡ paddedBit w (dotOf s xs) q (8 * b + i)
       here q b i l m o =
           ⊎-elim
-          (λ (k : 8 * b + i < w). bit-in w (dotOf s (xs ++ ys)) q (8 * b + i) k ∙ dot-stays q b i l m o k ∙ sym (bit-in w (dotOf s xs) q (8 * b + i) k))
+          (λ (k : 8 * b + i < w). bit-in w (dotOf s (xs ++ ys)) q (8 * b + i) k ∙ dot-stays q b i l m o k
+          ∙ sym (bit-in w (dotOf s xs) q (8 * b + i) k))
           (λ (k : w ≤ 8 * b + i). bit-past w (dotOf s (xs ++ ys)) q (8 * b + i) k ∙ sym (bit-past w (dotOf s xs) q (8 * b + i) k))
           (lt-or-le (8 * b + i) w)

@@ -35,7 +35,8 @@ unfolding takes
 takes-le s n samples room = omega (arith, most-le s n room (min samples (s .frames * s .height * s .width - n)))
 
 -- none past the last frame
-pub takes-within : (s : Setting) (n samples room : ℕ) → n ≤ s .frames * s .height * s .width → n + takes s n samples room ≤ s .frames * s .height * s .width
+pub takes-within : (s : Setting) (n samples room : ℕ) → n ≤ s .frames * s .height * s .width
+    → n + takes s n samples room ≤ s .frames * s .height * s .width
 unfolding takes
 takes-within s n samples room h = omega (arith, most-le s n room (min samples (s .frames * s .height * s .width - n)))
 
@@ -52,7 +53,8 @@ pub finished-none : (s : Setting) → 0 < s .width → finished s [] ≡ []
 unfolding upto
 finished-none s wide =
     let e : 0 ≡ 0 * s .width + 0 = rw zero-mul in
-    finished-is s [] ∙ ap (λ (n : ℕ). upto n (byteAt (s .width) (dotOf s []))) (ap (count s) e ∙ count-rows s 0 wide ∙ zero-mul (rowBytes (s .width)))
+    finished-is s [] ∙ ap (λ (n : ℕ). upto n (byteAt (s .width) (dotOf s [])))
+    (ap (count s) e ∙ count-rows s 0 wide ∙ zero-mul (rowBytes (s .width)))
 
 module _ (s : Setting) (wide : 0 < s .width) where
   -- samples behind samples, which finish m bytes more
@@ -70,7 +72,9 @@ module _ (s : Setting) (wide : 0 < s .width) where
       let m = count s (length (xs ++ ys)) - count s (length xs) in
       let le : count s (length xs) ≤ count s (length (xs ++ ys)) = rw length-append (count-mono s (length xs) (length ys) wide) in
       let e : count s (length (xs ++ ys)) ≡ count s (length xs) + m = omega arith in
-      sym (ap (take (count s (length xs))) (finished-add xs ys m e) ∙ take-at (finished s xs) (upto m (λ i. byteAt (s .width) (dotOf s (xs ++ ys)) (count s (length xs) + i))) (count s (length xs)) (length-finished s xs))
+      sym (ap (take (count s (length xs))) (finished-add xs ys m e)
+      ∙ take-at (finished s xs) (upto m (λ i. byteAt (s .width) (dotOf s (xs ++ ys)) (count s (length xs) + i))) (count s (length xs))
+      (length-finished s xs))
 
   pub finished-prefix : (n : ℕ) (xs : List ℕ) → n ≤ length xs → finished s (take n xs) ≡ take (count s n) (finished s xs)
   finished-prefix n xs h =

@@ -44,7 +44,8 @@ module _ (s : Setting) (n frames row column : ℕ) (a : At s n frames row column
   frames-done = rw (split .0, div-at area (s .frames - frames) (row * s .width + column) (split .1)) (omega (arith, a .most))
 
   pub in-row : (column ≡ 0 → ⊥) → false ≡ wholeFrames s n
-  in-row c = and-false (ltb 0 n) (eqb (n % (s .width * s .height)) 0) (ne-eqb (n % (s .width * s .height)) 0 (λ e. c (omega (arith, rest-is))))
+  in-row c =
+      and-false (ltb 0 n) (eqb (n % (s .width * s .height)) 0) (ne-eqb (n % (s .width * s .height)) 0 (λ e. c (omega (arith, rest-is))))
 
   pub in-frame : (row ≡ 0 → ⊥) → false ≡ wholeFrames s n
   in-frame c =
@@ -102,7 +103,8 @@ pub off-column : (q : Quantizer) (r : Spot) (frames : ℕ) → r ≡ spotOf q �
 off-column q r frames e h =
     and-false (eqb (q .place .row) 0) _ (rw (ne-eqb (q .place .column) 0 (λ z. h (ap (λ (x : Spot). x .column) e ∙ z))))
 
-pub at-start : (q : Quantizer) (r : Spot) (frames : ℕ) → r ≡ spotOf q → r .row ≡ 0 → r .column ≡ 0 → ltb (r .frames) frames ≡ behindFrames q frames
+pub at-start : (q : Quantizer) (r : Spot) (frames : ℕ) → r ≡ spotOf q → r .row ≡ 0 → r .column ≡ 0
+    → ltb (r .frames) frames ≡ behindFrames q frames
 at-start q r frames e top left =
     let p : q .place .row ≡ 0 = ap (λ (x : Spot). x .row) (sym e) ∙ top in
     let c : q .place .column ≡ 0 = ap (λ (x : Spot). x .column) (sym e) ∙ left in

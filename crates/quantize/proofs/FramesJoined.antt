@@ -1,5 +1,6 @@
--- THE FRAMES END TO END: what samples finish behind whole frames depends on themselves only (document 01, Making session: "Each frame starts
--- with clean carries, so its dots depend on its own scan only"). So the bytes of several scans are each scan's plane, one after another.
+-- THE FRAMES END TO END: what samples finish behind whole frames depends on themselves only (document 01, Making session: "Each frame
+-- starts with clean carries, so its dots depend on its own scan only"). So the bytes of several scans are each scan's plane, one after
+-- another.
 -- Assumes nothing.
 use Prim.Native.Nat.{ℕ, suc, _+_, _*_, _/_, _%_, _≤_, _<_}
 use mathlib.Core.Path.{_≡_, refl, sym, ap, _∙_, fun-ext}
@@ -30,14 +31,16 @@ module _ (w : ℕ) (wide : 0 < w) where
   byte-behind d r j =
       let p : 0 < rowBytes w = omega arith in
       rw (mul-add-div-right p r j, mul-add-mod-self-right r (rowBytes w) j)
-      (appended-ext 0 _ _ 8 (λ i l. ap (λ (n : ℕ). if (ltb (8 * (j % rowBytes w) + i) w) (d n) 0) (cell (j / rowBytes w) (8 * (j % rowBytes w) + i))))
+      (appended-ext 0 _ _ 8 (λ i l. ap (λ (n : ℕ). if (ltb (8 * (j % rowBytes w) + i) w) (d n) 0)
+      (cell (j / rowBytes w) (8 * (j % rowBytes w) + i))))
     where
       cell : (q c : ℕ) → (r + q) * w + c ≡ r * w + (q * w + c)
       cell q c = omega arith
 
 -- ---- samples behind whole frames
 
-module _ (s : Setting) (xs ys : List ℕ) (k : ℕ) (wide : 0 < s .width) (high : 0 < s .height) (whole : length xs ≡ k * s .height * s .width) where
+module _ (s : Setting) (xs ys : List ℕ) (k : ℕ) (wide : 0 < s .width) (high : 0 < s .height)
+    (whole : length xs ≡ k * s .height * s .width) where
   abbrev w : ℕ
   w = s .width
 
@@ -55,7 +58,13 @@ module _ (s : Setting) (xs ys : List ℕ) (k : ℕ) (wide : 0 < s .width) (high 
   dot-behind : (n : ℕ) → dotOf s (xs ++ ys) (k * h * w + n) ≡ dotOf s ys n
   unfolding dotOf
   dot-behind n =
-      rw (mul-add-div-right wide (k * h) n, mul-add-mod-self-right (k * h) w n, mul-add-div-right high k (n / w), mul-add-mod-self-right k h (n / w), frame-behind (n / w / h))
+      rw (
+        mul-add-div-right wide (k * h) n,
+        mul-add-mod-self-right (k * h) w n,
+        mul-add-div-right high k (n / w),
+        mul-add-mod-self-right k h (n / w),
+        frame-behind (n / w / h),
+      )
 
   count-behind : (n : ℕ) → count s (k * h * w + n) ≡ k * h * rowBytes w + count s n
   unfolding count
@@ -94,7 +103,8 @@ module _ (rule : Quantize) (w h : ℕ) (gray : List ℕ) (wide : 0 < w) (high : 
   scans-whole : (k : ℕ) → k * (w * h) ≤ length gray → length (take (k * (w * h)) gray) ≡ k * h * w
   scans-whole k l = let e : k * (w * h) ≡ k * h * w = omega arith in length-take-le (k * (w * h)) gray l ∙ e
 
-  pub scans-long : (k : ℕ) → k * (w * h) ≤ length gray → length (finished (setting rule w h k) (take (k * (w * h)) gray)) ≡ k * planeBytes w h
+  pub scans-long : (k : ℕ) → k * (w * h) ≤ length gray
+      → length (finished (setting rule w h k) (take (k * (w * h)) gray)) ≡ k * planeBytes w h
   unfolding finished
   scans-long k l =
       let xs = take (k * (w * h)) gray in
@@ -125,7 +135,8 @@ module _ (rule : Quantize) (w h : ℕ) (gray : List ℕ) (wide : 0 < w) (high : 
       ∙ ap (λ (l : List ℕ). finished (setting rule w h k) xs ++ l) (finished-frames rule w h k 1 ys)
 
 -- an example: two scans of two samples
-two-scans : finished (setting Dither 2 1 2) (127 ∷ 128 ∷ 128 ∷ 128 ∷ []) ≡ finished (setting Dither 2 1 1) (127 ∷ 128 ∷ []) ++ finished (setting Dither 2 1 1) (128 ∷ 128 ∷ [])
+two-scans : finished (setting Dither 2 1 2) (127 ∷ 128 ∷ 128 ∷ 128 ∷ [])
+    ≡ finished (setting Dither 2 1 1) (127 ∷ 128 ∷ []) ++ finished (setting Dither 2 1 1) (128 ∷ 128 ∷ [])
 two-scans = scans-more Dither 2 1 (127 ∷ 128 ∷ 128 ∷ 128 ∷ []) (omega arith) (omega arith) 1 (omega arith)
 
 two-long : length (finished (setting Dither 2 1 2) (127 ∷ 128 ∷ 128 ∷ 128 ∷ [])) ≡ 2

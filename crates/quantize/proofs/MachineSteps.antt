@@ -48,7 +48,9 @@ module _ (rule : Rule) (w y x g : ℕ) (st : State) where
 
   pub byte-shut : (w ≤ x + 1) ⊎ (7 ≤ x % 8) → byteStep rule w y x g st ≡ shut
   unfolding byteStep
-  byte-shut h = if-true (lastOf w x) shut more (⊎-elim (λ (k : w ≤ x + 1). rw (le-leb w (x + 1) k)) (λ (k : 7 ≤ x % 8). rw (le-leb 7 (x % 8) k) (or-true (leb w (x + 1)))) h)
+  byte-shut h =
+      if-true (lastOf w x) shut more (⊎-elim (λ (k : w ≤ x + 1). rw (le-leb w (x + 1) k))
+      (λ (k : 7 ≤ x % 8). rw (le-leb 7 (x % 8) k) (or-true (leb w (x + 1)))) h)
 
   pub byte-open : x + 1 < w → x % 8 < 7 → byteStep rule w y x g st ≡ more
   unfolding byteStep
@@ -76,10 +78,13 @@ byte-count : (s : Setting) (n : ℕ) → 0 < s .width → Bytewise (s .rule) (n 
 byte-count s n wide b g st =
     ⊎-elim
     (λ (h : (s .width ≤ n % s .width + 1) ⊎ (7 ≤ n % s .width % 8)).
-    count-last s n wide b h ∙ ap (λ (p : Step). count s n + length (p .bytes)) (sym (byte-shut (s .rule) (s .width) (n / s .width % s .height) (n % s .width) g st h)))
+    count-last s n wide b h
+    ∙ ap (λ (p : Step). count s n + length (p .bytes))
+    (sym (byte-shut (s .rule) (s .width) (n / s .width % s .height) (n % s .width) g st h)))
     (λ (h : (n % s .width + 1 < s .width) × (n % s .width % 8 < 7)).
     count-open s n wide b (h .0) (h .1) ∙ sym (add-zero (count s n))
-    ∙ ap (λ (p : Step). count s n + length (p .bytes)) (sym (byte-open (s .rule) (s .width) (n / s .width % s .height) (n % s .width) g st (h .0) (h .1))))
+    ∙ ap (λ (p : Step). count s n + length (p .bytes))
+    (sym (byte-open (s .rule) (s .width) (n / s .width % s .height) (n % s .width) g st (h .0) (h .1))))
     (last-or (s .width) (n % s .width))
 
 -- ---- a sample under every rule
@@ -91,11 +96,16 @@ step-long dither w y x g st = byte-long dither w y x g st
 step-long (ordered side table) w y x g st = byte-long (ordered side table) w y x g st
 
 step-count : (rule : Rule) (w h frames n : ℕ) → 0 < w → (g : ℕ) (st : State)
-    → count (record { rule = rule; width = w; height = h; frames = frames }) (n + 1) ≡ count (record { rule = rule; width = w; height = h; frames = frames }) n + length (stepOf rule w (n / w % h) (n % w) g st .bytes)
+    → count (record { rule = rule; width = w; height = h; frames = frames }) (n + 1)
+    ≡ count (record { rule = rule; width = w; height = h; frames = frames }) n + length (stepOf rule w (n / w % h) (n % w) g st .bytes)
 unfolding stepOf
-step-count (threshold t) w h frames n wide g st = byte-count (record { rule = threshold t; width = w; height = h; frames = frames }) n wide (bytewise (threshold t) (n / w % h)) g st
-step-count dither w h frames n wide g st = byte-count (record { rule = dither; width = w; height = h; frames = frames }) n wide (bytewise dither (n / w % h)) g st
-step-count (ordered side table) w h frames n wide g st = byte-count (record { rule = ordered side table; width = w; height = h; frames = frames }) n wide (bytewise (ordered side table) (n / w % h)) g st
+step-count (threshold t) w h frames n wide g st =
+    byte-count (record { rule = threshold t; width = w; height = h; frames = frames }) n wide (bytewise (threshold t) (n / w % h)) g st
+step-count dither w h frames n wide g st =
+    byte-count (record { rule = dither; width = w; height = h; frames = frames }) n wide (bytewise dither (n / w % h)) g st
+step-count (ordered side table) w h frames n wide g st =
+    byte-count (record { rule = ordered side table; width = w; height = h; frames = frames }) n wide
+    (bytewise (ordered side table) (n / w % h)) g st
 
 -- ---- samples one after the other
 
@@ -103,7 +113,9 @@ module _ (s : Setting) (n : ℕ) (st : State) (xs : List ℕ) where
   pub carried-long : (i : ℕ) → length (carried s n st xs i .carry .kept) ≡ length (st .carry .kept)
   unfolding carried
   carried-long zero = refl
-  carried-long (suc i) = step-long (s .rule) (s .width) ((n + i) / s .width % s .height) ((n + i) % s .width) (getD xs i 0) (carried s n st xs i) ∙ carried-long i
+  carried-long (suc i) =
+      step-long (s .rule) (s .width) ((n + i) / s .width % s .height) ((n + i) % s .width) (getD xs i 0) (carried s n st xs i)
+      ∙ carried-long i
 
   -- THE COUNT: as many bytes are emitted as are counted
   pub emitted-count : 0 < s .width → (i : ℕ) → count s (n + i) ≡ count s n + length (emitted s n st xs i)
@@ -113,14 +125,18 @@ module _ (s : Setting) (n : ℕ) (st : State) (xs : List ℕ) where
       let I = emitted-count wide i in
       let e : n + suc i ≡ n + i + 1 = omega arith in
       ap (count s) e ∙ step-count (s .rule) (s .width) (s .height) (s .frames) (n + i) wide (getD xs i 0) (carried s n st xs i)
-      ∙ rw (I, length-append) (add-assoc (count s n) (length (emitted s n st xs i)) (length (stepOf (s .rule) (s .width) ((n + i) / s .width % s .height) ((n + i) % s .width) (getD xs i 0) (carried s n st xs i) .bytes)))
+      ∙ rw (I, length-append) (add-assoc (count s n) (length (emitted s n st xs i))
+      (length (stepOf (s .rule) (s .width) ((n + i) / s .width % s .height) ((n + i) % s .width) (getD xs i 0)
+      (carried s n st xs i) .bytes)))
 
   -- first t of them, then m
   module _ (t : ℕ) where
     -- the sample after t + m
     step-by : (m : ℕ) → carried s n st xs (t + m) ≡ carried s (n + t) (carried s n st xs t) (drop t xs) m
-        → stepOf (s .rule) (s .width) ((n + (t + m)) / s .width % s .height) ((n + (t + m)) % s .width) (getD xs (t + m) 0) (carried s n st xs (t + m))
-        ≡ stepOf (s .rule) (s .width) ((n + t + m) / s .width % s .height) ((n + t + m) % s .width) (getD (drop t xs) m 0) (carried s (n + t) (carried s n st xs t) (drop t xs) m)
+        → stepOf (s .rule) (s .width) ((n + (t + m)) / s .width % s .height) ((n + (t + m)) % s .width) (getD xs (t + m) 0)
+        (carried s n st xs (t + m))
+        ≡ stepOf (s .rule) (s .width) ((n + t + m) / s .width % s .height) ((n + t + m) % s .width) (getD (drop t xs) m 0)
+        (carried s (n + t) (carried s n st xs t) (drop t xs) m)
     step-by m e = rw (add-assoc n t m, getD-drop t xs m 0, e)
 
     pub carried-add : (m : ℕ) → carried s n st xs (t + m) ≡ carried s (n + t) (carried s n st xs t) (drop t xs) m
@@ -133,14 +149,18 @@ module _ (s : Setting) (n : ℕ) (st : State) (xs : List ℕ) where
     emitted-add zero = ap (emitted s n st xs) (add-zero t) ∙ sym (append-nil (emitted s n st xs t))
     emitted-add (suc m) =
         ap (emitted s n st xs) (add-suc t m)
-        ∙ ap (λ (l : List ℕ). l ++ stepOf (s .rule) (s .width) ((n + (t + m)) / s .width % s .height) ((n + (t + m)) % s .width) (getD xs (t + m) 0) (carried s n st xs (t + m)) .bytes) (emitted-add m)
-        ∙ ap (λ (p : Step). (emitted s n st xs t ++ emitted s (n + t) (carried s n st xs t) (drop t xs) m) ++ p .bytes) (step-by m (carried-add m))
+        ∙ ap (λ (l : List ℕ). l ++ stepOf (s .rule) (s .width) ((n + (t + m)) / s .width % s .height) ((n + (t + m)) % s .width)
+        (getD xs (t + m) 0) (carried s n st xs (t + m)) .bytes) (emitted-add m)
+        ∙ ap (λ (p : Step). (emitted s n st xs t ++ emitted s (n + t) (carried s n st xs t) (drop t xs) m) ++ p .bytes)
+        (step-by m (carried-add m))
         ∙ append-assoc (emitted s n st xs t) (emitted s (n + t) (carried s n st xs t) (drop t xs) m) _
 
 -- ---- a part of a byte, in a row that is finished byte after byte: the samples of a list, which a piece of a slice has too
 
-module _ (s : Setting) (n : ℕ) (st : State) (xs gray : List ℕ) (frames row column : ℕ) (a : At s n frames row column) (left : 0 < frames) (m : ℕ)
-    (inRow : column + m ≤ s .width) (inByte : column % 8 + m ≤ 8) (same : (i : ℕ) → i < m → getD xs i 0 ≡ getD gray i 0) (b : Bytewise (s .rule) row) where
+module _ (s : Setting) (n : ℕ) (st : State) (xs gray : List ℕ) (frames row column : ℕ) (a : At s n frames row column) (left : 0 < frames)
+    (m : ℕ)
+    (inRow : column + m ≤ s .width) (inByte : column % 8 + m ≤ 8) (same : (i : ℕ) → i < m → getD xs i 0 ≡ getD gray i 0)
+    (b : Bytewise (s .rule) row) where
   column-at : (i : ℕ) → i < m → (n + i) % s .width ≡ column + i
   column-at i h = column-is s (n + i) frames row (column + i) (at-inside s n frames row column a i left (omega arith))
 
@@ -158,7 +178,8 @@ module _ (s : Setting) (n : ℕ) (st : State) (xs gray : List ℕ) (frames row c
   mid i = record { begun = appended (st .begun) bits i; carry = carry i }
 
   one : (i : ℕ) → i < m → carried s n st xs i ≡ mid i
-      → stepOf (s .rule) (s .width) ((n + i) / s .width % s .height) ((n + i) % s .width) (getD xs i 0) (carried s n st xs i) ≡ byteStep (s .rule) (s .width) row (column + i) (getD gray i 0) (mid i)
+      → stepOf (s .rule) (s .width) ((n + i) / s .width % s .height) ((n + i) % s .width) (getD xs i 0) (carried s n st xs i)
+      ≡ byteStep (s .rule) (s .width) row (column + i) (getD gray i 0) (mid i)
   one i h e = rw (row-at i h, column-at i h, same i h, e) (byte-step (s .rule) (s .width) row (column + i) (getD gray i 0) (mid i) b)
 
   pub record Along (i : ℕ) (st′ : State) (bytes : List ℕ) : Type 0 where
@@ -179,12 +200,14 @@ module _ (s : Setting) (n : ℕ) (st : State) (xs gray : List ℕ) (frames row c
   unfolding carried emitted appended rowBit rowCarry
   part-last p h = go m refl p h
     where
-      go : (k : ℕ) → k ≡ m → 0 < k → (s .width ≤ column + k) ⊎ (8 ≤ column % 8 + k) → Along k (record { begun = 0; carry = carry k }) (appended (st .begun) bits k * 2 ^ (8 - (column % 8 + k)) ∷ [])
+      go : (k : ℕ) → k ≡ m → 0 < k → (s .width ≤ column + k) ⊎ (8 ≤ column % 8 + k)
+          → Along k (record { begun = 0; carry = carry k }) (appended (st .begun) bits k * 2 ^ (8 - (column % 8 + k)) ∷ [])
       go zero e p h = let f : ⊥ = omega arith in absurd f
       go (suc i) e p h =
           let I = part-on i (omega arith) (omega arith) (omega arith) in
           let c : (column + i) % 8 ≡ column % 8 + i = omega arith in
           let z : 8 - (column % 8 + suc i) ≡ 7 - (column + i) % 8 = omega arith in
           let t = one i (omega arith) (I .keeps)
-          ∙ byte-shut (s .rule) (s .width) row (column + i) (getD gray i 0) (mid i) (⊎-elim (λ (l : s .width ≤ column + suc i). inl (omega arith)) (λ (l : 8 ≤ column % 8 + suc i). inr (omega arith)) h) in
+          ∙ byte-shut (s .rule) (s .width) row (column + i) (getD gray i 0) (mid i)
+          (⊎-elim (λ (l : s .width ≤ column + suc i). inl (omega arith)) (λ (l : 8 ≤ column % 8 + suc i). inr (omega arith)) h) in
           record { keeps = ap (λ (p : Step). p .state) t; emits = rw (I .emits, z) (ap (λ (p : Step). p .bytes) t) }

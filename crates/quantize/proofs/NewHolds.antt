@@ -46,11 +46,21 @@ begins-none s c = begun-none (s .width) (dotOf s []) 0 (rw zero-mod)
 
 keeps-none : (rule : Rule) (s : Setting) (carry : Carry) → Keeps rule s [] (record { begun = 0; carry = carry })
 keeps-none (threshold t) s c = begins-none s c
-keeps-none dither s c = (begins-none s c, rw (zero-mod, zero-div, zero-mod) (diffusion-frame rightwards (s .width) (frame (s .width) (s .height) [] (0 / s .height)) c))
+keeps-none dither s c = (
+  begins-none s c,
+  rw (zero-mod, zero-div, zero-mod) (diffusion-frame rightwards (s .width)
+      (frame (s .width) (s .height) [] (0 / s .height)) c),
+)
 keeps-none (ordered side table) s c = begins-none s c
 
 pub opens : (rule : Quantize) (table : List ℕ) (w h frames : ℕ) → Tabled rule table
-    → Opens rule w h frames (record { rule = rule; table = table; width = w; height = h; place = record { frames = frames; row = 0; column = 0; begun = 0; corner = 128 } })
+    → Opens rule w h frames (record {
+      rule = rule;
+      table = table;
+      width = w;
+      height = h;
+      place = record { frames = frames; row = 0; column = 0; begun = 0; corner = 128 };
+    })
 opens rule table w h frames t =
     record {
       ruleIs = refl;
@@ -76,17 +86,29 @@ opens rule table w h frames t =
 
 -- THE MACHINE EMITS THE DEFINITION'S BYTES, for every rule, list of samples and size, whatever numbers it finds
 pub machine-bytes : (s : Setting) (samples : List ℕ) (c : Carry) → 0 < s .width → 0 < s .height → ((i : ℕ) → getD samples i 0 < 256)
-    → enoughWork (s .rule) (s .width) (length (c .kept)) ≡ true → Held (c .corner) → emitted s 0 (record { begun = 0; carry = c }) samples (length samples) ≡ finished s samples
+    → enoughWork (s .rule) (s .width) (length (c .kept)) ≡ true → Held (c .corner)
+    → emitted s 0 (record { begun = 0; carry = c }) samples (length samples) ≡ finished s samples
 machine-bytes s samples c wide high bytes room small =
-    let K = kept s [] samples (record { begun = 0; carry = c }) wide high bytes room small (keeps-none (s .rule) s c) (length samples) (omega arith) in
-    sym (ap (finished s) (sym (take-length samples)) ∙ K .bytesAre ∙ ap (λ (l : List ℕ). l ++ emitted s 0 (record { begun = 0; carry = c }) samples (length samples)) (finished-none s wide))
+    let K =
+    kept s [] samples (record { begun = 0; carry = c }) wide high bytes room small (keeps-none (s .rule) s c)
+    (length samples) (omega arith) in
+    sym (ap (finished s) (sym (take-length samples)) ∙ K .bytesAre
+    ∙ ap (λ (l : List ℕ). l ++ emitted s 0 (record { begun = 0; carry = c }) samples (length samples)) (finished-none s wide))
 
 -- an example: two rows of dithering over a buffer of other numbers
-two-rows : emitted (setting Dither 2 2 1) 0 (record { begun = 0; carry = carryOf 128 (pos 300 ∷ negsuc 400 ∷ pos 0 ∷ pos 0 ∷ []) }) (127 ∷ 128 ∷ 3 ∷ 200 ∷ []) 4 ≡ finished (setting Dither 2 2 1) (127 ∷ 128 ∷ 3 ∷ 200 ∷ [])
+two-rows : emitted (setting Dither 2 2 1) 0 (record { begun = 0; carry = carryOf 128 (pos 300 ∷ negsuc 400 ∷ pos 0 ∷ pos 0 ∷ []) })
+    (127 ∷ 128 ∷ 3 ∷ 200 ∷ []) 4 ≡ finished (setting Dither 2 2 1) (127 ∷ 128 ∷ 3 ∷ 200 ∷ [])
 two-rows =
-    machine-bytes (setting Dither 2 2 1) (127 ∷ 128 ∷ 3 ∷ 200 ∷ []) (carryOf 128 (pos 300 ∷ negsuc 400 ∷ pos 0 ∷ pos 0 ∷ [])) (omega arith) (omega arith) (octets-by (127 ∷ 128 ∷ 3 ∷ 200 ∷ []) refl)
+    machine-bytes (setting Dither 2 2 1) (127 ∷ 128 ∷ 3 ∷ 200 ∷ []) (carryOf 128 (pos 300 ∷ negsuc 400 ∷ pos 0 ∷ pos 0 ∷ [])) (omega arith)
+    (omega arith) (octets-by (127 ∷ 128 ∷ 3 ∷ 200 ∷ []) refl)
     refl (record { n = 128; holds = record { is = refl; small = omega arith } })
 
 -- an example: a new quantizer for dithering, over the same buffer
-opened : Holds (record { rule = Dither; table = []; width = 2; height = 2; place = record { frames = 1; row = 0; column = 0; begun = 0; corner = 128 } }) (pos 300 ∷ negsuc 400 ∷ []) (setting Dither 2 2 1) []
+opened : Holds (record {
+  rule = Dither;
+  table = [];
+  width = 2;
+  height = 2;
+  place = record { frames = 1; row = 0; column = 0; begun = 0; corner = 128 };
+}) (pos 300 ∷ negsuc 400 ∷ []) (setting Dither 2 2 1) []
 opened = opens Dither [] 2 2 1 (λ _. refl) .holds refl (omega arith) (omega arith) (pos 300 ∷ negsuc 400 ∷ [])

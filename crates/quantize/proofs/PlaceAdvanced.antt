@@ -18,9 +18,15 @@ use Rattle.quantize.specs.Internal.Turn.{Dotted, Advancing, Advances, Ta
 use Rattle.rules.proofs.Signed.{never}
 use Rattle.quantize.proofs.Places.{at-inside, at-row, at-frame}
 
-module _ (w h frames row column m digits corner byte : ℕ) (p : Advancing w h frames row column m digits) (b : byte ≡ digits * 2 ^ (8 - (column % 8 + m))) where
+module _ (w h frames row column m digits corner byte : ℕ) (p : Advancing w h frames row column m digits)
+    (b : byte ≡ digits * 2 ^ (8 - (column % 8 + m))) where
   abbrev on : Advanced
-  on = record { place = record { frames = frames; row = row; column = column + m; begun = digits; corner = corner }; byte = byte; whole = false }
+  on =
+      record {
+        place = record { frames = frames; row = row; column = column + m; begun = digits; corner = corner };
+        byte = byte;
+        whole = false;
+      }
 
   pub advances-on : column + m < w → column % 8 + m < 8 → Advances w h frames row column m digits on
   advances-on k l =
@@ -34,7 +40,12 @@ module _ (w h frames row column m digits corner byte : ℕ) (p : Advancing w h f
         moves = λ s n ew eh a. at-inside s n frames row column a m (p .left) (omega arith);
       }
 
-  pub advances-byte : column + m < w → 8 ≤ column % 8 + m → Advances w h frames row column m digits (record { place = record { frames = frames; row = row; column = column + m; begun = 0; corner = corner }; byte = byte; whole = true })
+  pub advances-byte : column + m < w → 8 ≤ column % 8 + m
+      → Advances w h frames row column m digits (record {
+        place = record { frames = frames; row = row; column = column + m; begun = 0; corner = corner };
+        byte = byte;
+        whole = true;
+      })
   advances-byte k l =
       record {
         inRow = k;
@@ -53,7 +64,9 @@ module _ (w h frames row column m digits corner byte : ℕ) (p : Advancing w h f
     wide : 0 < w
     wide = let i = p .inRow in let j = p .some in omega arith
 
-    pub advances-row : row + 1 < h → Advances w h frames row column m digits (record { place = record { frames = frames; row = row + 1; column = 0; begun = 0; corner = corner }; byte = byte; whole = true })
+    pub advances-row : row + 1 < h
+        → Advances w h frames row column m digits
+        (record { place = record { frames = frames; row = row + 1; column = 0; begun = 0; corner = corner }; byte = byte; whole = true })
     advances-row l =
         record {
           inRow = wide;
@@ -64,7 +77,9 @@ module _ (w h frames row column m digits corner byte : ℕ) (p : Advancing w h f
           moves = λ s n ew eh a. at-row s n frames row column a m (p .left) (ends s ew) (omega arith);
         }
 
-    pub advances-frame : h ≤ row + 1 → Advances w h frames row column m digits (record { place = record { frames = frames - 1; row = 0; column = 0; begun = 0; corner = corner }; byte = byte; whole = true })
+    pub advances-frame : h ≤ row + 1
+        → Advances w h frames row column m digits
+        (record { place = record { frames = frames - 1; row = 0; column = 0; begun = 0; corner = corner }; byte = byte; whole = true })
     advances-frame l =
         let i = p .inFrame in
         record {
@@ -82,12 +97,16 @@ module _ (w h frames row column m digits corner byte : ℕ) (p : Advancing w h f
   advanced r x e a c = subst (λ (r : Advanced). Advances w h frames row column m digits r × (r .place .corner ≡ corner)) (sym e) (a, c)
 
 -- what `take` promises, from its dots and its place
-pub takes-dots : (rule : Quantize) (table : List ℕ) (w h : ℕ) (p : Place) (gray : List ℕ) (work : List ℤ) (d : RowDots) (work′ : List ℤ) (r : Advanced)
+pub takes-dots : (rule : Quantize) (table : List ℕ) (w h : ℕ) (p : Place) (gray : List ℕ) (work : List ℤ) (d : RowDots) (work′ : List ℤ)
+    (r : Advanced)
     → Dotted rule table w (p .row) (p .column) gray (p .begun) (p .corner) work d work′
-    → Advances w h (p .frames) (p .row) (p .column) (length gray) (d .digits) r → r .place .corner ≡ d .corner → Takes rule table w h p gray work r work′
+    → Advances w h (p .frames) (p .row) (p .column) (length gray) (d .digits) r → r .place .corner ≡ d .corner
+    → Takes rule table w h p gray work r work′
 takes-dots rule table w h p gray work d work′ r o a e =
     record {
       digits = d .digits;
-      dotted = subst (λ (c : ℕ). Dotted rule table w (p .row) (p .column) gray (p .begun) (p .corner) work (record { digits = d .digits; corner = c }) work′) (sym e) o;
+      dotted =
+          subst (λ (c : ℕ). Dotted rule table w (p .row) (p .column) gray (p .begun) (p .corner) work
+          (record { digits = d .digits; corner = c }) work′) (sym e) o;
       advances = a;
     }

@@ -3,7 +3,8 @@
 use Prim.Native.Nat.{ℕ, _+_, _-_, _*_, _/_, _%_, _≤_, _<_}
 use mathlib.Core.Path.{_≡_, refl, sym, ap, _∙_}
 use mathlib.Core.Logic.{_⊎_, ⊎-elim}
-use native.Mathlib.Nat.{mul-add-div-right, mul-add-mod-self-right, mod-eq-of-lt, mod-lt, div-eq-of-lt, div-add-mod', eq-or-lt-of-le, add-zero, add-mul, one-mul, add-assoc}
+use native.Mathlib.Nat.{mul-add-div-right, mul-add-mod-self-right, mod-eq-of-lt, mod-lt, div-eq-of-lt, div-add-mod', eq-or-lt-of-le}
+use native.Mathlib.Nat.{add-zero, add-mul, one-mul, add-assoc}
 use native.Mathlib.Omega.{arith}
 use Rattle.image.specs.Geometry.{rowBytes}
 use Rattle.rules.specs.Rule.{Rule, threshold, dither, ordered}
@@ -42,13 +43,16 @@ begun-up (threshold t) y c = omega arith
 begun-up dither y c = omega arith
 begun-up (ordered side table) y c = omega arith
 
-pub count-at : (s : Setting) (q c : ℕ) → c < s .width → count s (q * s .width + c) ≡ q * rowBytes (s .width) + begunBytes (s .rule) (q % s .height) c
+pub count-at : (s : Setting) (q c : ℕ) → c < s .width
+    → count s (q * s .width + c) ≡ q * rowBytes (s .width) + begunBytes (s .rule) (q % s .height) c
 unfolding count
 count-at s q c h = rw (div-at (s .width) q c h, mod-at (s .width) q c h)
 
 -- after full rows
 pub count-rows : (s : Setting) (q : ℕ) → 0 < s .width → count s (q * s .width + 0) ≡ q * rowBytes (s .width)
-count-rows s q h = count-at s q 0 h ∙ ap (λ (b : ℕ). q * rowBytes (s .width) + b) (begun-zero (s .rule) (q % s .height)) ∙ add-zero (q * rowBytes (s .width))
+count-rows s q h =
+    count-at s q 0 h ∙ ap (λ (b : ℕ). q * rowBytes (s .width) + b) (begun-zero (s .rule) (q % s .height))
+    ∙ add-zero (q * rowBytes (s .width))
 
 -- ---- the next sample
 
@@ -67,7 +71,9 @@ module _ (s : Setting) (n : ℕ) (wide : 0 < s .width) where
   -- at the start of the next one
   module _ (h : n % s .width + 1 ≡ s .width) where
     down-place : n + 1 ≡ (n / s .width + 1) * s .width + 0
-    down-place = let e = div-add-mod' n (s .width) in let t : n + 1 ≡ n / s .width * s .width + s .width = omega arith in t ∙ next-row (s .width) (n / s .width)
+    down-place =
+        let e = div-add-mod' n (s .width) in
+        let t : n + 1 ≡ n / s .width * s .width + s .width = omega arith in t ∙ next-row (s .width) (n / s .width)
 
     pub end-column : (n + 1) % s .width ≡ 0
     end-column = rw down-place (mod-at (s .width) (n / s .width + 1) 0 wide)
@@ -84,8 +90,10 @@ module _ (s : Setting) (n : ℕ) (wide : 0 < s .width) where
 
     pub count-end : n % s .width + 1 ≡ s .width → count s (n + 1) ≡ count s n + 1
     count-end h =
-        let z : count s (n + 1) ≡ (n / s .width + 1) * rowBytes (s .width) = ap (count s) (down-place h) ∙ count-rows s (n / s .width + 1) wide in
-        let u : (n / s .width + 1) * rowBytes (s .width) ≡ n / s .width * rowBytes (s .width) + rowBytes (s .width) = rw (add-mul, one-mul) in
+        let z : count s (n + 1) ≡ (n / s .width + 1) * rowBytes (s .width) =
+        ap (count s) (down-place h) ∙ count-rows s (n / s .width + 1) wide in
+        let u : (n / s .width + 1) * rowBytes (s .width) ≡ n / s .width * rowBytes (s .width) + rowBytes (s .width) =
+        rw (add-mul, one-mul) in
         let e : rowBytes (s .width) ≡ n % s .width / 8 + 1 = omega arith in
         let t = count-now in
         omega arith
@@ -98,7 +106,8 @@ module _ (s : Setting) (n : ℕ) (wide : 0 < s .width) where
         (λ (h : n % s .width + 1 < s .width).
         let a = count-on h in
         let t = count-now in
-        let e : (n % s .width + 1) / 8 ≡ n % s .width / 8 + 1 = ⊎-elim (λ (f : s .width ≤ n % s .width + 1). let z : ⊥ = omega arith in absurd z) (λ (f : 7 ≤ n % s .width % 8). omega arith) k in
+        let e : (n % s .width + 1) / 8 ≡ n % s .width / 8 + 1 =
+        ⊎-elim (λ (f : s .width ≤ n % s .width + 1). let z : ⊥ = omega arith in absurd z) (λ (f : 7 ≤ n % s .width % 8). omega arith) k in
         omega arith)
         (eq-or-lt-of-le (omega arith))
 
@@ -140,7 +149,8 @@ module _ (s : Setting) (n frames row column : ℕ) (a : At s n frames row column
     in-place = let p = a .place in omega arith
 
     pub at-inside : At s (n + m) frames row (column + m)
-    at-inside = record { inRow = h; inFrame = a .inFrame; most = a .most; place = in-place; full = λ z. let f : ⊥ = omega arith in absurd f }
+    at-inside =
+        record { inRow = h; inFrame = a .inFrame; most = a .most; place = in-place; full = λ z. let f : ⊥ = omega arith in absurd f }
 
   -- m samples more, to the row's end
   module _ (m : ℕ) (left : 0 < frames) (h : column + m ≡ w) where

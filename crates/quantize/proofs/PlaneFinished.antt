@@ -110,22 +110,27 @@ dither-plane w h gray wide high enough =
     let q : n / w < h = div-lt-iff-lt-mul wide .1 l in
     rw (div-eq-of-lt q, mod-eq-of-lt q, frame-first w h gray))
 
-pub quantizes-dither : (w h : ℕ) (gray out : List ℕ) (work : List ℤ) → 0 ≡ refusedBy Dither w h (length gray) (length work) → rowBytes w * h ≤ length out
-    → (out′ : List ℕ) (work′ : List ℤ) → DitherPlane w h gray out work out′ work′ → Quantizes Dither w h gray out work (gives (rowBytes w * h)) out′ work′
+pub quantizes-dither : (w h : ℕ) (gray out : List ℕ) (work : List ℤ) → 0 ≡ refusedBy Dither w h (length gray) (length work)
+    → rowBytes w * h ≤ length out
+    → (out′ : List ℕ) (work′ : List ℤ) → DitherPlane w h gray out work out′ work′
+    → Quantizes Dither w h gray out work (gives (rowBytes w * h)) out′ work′
 quantizes-dither w h gray out work e l out′ work′ d =
     let p = passed Dither w h (length gray) (length work) e in
     let m = mul-comm (rowBytes w) h in
     let k : 2 * w ≤ length work = leb-true (2 * w) (length work) (p .room) in
-    quantizes-plane Dither w h gray out work 0 e refl l (ditherBit w gray) out′ work′ (dither-plane w h gray (p .wide) (p .high) (p .enough))
+    quantizes-plane Dither w h gray out work 0 e refl l (ditherBit w gray) out′ work′
+    (dither-plane w h gray (p .wide) (p .high) (p .enough))
     (plane-dithered w h gray out work (p .enough) (omega arith) (omega arith) out′ work′ d
     ∙ sym (plane-in w h (ditherBit w gray) (length gray) out (p .enough, omega arith)))
     (d .beyond) (λ f. zero-one (cc))
 
 -- what is asked and promised of the rule by its name
-pub dither-accepted : (rule : Quantize) (w h gray work out : ℕ) → rule ≡ Dither → {code : ℕ} → code ≡ refusedBy rule w h gray work → code ≡ 0
+pub dither-accepted : (rule : Quantize) (w h gray work out : ℕ) → rule ≡ Dither → {code : ℕ} → code ≡ refusedBy rule w h gray work
+    → code ≡ 0
     → rowBytes w * h ≤ out → (0 ≡ refusedBy Dither w h gray work) × (rowBytes w * h ≤ out)
 dither-accepted rule w h gray work out r e z l = (subst (λ (q : Quantize). 0 ≡ refusedBy q w h gray work) r (sym z ∙ e), l)
 
-pub quantizes-as : (rule : Quantize) (w h : ℕ) (gray out : List ℕ) (work : List ℤ) (r : Answer ℕ) (out′ : List ℕ) (work′ : List ℤ) → rule ≡ Dither
+pub quantizes-as : (rule : Quantize) (w h : ℕ) (gray out : List ℕ) (work : List ℤ) (r : Answer ℕ) (out′ : List ℕ) (work′ : List ℤ)
+    → rule ≡ Dither
     → Quantizes Dither w h gray out work r out′ work′ → Quantizes rule w h gray out work r out′ work′
 quantizes-as rule w h gray out work r out′ work′ e q = subst (λ (d : Quantize). Quantizes d w h gray out work r out′ work′) (sym e) q

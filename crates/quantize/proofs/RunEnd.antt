@@ -30,7 +30,8 @@ use Rattle.quantize.proofs.RunLoop.{Loop}
 
 -- ---- the work buffer
 
-not-enough-work : (rule : Quantize) (table : List ℕ) (w work : ℕ) → knownRule rule ≡ true → (Served rule w work → ⊥) → enoughWork (ruleOf rule table) w work ≡ false
+not-enough-work : (rule : Quantize) (table : List ℕ) (w work : ℕ) → knownRule rule ≡ true → (Served rule w work → ⊥)
+    → enoughWork (ruleOf rule table) w work ≡ false
 not-enough-work rule table w work k h = enough-work-same rule table w work ∙ go (enoughWork (meaning rule) w work) refl
   where
     go : (b : Bool) → enoughWork (meaning rule) w work ≡ b → b ≡ false
@@ -39,7 +40,8 @@ not-enough-work rule table w work k h = enough-work-same rule table w work ∙ g
 
 -- ---- the definition's bytes, from the machine's
 
-module _ (q : Quantizer) (samples out : List ℕ) (work : List ℤ) (r : RunEnded) (out′ : List ℕ) (work′ : List ℤ) (fits : r .taken ≤ length samples) (octets : (i : ℕ) → getD samples i 0 < 256)
+module _ (q : Quantizer) (samples out : List ℕ) (work : List ℤ) (r : RunEnded) (out′ : List ℕ) (work′ : List ℤ)
+    (fits : r .taken ≤ length samples) (octets : (i : ℕ) → getD samples i 0 < 256)
     (counts : (s : Setting) (n : ℕ) → Stands q s n → Counts q s n (length samples) (length out) (length work) r)
     (machine : (s : Setting) (n : ℕ) → Stands q s n → Machines q s n samples out work r out′ work′)
     (room : (s : Setting) (n : ℕ) → Stands q s n → 0 < r .taken → enoughWork (s .rule) (s .width) (length work) ≡ true) where
@@ -89,8 +91,15 @@ module _ (q : Quantizer) (samples out : List ℕ) (work : List ℤ) (r : RunEnde
     pub defined-is : Defined s xs samples out r out′ work′
     defined-is =
         record {
-          bytes = M .bytes ∙ ap (λ (l : List ℕ). l ++ drop (r .written) out) (sym (ap (drop (length (finished s xs))) (follows .bytesAre) ∙ drop-append-seam (finished s xs) (emitted s n st samples (r .taken))));
-          holds = record { stands = rw long (counts s n (H .stands) .stands); keeps = subst (λ (t : State). Keeps (s .rule) s joined t) (M .keeps) (follows .keeps) };
+          bytes =
+              M .bytes ∙ ap (λ (l : List ℕ). l ++ drop (r .written) out)
+              (sym (ap (drop (length (finished s xs))) (follows .bytesAre)
+              ∙ drop-append-seam (finished s xs) (emitted s n st samples (r .taken))));
+          holds =
+              record {
+                stands = rw long (counts s n (H .stands) .stands);
+                keeps = subst (λ (t : State). Keeps (s .rule) s joined t) (M .keeps) (follows .keeps);
+              };
         }
 
 -- ---- nothing can be taken
@@ -109,7 +118,9 @@ runs-none q samples out work octets h =
       idle = λ _. record { same = refl; taken = refl; written = refl; outSame = refl; workSame = refl };
       counts = counts;
       machine = machine;
-      defined = defined-is q samples out work (record { quantizer = q; taken = 0; written = 0 }) out work (omega arith) octets counts machine (λ s n t l. let f : ⊥ = omega arith in absurd f);
+      defined =
+          defined-is q samples out work (record { quantizer = q; taken = 0; written = 0 }) out work (omega arith) octets counts machine
+          (λ s n t l. let f : ⊥ = omega arith in absurd f);
     }
   where
     unserved : (s : Setting) (n : ℕ) → Stands q s n → Served (q .rule) (q .width) (length work) → ⊥
@@ -120,27 +131,35 @@ runs-none q samples out work octets h =
         let g = t .height in
         h (record { inRow = omega arith; inFrame = omega arith; cornerSmall = t .cornerSmall; begunSmall = t .begunSmall; served = k })
 
-    counts : (s : Setting) (n : ℕ) → Stands q s n → Counts q s n (length samples) (length out) (length work) (record { quantizer = q; taken = 0; written = 0 })
+    counts : (s : Setting) (n : ℕ) → Stands q s n
+        → Counts q s n (length samples) (length out) (length work) (record { quantizer = q; taken = 0; written = 0 })
     counts s n t =
         record {
-          taken = sym (if-false (enoughWork (s .rule) (s .width) (length work)) (takes s n (length samples) (length out)) 0 (rw (t .rule, t .width) (not-enough-work (q .rule) (q .table) (q .width) (length work) (t .knows) (unserved s n t))));
+          taken =
+              sym (if-false (enoughWork (s .rule) (s .width) (length work)) (takes s n (length samples) (length out)) 0
+              (rw (t .rule, t .width) (not-enough-work (q .rule) (q .table) (q .width) (length work) (t .knows) (unserved s n t))));
           written = rw (add-zero, add-zero);
           stands = rw add-zero t;
         }
 
-    machine : (s : Setting) (n : ℕ) → Stands q s n → Machines q s n samples out work (record { quantizer = q; taken = 0; written = 0 }) out work
+    machine : (s : Setting) (n : ℕ) → Stands q s n
+        → Machines q s n samples out work (record { quantizer = q; taken = 0; written = 0 }) out work
     machine s n t = record { bytes = refl; keeps = refl }
 
 -- ---- the loop's end
 
 -- no frame is left, no sample is left, or what the next one finishes does not fit
 abbrev pub Full : Quantizer → List ℕ → List ℕ → Place → ℕ → Type 0
-Full q samples out p taken = (s : Setting) (n : ℕ) → Stands q s n → (p .frames ≤ 0) ⊎ ((length samples ≤ taken) ⊎ (count s n + length out < count s (n + taken + 1)))
+Full q samples out p taken =
+    (s : Setting) (n : ℕ) → Stands q s n → (p .frames ≤ 0) ⊎ ((length samples ≤ taken) ⊎ (count s n + length out < count s (n + taken + 1)))
 
 -- as `ran` tells it
-pub none-told : (q : Quantizer) (samples out : List ℕ) (work : List ℤ) (r : RunEnded) → r ≡ ranTo q (q .place) 0 0 → ((i : ℕ) → getD samples i 0 < 256)
-    → (Sound (q .rule) (q .width) (q .height) (q .place .row) (q .place .column) (q .place .begun) (q .place .corner) (length work) → ⊥) → Runs q samples out work r out work
-none-told q samples out work r e octets h = subst (λ (r : RunEnded). Runs q samples out work r out work) (sym e) (runs-none q samples out work octets h)
+pub none-told : (q : Quantizer) (samples out : List ℕ) (work : List ℤ) (r : RunEnded) → r ≡ ranTo q (q .place) 0 0
+    → ((i : ℕ) → getD samples i 0 < 256)
+    → (Sound (q .rule) (q .width) (q .height) (q .place .row) (q .place .column) (q .place .begun) (q .place .corner) (length work) → ⊥)
+    → Runs q samples out work r out work
+none-told q samples out work r e octets h =
+    subst (λ (r : RunEnded). Runs q samples out work r out work) (sym e) (runs-none q samples out work octets h)
 
 module _ (q : Quantizer) (samples out : List ℕ) (work : List ℤ) (out′ : List ℕ) (work′ : List ℤ) (p : Place) (taken written : ℕ)
     (L : Loop q samples out work out′ work′ p taken written) (octets : (i : ℕ) → getD samples i 0 < 256) where
@@ -160,13 +179,16 @@ module _ (q : Quantizer) (samples out : List ℕ) (work : List ℤ) (out′ : Li
         ∙ ap (λ (k : ℕ). count s n + k) (ap length (P .emits) ∙ length-take-le written out′ (omega (arith, L .writtenFits, L .outLong)))
 
     served : enoughWork (s .rule) (s .width) (length work) ≡ true
-    served = rw (t .rule, t .width, ← L .turn .long) (enough-work-same (q .rule) (q .table) (q .width) (length work′) ∙ L .turn .sound .served .room)
+    served =
+        rw (t .rule, t .width, ← L .turn .long) (enough-work-same (q .rule) (q .table) (q .width) (length work′)
+        ∙ L .turn .sound .served .room)
 
     machine-are : Machines q s n samples out work ran out′ work′
     machine-are = record { bytes = sym (take-append-drop written out′) ∙ rw (← P .emits, L .past); keeps = P .keeps }
 
   -- no sample goes into the begun byte, in a row that is finished byte after byte
-  pub full-byte : (m : ℕ) → 0 < p .frames → Bytewise (ruleOf (q .rule) (q .table)) (p .row) → SamplesForByte (q .width) (p .column) (length samples - taken) (length out′ - written) m → m ≡ 0 → Full q samples out p taken
+  pub full-byte : (m : ℕ) → 0 < p .frames → Bytewise (ruleOf (q .rule) (q .table)) (p .row)
+      → SamplesForByte (q .width) (p .column) (length samples - taken) (length out′ - written) m → m ≡ 0 → Full q samples out p taken
   full-byte m left b sh z s n t =
       let f = L .takenFits in
       let o = L .outLong in
@@ -174,7 +196,8 @@ module _ (q : Quantizer) (samples out : List ℕ) (work : List ℤ) (out′ : Li
       inr (⊎-elim
       (λ e. inl (omega (arith, e)))
       (λ e. inr
-      (let c = next-byte s (n + taken) (p .frames) (p .row) (p .column) (P s n t .at) (subst (λ (x : Rule). Bytewise x (p .row)) (sym (t .rule)) b) (⊎-elim (λ c. inl (c ∙ sym (t .width))) (λ c. inr c) (e .1)) in
+      (let c = next-byte s (n + taken) (p .frames) (p .row) (p .column) (P s n t .at)
+      (subst (λ (x : Rule). Bytewise x (p .row)) (sym (t .rule)) b) (⊎-elim (λ c. inl (c ∙ sym (t .width))) (λ c. inr c) (e .1)) in
       omega (arith, c, counted s n t, e .0)))
       (sh .all z))
 
@@ -183,7 +206,8 @@ module _ (q : Quantizer) (samples out : List ℕ) (work : List ℤ) (out′ : Li
     counts-is s n t =
         record {
           taken = sym (if-true _ _ _ (served s n t)
-              ∙ takes-all s n (length samples) (length out) taken (p .frames) (p .row) (p .column) (P s n t .at) (L .takenFits) (omega (arith, counted s n t, L .writtenFits)) (full s n t));
+              ∙ takes-all s n (length samples) (length out) taken (p .frames) (p .row) (p .column) (P s n t .at) (L .takenFits)
+              (omega (arith, counted s n t, L .writtenFits)) (full s n t));
           written = counted s n t;
           stands = record {
             rule = t .rule;
@@ -200,7 +224,11 @@ module _ (q : Quantizer) (samples out : List ℕ) (work : List ℤ) (out′ : Li
     ready-is =
         let a = L .turn .sound .inRow in
         let b = L .turn .sound .inFrame in
-        record { wide = omega arith; high = omega arith; served = subst (λ (n : ℕ). Served (q .rule) (q .width) n) (L .turn .long) (L .turn .sound .served) }
+        record {
+          wide = omega arith;
+          high = omega arith;
+          served = subst (λ (n : ℕ). Served (q .rule) (q .width) n) (L .turn .long) (L .turn .sound .served);
+        }
 
     pub runs-end : Runs q samples out work ran out′ work′
     runs-end =

@@ -23,8 +23,16 @@ module _ (q : Quantizer) (samples out₀ : List ℕ) (work₀ : List ℤ) where
     pub past : drop written out ≡ drop written out₀
     pub turn : Turn q (q .place) samples work₀ taken (take written out) p work
 
-  pub loop-start : Sound (q .rule) (q .width) (q .height) (q .place .row) (q .place .column) (q .place .begun) (q .place .corner) (length work₀) → Loop out₀ work₀ (q .place) 0 0
-  loop-start h = record { takenFits = omega arith; writtenFits = omega arith; outLong = refl; past = refl; turn = turn-none q (q .place) samples work₀ h }
+  pub loop-start : Sound (q .rule) (q .width) (q .height) (q .place .row) (q .place .column) (q .place .begun) (q .place .corner)
+      (length work₀) → Loop out₀ work₀ (q .place) 0 0
+  loop-start h =
+      record {
+        takenFits = omega arith;
+        writtenFits = omega arith;
+        outLong = refl;
+        past = refl;
+        turn = turn-none q (q .place) samples work₀ h;
+      }
 
   module _ (out : List ℕ) (work : List ℤ) (p : Place) (taken written : ℕ) (L : Loop out work p taken written) where
     pub begun-small : p .begun < 256
@@ -34,7 +42,8 @@ module _ (q : Quantizer) (samples out₀ : List ℕ) (work₀ : List ℤ) where
     written-in = omega (arith, L .writtenFits, L .outLong)
 
     -- a turn more, whose bytes are written
-    module _ (m : ℕ) (bytes : List ℕ) (p′ : Place) (work′ : List ℤ) (T : Turn q p (drop taken samples) work m bytes p′ work′) (there : taken + m ≤ length samples) (fits : written + length bytes ≤ length out)
+    module _ (m : ℕ) (bytes : List ℕ) (p′ : Place) (work′ : List ℤ) (T : Turn q p (drop taken samples) work m bytes p′ work′)
+        (there : taken + m ≤ length samples) (fits : written + length bytes ≤ length out)
         (out′ : List ℕ) (stored : out′ ≡ (take written out ++ bytes) ++ drop (written + length bytes) out) where
       abbrev front : List ℕ
       front = take written out ++ bytes
@@ -47,23 +56,31 @@ module _ (q : Quantizer) (samples out₀ : List ℕ) (work₀ : List ℤ) where
           record {
             takenFits = there;
             writtenFits = omega (arith, L .outLong);
-            outLong = ap length stored ∙ length-append front (drop (written + length bytes) out) ∙ (let a = front-long in let b = length-drop (written + length bytes) out in omega (arith, L .outLong));
-            past = ap (drop (written + length bytes)) stored ∙ drop-at front (drop (written + length bytes) out) (written + length bytes) front-long
+            outLong =
+                ap length stored ∙ length-append front (drop (written + length bytes) out)
+                ∙ (let a = front-long in let b = length-drop (written + length bytes) out in omega (arith, L .outLong));
+            past =
+                ap (drop (written + length bytes)) stored
+                ∙ drop-at front (drop (written + length bytes) out) (written + length bytes) front-long
                 ∙ sym (drop-drop (length bytes) written out) ∙ ap (drop (length bytes)) (L .past) ∙ drop-drop (length bytes) written out₀;
             turn = subst (λ (l : List ℕ). Turn q (q .place) samples work₀ (taken + m) l p′ work′)
-                (sym (ap (take (written + length bytes)) stored ∙ take-at front (drop (written + length bytes) out) (written + length bytes) front-long))
+                (sym (ap (take (written + length bytes)) stored
+                ∙ take-at front (drop (written + length bytes) out) (written + length bytes) front-long))
                 (turn-turn q (q .place) p p′ samples work₀ work work′ taken m (take written out) bytes (L .turn) T);
           }
 
     -- of no byte
-    pub loop-on : (m : ℕ) (p′ : Place) (work′ : List ℤ) → Turn q p (drop taken samples) work m [] p′ work′ → taken + m ≤ length samples → Loop out work′ p′ (taken + m) written
+    pub loop-on : (m : ℕ) (p′ : Place) (work′ : List ℤ) → Turn q p (drop taken samples) work m [] p′ work′ → taken + m ≤ length samples
+        → Loop out work′ p′ (taken + m) written
     loop-on m p′ work′ T h =
         let e : written + 0 ≡ written = omega arith in
         subst (λ (n : ℕ). Loop out work′ p′ (taken + m) n) e
         (loop-turn m [] p′ work′ T h (omega (arith, written-in)) out (rw (e, append-nil) (sym (take-append-drop written out))))
 
     -- of one byte
-    pub loop-byte : (m b : ℕ) (p′ : Place) (work′ : List ℤ) → Turn q p (drop taken samples) work m (b ∷ []) p′ work′ → taken + m ≤ length samples → written < length out → Loop (set out written b) work′ p′ (taken + m) (written + 1)
+    pub loop-byte : (m b : ℕ) (p′ : Place) (work′ : List ℤ) → Turn q p (drop taken samples) work m (b ∷ []) p′ work′
+        → taken + m ≤ length samples → written < length out → Loop (set out written b) work′ p′ (taken + m) (written + 1)
     loop-byte m b p′ work′ T h k =
         loop-turn m (b ∷ []) p′ work′ T h (omega arith) (set out written b)
-        (set-split out written b k ∙ sym (append-snoc (take written out) b (drop (suc written) out)) ∙ ap (λ (n : ℕ). (take written out ++ (b ∷ [])) ++ drop n out) (sym (add-one written)))
+        (set-split out written b k ∙ sym (append-snoc (take written out) b (drop (suc written) out))
+        ∙ ap (λ (n : ℕ). (take written out ++ (b ∷ [])) ++ drop n out) (sym (add-one written)))

@@ -38,5 +38,7 @@ module _ {rule : Quantize} {w h row column begun corner work : ℕ} where
     sound s = record { inRow = p; inFrame = q; cornerSmall = r; begunSmall = t; served = s }
 
     -- the rule is known, and b says whether the buffer is long enough
-    pub can-take-if : (b : Bool) → knownRule rule ≡ true → b ≡ enoughWork (meaning rule) w work → CanTake rule w h row column begun corner work b
-    can-take-if b k e = record { yes = λ f. sound (record { known = k; room = sym e ∙ f }); no = λ f s. never (sym f ∙ e ∙ s .served .room) }
+    pub can-take-if : (b : Bool) → knownRule rule ≡ true → b ≡ enoughWork (meaning rule) w work
+        → CanTake rule w h row column begun corner work b
+    can-take-if b k e =
+        record { yes = λ f. sound (record { known = k; room = sym e ∙ f }); no = λ f s. never (sym f ∙ e ∙ s .served .room) }

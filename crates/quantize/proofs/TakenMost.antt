@@ -45,12 +45,14 @@ count-mono s n (suc k) p =
     let e : n + suc k ≡ n + k + 1 = omega arith in
     rw e (omega (arith, count-mono s n k p, count-up s (n + k) p))
 
-pub most-is : (s : Setting) (n room k i : ℕ) → 0 < s .width → i ≤ k → count s (n + i) ≤ count s n + room → (i ≡ k) ⊎ (count s n + room < count s (n + i + 1)) → most s n room k ≡ i
+pub most-is : (s : Setting) (n room k i : ℕ) → 0 < s .width → i ≤ k → count s (n + i) ≤ count s n + room
+    → (i ≡ k) ⊎ (count s n + room < count s (n + i + 1)) → most s n room k ≡ i
 unfolding most
 most-is s n room zero i p h f t = omega arith
 most-is s n room (suc k) i p h f t =
     ⊎-elim
-    (λ (e : i ≡ suc k). if-true _ _ _ (le-leb (count s (n + suc k)) (count s n + room) (subst (λ (m : ℕ). count s (n + m) ≤ count s n + room) e f)) ∙ sym e)
+    (λ (e : i ≡ suc k). if-true _ _ _ (le-leb (count s (n + suc k)) (count s n + room)
+    (subst (λ (m : ℕ). count s (n + m) ≤ count s n + room) e f)) ∙ sym e)
     (λ (l : i < suc k).
     let b : count s n + room < count s (n + i + 1) = ⊎-elim (λ e. absurd (omega arith)) (λ b. b) t in
     let g : n + suc k ≡ n + i + 1 + (k - i) = omega arith in
@@ -96,7 +98,8 @@ module _ (s : Setting) (n frames row column : ℕ) (a : At s n frames row column
 
 -- ---- what is taken, where the loop ends
 
-pub takes-all : (s : Setting) (n samples room taken frames row column : ℕ) → At s (n + taken) frames row column → taken ≤ samples → count s (n + taken) ≤ count s n + room
+pub takes-all : (s : Setting) (n samples room taken frames row column : ℕ) → At s (n + taken) frames row column → taken ≤ samples
+    → count s (n + taken) ≤ count s n + room
     → (frames ≤ 0) ⊎ ((samples ≤ taken) ⊎ (count s n + room < count s (n + taken + 1))) → takes s n samples room ≡ taken
 unfolding takes
 takes-all s n samples room taken frames row column a h f why =
@@ -109,7 +112,8 @@ takes-all s n samples room taken frames row column a h f why =
     why)
 
 -- where the row is finished byte after byte, the next sample would finish one
-pub next-byte : (s : Setting) (n frames row column : ℕ) → At s n frames row column → Bytewise (s .rule) row → (column + 1 ≡ s .width) ⊎ (column % 8 ≡ 7) → count s (n + 1) ≡ count s n + 1
+pub next-byte : (s : Setting) (n frames row column : ℕ) → At s n frames row column → Bytewise (s .rule) row
+    → (column + 1 ≡ s .width) ⊎ (column % 8 ≡ 7) → count s (n + 1) ≡ count s n + 1
 next-byte s n frames row column a b h =
     let c = column-is s n frames row column a in
     let wide : 0 < s .width = let i = a .inRow in omega arith in

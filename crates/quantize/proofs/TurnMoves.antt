@@ -1,4 +1,5 @@
--- A turn of `run`'s loop: from a place some samples are taken and some bytes written, which are those that the machine emits. Turns one after the other are a turn.
+-- A turn of `run`'s loop: from a place some samples are taken and some bytes written, which are those that the machine emits. Turns one
+-- after the other are a turn.
 -- Assumes nothing.
 use Prim.Native.Nat.{ℕ, _+_, _*_, _%_, _≤_, _<_}
 use mathlib.Core.Path.{_≡_, refl, sym, ap, _∙_, subst}
@@ -30,12 +31,14 @@ pub record Suits (q : Quantizer) (s : Setting) : Type 0 where
   pub height : s .height ≡ q .height
 
 -- m of the samples xs are taken, where n were taken before: where the next one goes, what is written and what is kept
-pub record Moved (s : Setting) (n : ℕ) (p : Place) (xs : List ℕ) (work : List ℤ) (m : ℕ) (bytes : List ℕ) (p′ : Place) (work′ : List ℤ) : Type 0 where
+pub record Moved (s : Setting) (n : ℕ) (p : Place) (xs : List ℕ) (work : List ℤ) (m : ℕ) (bytes : List ℕ) (p′ : Place)
+    (work′ : List ℤ) : Type 0 where
   pub at : At s (n + m) (p′ .frames) (p′ .row) (p′ .column)
   pub emits : emitted s n (stateOf p work) xs m ≡ bytes
   pub keeps : carried s n (stateOf p work) xs m ≡ stateOf p′ work′
 
-pub record Turn (q : Quantizer) (p : Place) (xs : List ℕ) (work : List ℤ) (m : ℕ) (bytes : List ℕ) (p′ : Place) (work′ : List ℤ) : Type 0 where
+pub record Turn (q : Quantizer) (p : Place) (xs : List ℕ) (work : List ℤ) (m : ℕ) (bytes : List ℕ) (p′ : Place)
+    (work′ : List ℤ) : Type 0 where
   pub sound : Sound (q .rule) (q .width) (q .height) (p′ .row) (p′ .column) (p′ .begun) (p′ .corner) (length work′)
   pub long : length work′ ≡ length work
   pub beyond : drop (q .width) work′ ≡ drop (q .width) work
@@ -43,10 +46,17 @@ pub record Turn (q : Quantizer) (p : Place) (xs : List ℕ) (work : List ℤ) (m
   pub moves : (s : Setting) (n : ℕ) → Suits q s → At s n (p .frames) (p .row) (p .column) → Moved s n p xs work m bytes p′ work′
 
 -- nothing is taken
-pub turn-none : (q : Quantizer) (p : Place) (xs : List ℕ) (work : List ℤ) → Sound (q .rule) (q .width) (q .height) (p .row) (p .column) (p .begun) (p .corner) (length work) → Turn q p xs work 0 [] p work
+pub turn-none : (q : Quantizer) (p : Place) (xs : List ℕ) (work : List ℤ)
+    → Sound (q .rule) (q .width) (q .height) (p .row) (p .column) (p .begun) (p .corner) (length work) → Turn q p xs work 0 [] p work
 unfolding carried emitted
 turn-none q p xs work h =
-    record { sound = h; long = refl; beyond = refl; spared = λ _. refl; moves = λ s n t a. record { at = rw add-zero a; emits = refl; keeps = refl } }
+    record {
+      sound = h;
+      long = refl;
+      beyond = refl;
+      spared = λ _. refl;
+      moves = λ s n t a. record { at = rw add-zero a; emits = refl; keeps = refl };
+    }
 
 -- a turn after a turn
 pub turn-turn : (q : Quantizer) (p p′ p″ : Place) (xs : List ℕ) (work work′ work″ : List ℤ) (m k : ℕ) (bytes more : List ℕ)
@@ -69,11 +79,14 @@ turn-turn q p p′ p″ xs work work′ work″ m k bytes more T U =
 
 -- ---- a part of a byte, in a row that is finished byte after byte
 
-module _ (q : Quantizer) (p : Place) (xs gray : List ℕ) (work : List ℤ) (so : Sound (q .rule) (q .width) (q .height) (p .row) (p .column) (p .begun) (p .corner) (length work))
-    (left : 0 < p .frames) (m : ℕ) (some : 0 < m) (inRow : p .column + m ≤ q .width) (inByte : p .column % 8 + m ≤ 8) (graylong : length gray ≡ m)
+module _ (q : Quantizer) (p : Place) (xs gray : List ℕ) (work : List ℤ)
+    (so : Sound (q .rule) (q .width) (q .height) (p .row) (p .column) (p .begun) (p .corner) (length work))
+    (left : 0 < p .frames) (m : ℕ) (some : 0 < m) (inRow : p .column + m ≤ q .width) (inByte : p .column % 8 + m ≤ 8)
+    (graylong : length gray ≡ m)
     (same : (i : ℕ) → i < m → getD xs i 0 ≡ getD gray i 0) (b : Bytewise (ruleOf (q .rule) (q .table)) (p .row))
     (digits : ℕ) (work′ : List ℤ) (nx : Advanced)
-    (dt : Dotted (q .rule) (q .table) (q .width) (p .row) (p .column) gray (p .begun) (p .corner) work (record { digits = digits; corner = nx .place .corner }) work′)
+    (dt : Dotted (q .rule) (q .table) (q .width) (p .row) (p .column) gray (p .begun) (p .corner) work
+    (record { digits = digits; corner = nx .place .corner }) work′)
     (ad : Advances (q .width) (q .height) (p .frames) (p .row) (p .column) m digits nx) where
   abbrev rule : Rule
   rule = ruleOf (q .rule) (q .table)
@@ -84,7 +97,9 @@ module _ (q : Quantizer) (p : Place) (xs gray : List ℕ) (work : List ℤ) (so 
   long-is : length work′ ≡ length work
   long-is = sym (ap length kept-is) ∙ row-long rule (q .width) (p .row) (p .column) gray (carryOf (p .corner) work) (length gray)
 
-  turned : (bytes : List ℕ) → ((s : Setting) (n : ℕ) → Suits q s → At s n (p .frames) (p .row) (p .column) → Moved s n p xs work m bytes (nx .place) work′) → Turn q p xs work m bytes (nx .place) work′
+  turned : (bytes : List ℕ)
+      → ((s : Setting) (n : ℕ) → Suits q s → At s n (p .frames) (p .row) (p .column) → Moved s n p xs work m bytes (nx .place) work′)
+      → Turn q p xs work m bytes (nx .place) work′
   turned bytes moves =
       record {
         sound = record {
@@ -95,8 +110,12 @@ module _ (q : Quantizer) (p : Place) (xs gray : List ℕ) (work : List ℤ) (so 
           served = subst (λ (k : ℕ). Served (q .rule) (q .width) k) (sym long-is) (so .served);
         };
         long = long-is;
-        beyond = sym (ap (drop (q .width)) kept-is) ∙ row-beyond rule (q .width) (p .row) (p .column) gray (carryOf (p .corner) work) (q .width) (length gray) (omega arith);
-        spared = λ h. sym kept-is ∙ row-spared rule (q .width) (p .row) (p .column) gray (carryOf (p .corner) work) (carries-same (q .rule) (q .table) ∙ h) (length gray);
+        beyond =
+            sym (ap (drop (q .width)) kept-is)
+            ∙ row-beyond rule (q .width) (p .row) (p .column) gray (carryOf (p .corner) work) (q .width) (length gray) (omega arith);
+        spared =
+            λ h. sym kept-is ∙ row-spared rule (q .width) (p .row) (p .column) gray (carryOf (p .corner) work)
+            (carries-same (q .rule) (q .table) ∙ h) (length gray);
         moves = moves;
       }
 
@@ -116,14 +135,27 @@ module _ (q : Quantizer) (p : Place) (xs gray : List ℕ) (work : List ℤ) (so 
     digits-are : appended (p .begun) (rowBit (s .rule) (s .width) (p .row) (p .column) gray (carryOf (p .corner) work)) m ≡ digits
     digits-are = sym (rw (t .rule, t .width, ← graylong) (dt .digits))
 
-    state-is : (x y : ℕ) → x ≡ y → _≡_ {A = State} (record { begun = x; carry = rowCarry (s .rule) (s .width) (p .row) (p .column) gray (carryOf (p .corner) work) m }) (record { begun = y; carry = carryOf (nx .place .corner) work′ })
+    state-is : (x y : ℕ) → x ≡ y
+        → _≡_ {A = State} (record {
+          begun = x;
+          carry = rowCarry (s .rule) (s .width) (p .row) (p .column) gray (carryOf (p .corner) work) m;
+        }) (record {
+          begun = y;
+          carry = carryOf (nx .place .corner) work′;
+        })
     state-is x y e = let c = carry-is in cc
 
     moved-on : nx .whole ≡ false → Moved s n p xs work m [] (nx .place) work′
     moved-on h =
         let g = ad .goes h in
-        let P = part-on s n st xs gray (p .frames) (p .row) (p .column) a left m in-row inByte same by m (omega arith) (omega (arith, t .width, g .inRow)) (g .inByte) in
-        record { at = ad .moves s n (t .width) (t .height) a; emits = P .emits; keeps = P .keeps ∙ state-is _ _ (digits-are ∙ sym (g .begunIs)) }
+        let P =
+        part-on s n st xs gray (p .frames) (p .row) (p .column) a left m in-row inByte same by m (omega arith)
+        (omega (arith, t .width, g .inRow)) (g .inByte) in
+        record {
+          at = ad .moves s n (t .width) (t .height) a;
+          emits = P .emits;
+          keeps = P .keeps ∙ state-is _ _ (digits-are ∙ sym (g .begunIs));
+        }
 
     moved-byte : nx .whole ≡ true → Moved s n p xs work m (nx .byte ∷ []) (nx .place) work′
     moved-byte h =

@@ -24,7 +24,8 @@ pub piece-same : (samples : List ℕ) (taken m i : ℕ) → i < m → getD (drop
 piece-same samples taken m i h = getD-drop taken samples i 0 ∙ piece-at samples taken m i h
 
 module _ (q : Quantizer) (samples out₀ : List ℕ) (work₀ : List ℤ) (out : List ℕ) (work : List ℤ) (p : Place) (taken written : ℕ)
-    (L : Loop q samples out₀ work₀ out work p taken written) (left : 0 < p .frames) (m : ℕ) (sh : SamplesForByte (q .width) (p .column) (length samples - taken) (length out - written) m) (some : m ≡ 0 → ⊥) where
+    (L : Loop q samples out₀ work₀ out work p taken written) (left : 0 < p .frames) (m : ℕ)
+    (sh : SamplesForByte (q .width) (p .column) (length samples - taken) (length out - written) m) (some : m ≡ 0 → ⊥) where
   abbrev samples-for-byte : List ℕ
   samples-for-byte = piece samples taken m
 
@@ -64,16 +65,21 @@ module _ (q : Quantizer) (samples out₀ : List ℕ) (work₀ : List ℤ) (out :
         ⊎-elim (λ l. l)
         (λ (l : length out ≤ written).
         let z = sh .fits (omega arith) in
-        ⊎-elim (λ e. let f : ⊥ = omega (arith, z .0) in absurd f) (λ e. let f : ⊥ = omega (arith, z .1) in absurd f) (advances .ended h .ends))
+        ⊎-elim (λ e. let f : ⊥ = omega (arith, z .0) in absurd f) (λ e. let f : ⊥ = omega (arith, z .1) in absurd f)
+        (advances .ended h .ends))
         (lt-or-le written (length out))
 
     -- the row is finished byte after byte
     module _ (b : Bytewise (ruleOf (q .rule) (q .table)) (p .row)) where
-      pub loop-took : (out′ : List ℕ) (written′ : ℕ) → ((t .whole ≡ true) × (out′ ≡ set out written (t .byte)) × (written′ ≡ written + 1)) ⊎ ((t .whole ≡ false) × (out′ ≡ out) × (written′ ≡ written))
+      pub loop-took : (out′ : List ℕ) (written′ : ℕ)
+          → ((t .whole ≡ true) × (out′ ≡ set out written (t .byte)) × (written′ ≡ written + 1))
+          ⊎ ((t .whole ≡ false) × (out′ ≡ out) × (written′ ≡ written))
           → Loop q samples out₀ work₀ out′ work′ (t .place) (taken + m) written′
       loop-took out′ written′ =
           ⊎-elim
           (λ v. rw (v .1, v .2) (loop-byte q samples out₀ work₀ out work p taken written L m (t .byte) (t .place) work′
-          (turn-byte q p (drop taken samples) samples-for-byte work (L .turn .sound) left m (omega (arith, some)) (sh .inRow) (sh .inByte) long (piece-same samples taken m) b (T .digits) work′ t (T .dotted) advances (v .0)) end-fits (took-room (v .0))))
+          (turn-byte q p (drop taken samples) samples-for-byte work (L .turn .sound) left m (omega (arith, some)) (sh .inRow) (sh .inByte)
+          long (piece-same samples taken m) b (T .digits) work′ t (T .dotted) advances (v .0)) end-fits (took-room (v .0))))
           (λ v. rw (v .1, v .2) (loop-on q samples out₀ work₀ out work p taken written L m (t .place) work′
-          (turn-on q p (drop taken samples) samples-for-byte work (L .turn .sound) left m (omega (arith, some)) (sh .inRow) (sh .inByte) long (piece-same samples taken m) b (T .digits) work′ t (T .dotted) advances (v .0)) end-fits))
+          (turn-on q p (drop taken samples) samples-for-byte work (L .turn .sound) left m (omega (arith, some)) (sh .inRow) (sh .inByte)
+          long (piece-same samples taken m) b (T .digits) work′ t (T .dotted) advances (v .0)) end-fits))

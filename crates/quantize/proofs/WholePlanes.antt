@@ -113,7 +113,8 @@ module _ (rule : Quantize) (w h : ℕ) (wide : 0 < w) (high : 0 < h) where
 
 -- ---- the answers
 
-module _ (rule : Quantize) (w h : ℕ) (gray out : List ℕ) (work : List ℤ) (code : ℕ) (e : code ≡ refusedBy rule w h (length gray) (length work)) where
+module _ (rule : Quantize) (w h : ℕ) (gray out : List ℕ) (work : List ℤ) (code : ℕ)
+    (e : code ≡ refusedBy rule w h (length gray) (length work)) where
   refused-is : (code ≡ 0 → ⊥) → quantized rule w h gray (length work) ≡ refuses code 0
   unfolding quantized
   refused-is n = rw (← e, ne-eqb code 0 n)
@@ -125,7 +126,8 @@ module _ (rule : Quantize) (w h : ℕ) (gray out : List ℕ) (work : List ℤ) (
   pub quantizes-refused : (code ≡ 0 → ⊥) → Quantizes rule w h gray out work (refuses code 0) out work
   quantizes-refused n =
       record {
-        emits = subst (λ (a : Answer (List ℕ)). Emits a (refuses code 0) out out) (sym (refused-is n)) (record { answer = refl; bytes = refl });
+        emits =
+            subst (λ (a : Answer (List ℕ)). Emits a (refuses code 0) out out) (sym (refused-is n)) (record { answer = refl; bytes = refl });
         beyond = refl;
         spared = λ _. refl;
         refused = λ _ _ _. refl;
@@ -165,7 +167,8 @@ module _ (rule : Quantize) (w h : ℕ) (gray out : List ℕ) (work : List ℤ) (
           refused = λ code place f. zero-one (cc);
         }
 
-    module _ (l : rowBytes w * h ≤ length out) (q : Quantizer) (o : Opens rule w h 1 q) (r : RunEnded) (out′ : List ℕ) (work′ : List ℤ) (R : Runs q gray out work r out′ work′) where
+    module _ (l : rowBytes w * h ≤ length out) (q : Quantizer) (o : Opens rule w h 1 q) (r : RunEnded) (out′ : List ℕ) (work′ : List ℤ)
+        (R : Runs q gray out work r out′ work′) where
       abbrev sp : Setting
       sp = setting rule w h 1
 
@@ -179,7 +182,9 @@ module _ (rule : Quantize) (w h : ℕ) (gray out : List ℕ) (work : List ℤ) (
       fits = let m = mul-comm (rowBytes w) h in omega arith
 
       taken-is : r .taken ≡ w * h
-      taken-is = R .counts sp 0 (H .stands) .taken ∙ if-true _ _ _ (p .room) ∙ takes-plane rule w h (p .wide) (p .high) (length gray) (length out) (p .enough) fits
+      taken-is =
+          R .counts sp 0 (H .stands) .taken ∙ if-true _ _ _ (p .room)
+          ∙ takes-plane rule w h (p .wide) (p .high) (length gray) (length out) (p .enough) fits
 
       written-is : r .written ≡ h * rowBytes w
       written-is =

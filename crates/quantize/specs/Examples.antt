@@ -29,7 +29,8 @@ none-of-one = refl
 
 -- the second frame starts clean, and its rows are counted from 0
 second-frame : finished (setting Dither 1 1 2) (127 ∷ 127 ∷ []) ≡ 0x00 ∷ 0x00 ∷ []
-unfolding upto appended part value white residual valueFrom handed rowValue above valueAt dot begunBytes count frame dotOf paddedBit byteAt finished
+unfolding upto appended part value white residual valueFrom handed rowValue above valueAt dot begunBytes count frame dotOf paddedBit byteAt
+    finished
 second-frame = refl
 
 -- the side 2: 0 and 2 above 3 and 1

@@ -1,4 +1,5 @@
--- The bytes that samples finish (document 01: Making session). Samples come row by row; frames of width × height samples follow each other, and each one's dots depend on its own samples only.
+-- The bytes that samples finish (document 01: Making session). Samples come row by row; frames of width × height samples follow each other,
+-- and each one's dots depend on its own samples only.
 use Prim.Native.Nat.{ℕ, zero, suc, _+_, _-_, _*_, _/_, _%_, min}
 use mathlib.Core.Path.{_≡_}
 use mathlib.Core.Bool.{Bool, _&&_}

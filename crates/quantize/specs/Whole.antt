@@ -30,8 +30,10 @@ quantized rule w h gray work =
     (gives (finished (setting rule w h 1) (take (w * h) gray)))
     (refuses (refusedBy rule w h (length gray) work) 0)
 
--- the plane or the refusal; a work buffer is altered by a rule that keeps carries alone, where it is not refused, in its first `width` numbers
-pub record Quantizes (rule : Quantize) (w h : ℕ) (gray out : List ℕ) (work : List ℤ) (r : Answer ℕ) (out′ : List ℕ) (work′ : List ℤ) : Type 0 where
+-- the plane or the refusal; a work buffer is altered by a rule that keeps carries alone, where it is not refused, in its first `width`
+-- numbers
+pub record Quantizes (rule : Quantize) (w h : ℕ) (gray out : List ℕ) (work : List ℤ) (r : Answer ℕ) (out′ : List ℕ)
+    (work′ : List ℤ) : Type 0 where
   pub emits : Emits (quantized rule w h gray (length work)) r out out′
   pub beyond : drop w work′ ≡ drop w work
   pub spared : carries (meaning rule) ≡ false → work′ ≡ work

@@ -88,7 +88,8 @@ impl Quantizer {
         }
     }
 
-    // Takes the most samples whose finished bytes fit. Takes nothing and alters nothing where the width or the height is 0, the ordered side is unknown, or dithering finds fewer than 2 × width numbers of work.
+    // Takes the most samples whose finished bytes fit. Takes nothing and alters nothing where the width or the height is 0, the ordered
+    // side is unknown, or dithering finds fewer than 2 × width numbers of work.
     pub fn run(self, samples: &[u8], out: &mut [u8], work: &mut [i16]) -> RunEnded
         ensures { λ r. ⌜ Runs self (now (samples .entry)) (now (out .entry)) (now (work .entry)) r (now (out .exit)) (now (work .exit)) ⌝ }
     {

@@ -10,7 +10,8 @@ ghost use mathlib.Core.Path.{_≡_};
 ghost use mathlib.Core.Bool.{true};
 ghost use Prim.Native.Nat.{_+_, _-_, _*_, _^_, _≤_, _<_};
 ghost use lib.ListN.{length};
-ghost use Rattle.quantize.specs.Internal.Turn.{Wholes, AtOnce, BytesFilling, SamplesForByte, Dotting, Dotted, Advancing, Advances, Taking, Takes, Fills, RowFilling, RowFilled};
+ghost use Rattle.quantize.specs.Internal.Turn.{Wholes, AtOnce, BytesFilling, SamplesForByte, Dotting, Dotted, Advancing, Advances};
+ghost use Rattle.quantize.specs.Internal.Turn.{Taking, Takes, Fills, RowFilling, RowFilled};
 
 // Where the next sample goes, and what is kept for it.
 pub struct Place {
@@ -76,7 +77,8 @@ fn fill(
     work: &mut [i16],
 ) -> u32
     requires { ⌜ BytesFilling rule width p (length (now samples)) (length (now out)) (length (now work)) ⌝ }
-    ensures { λ r. ⌜ Fills rule width (p .row) (p .column) (now (samples .entry)) (p .corner) (now (work .entry)) (length (now (out .entry))) (now (out .exit)) r (now (work .exit)) ⌝ }
+    ensures { λ r. ⌜ Fills rule width (p .row) (p .column) (now (samples .entry)) (p .corner) (now (work .entry))
+        (length (now (out .entry))) (now (out .exit)) r (now (work .exit)) ⌝ }
 {
     match rule {
         Quantize::Threshold(bound) => {
@@ -100,7 +102,8 @@ pub(crate) fn fill_row(
     work: &mut [i16],
 ) -> BytesFilled
     requires { ⌜ RowFilling rule width p (length (now work)) ⌝ }
-    ensures { λ r. ⌜ RowFilled rule width p (now (samples .entry)) (now (out .entry)) (now (work .entry)) r (now (out .exit)) (now (work .exit)) ⌝ }
+    ensures { λ r. ⌜ RowFilled rule width p (now (samples .entry)) (now (out .entry)) (now (work .entry)) r (now (out .exit))
+        (now (work .exit)) ⌝ }
 {
     let k = bytes_at_once(rule, width, p.column, samples.len(), out.len());
     let corner = fill(rule, width, p, samples, &mut out[..k], work);
@@ -135,7 +138,8 @@ fn dots(
     work: &mut [i16],
 ) -> RowDots
     requires { ⌜ Dotting rule width (p .column) (length (now gray)) (p .begun) (p .corner) (length (now work)) ⌝ }
-    ensures { λ r. ⌜ Dotted rule (now (table .entry)) width (p .row) (p .column) (now (gray .entry)) (p .begun) (p .corner) (now (work .entry)) r (now (work .exit)) ⌝ }
+    ensures { λ r. ⌜ Dotted rule (now (table .entry)) width (p .row) (p .column) (now (gray .entry)) (p .begun) (p .corner)
+        (now (work .entry)) r (now (work .exit)) ⌝ }
 {
     match rule {
         Quantize::Threshold(bound) => RowDots {

@@ -53,8 +53,10 @@ fn engine_plane(
     work: &mut [i16],
     out: &mut [u8],
 ) -> Written
-    requires { ⌜ (0 ≡ refusedBy rule width height (length (now gray)) (length (now work))) × (planeBytes width height ≤ length (now out)) ⌝ }
-    ensures { λ r. ⌜ Quantizes rule width height (now (gray .entry)) (now (out .entry)) (now (work .entry)) (written r) (now (out .exit)) (now (work .exit)) ⌝ }
+    requires { ⌜ (0 ≡ refusedBy rule width height (length (now gray)) (length (now work)))
+        × (planeBytes width height ≤ length (now out)) ⌝ }
+    ensures { λ r. ⌜ Quantizes rule width height (now (gray .entry)) (now (out .entry)) (now (work .entry)) (written r) (now (out .exit))
+        (now (work .exit)) ⌝ }
 {
     let q = Quantizer::new(rule, width, height, 1);
     let r = q.run(gray, out, work);
@@ -81,8 +83,10 @@ fn few_grays(area: usize, gray: &[u8]) -> bool {
 
 // The dithered plane, where nothing is refused and there is room for it.
 fn dithered_plane(width: u32, height: u32, gray: &[u8], work: &mut [i16], out: &mut [u8]) -> Written
-    requires { ⌜ (0 ≡ refusedBy Dither width height (length (now gray)) (length (now work))) × (planeBytes width height ≤ length (now out)) ⌝ }
-    ensures { λ r. ⌜ Quantizes Dither width height (now (gray .entry)) (now (out .entry)) (now (work .entry)) (written r) (now (out .exit)) (now (work .exit)) ⌝ }
+    requires { ⌜ (0 ≡ refusedBy Dither width height (length (now gray)) (length (now work)))
+        × (planeBytes width height ≤ length (now out)) ⌝ }
+    ensures { λ r. ⌜ Quantizes Dither width height (now (gray .entry)) (now (out .entry)) (now (work .entry)) (written r) (now (out .exit))
+        (now (work .exit)) ⌝ }
 {
     let area = width as usize * height as usize;
     if few_grays(area, gray) {
@@ -101,7 +105,8 @@ pub fn quantize_gray8(
     work: &mut [i16],
     out: &mut [u8],
 ) -> Written
-    ensures { λ r. ⌜ Quantizes rule width height (now (gray .entry)) (now (out .entry)) (now (work .entry)) (written r) (now (out .exit)) (now (work .exit)) ⌝ }
+    ensures { λ r. ⌜ Quantizes rule width height (now (gray .entry)) (now (out .entry)) (now (work .entry)) (written r) (now (out .exit))
+        (now (work .exit)) ⌝ }
 {
     let code = refused(width, height, gray.len(), rule, work.len());
     if code != 0 {
@@ -132,7 +137,8 @@ pub fn from_gray8(
     work: &mut [i16],
     out: &mut [u8],
 ) -> Written
-    ensures { λ r. ⌜ Quantizes quantize width height (now (gray .entry)) (now (out .entry)) (now (work .entry)) (written r) (now (out .exit)) (now (work .exit)) ⌝ }
+    ensures { λ r. ⌜ Quantizes quantize width height (now (gray .entry)) (now (out .entry)) (now (work .entry)) (written r)
+        (now (out .exit)) (now (work .exit)) ⌝ }
 {
     quantize_gray8(width, height, gray, quantize, work, out)
 }
@@ -145,7 +151,8 @@ pub fn threshold_bits(
     threshold: u8,
     out: &mut [u8],
 ) -> Written
-    ensures { λ r. ⌜ Emits (quantized (Threshold threshold) width height (now (gray .entry)) 0) (written r) (now (out .entry)) (now (out .exit)) ⌝ }
+    ensures { λ r. ⌜ Emits (quantized (Threshold threshold) width height (now (gray .entry)) 0) (written r) (now (out .entry))
+        (now (out .exit)) ⌝ }
 {
     let mut work = [0i16; 1];
     quantize_gray8(
@@ -166,14 +173,16 @@ pub fn dither_bits(
     work: &mut [i16],
     out: &mut [u8],
 ) -> Written
-    ensures { λ r. ⌜ Quantizes Dither width height (now (gray .entry)) (now (out .entry)) (now (work .entry)) (written r) (now (out .exit)) (now (work .exit)) ⌝ }
+    ensures { λ r. ⌜ Quantizes Dither width height (now (gray .entry)) (now (out .entry)) (now (work .entry)) (written r) (now (out .exit))
+        (now (work .exit)) ⌝ }
 {
     quantize_gray8(width, height, gray, Quantize::Dither, work, out)
 }
 
 // The ordered rule of this side. No work buffer is needed.
 pub fn ordered_bits(width: u32, height: u32, gray: &[u8], side: u8, out: &mut [u8]) -> Written
-    ensures { λ r. ⌜ Emits (quantized (Ordered side) width height (now (gray .entry)) 0) (written r) (now (out .entry)) (now (out .exit)) ⌝ }
+    ensures { λ r. ⌜ Emits (quantized (Ordered side) width height (now (gray .entry)) 0) (written r) (now (out .entry))
+        (now (out .exit)) ⌝ }
 {
     let mut work = [0i16; 1];
     quantize_gray8(width, height, gray, Quantize::Ordered(side), &mut work, out)

@@ -32,7 +32,8 @@ pub record Stands (q : Quantizer) (s : Setting) (n : ℕ) : Type 0 where
   pub cornerSmall : q .place .corner ≤ 256
   pub begunSmall : q .place .begun < 2 ^ (q .place .column % 8)
 
--- the residuals of rows that run in these directions, where the next sample goes to column x of row y of the scan and row y, if it is begun, runs to the right: up to there the row's residuals, from there on those above
+-- the residuals of rows that run in these directions, where the next sample goes to column x of row y of the scan and row y, if it is
+-- begun, runs to the right: up to there the row's residuals, from there on those above
 pub record Diffusion (dirs : ℕ → Direction) (w : ℕ) (scan : Scan) (x y : ℕ) (c : Carry) : Type 0 where
   pub done : (k : ℕ) → k < x → clamp (getD (c .kept) k (pos 0)) ≡ residualAt dirs w scan k y
   pub ahead : (k : ℕ) → x ≤ k → k < w → 0 < y → clamp (getD (c .kept) k (pos 0)) ≡ above dirs w scan y k
@@ -44,7 +45,9 @@ Begins s xs st = Begun (s .width) (dotOf s xs) (length xs) (st .begun)
 
 -- the residuals after the samples xs
 abbrev pub DiffusedBy : (ℕ → Direction) → Setting → List ℕ → Carry → Type 0
-DiffusedBy dirs s xs c = Diffusion dirs (s .width) (frame (s .width) (s .height) xs (length xs / s .width / s .height)) (length xs % s .width) (length xs / s .width % s .height) c
+DiffusedBy dirs s xs c =
+    Diffusion dirs (s .width) (frame (s .width) (s .height) xs (length xs / s .width / s .height)) (length xs % s .width)
+    (length xs / s .width % s .height) c
 
 -- what is kept after the samples xs, the rule's say: at a frame's start, and under the other rules, any residuals
 abbrev pub Keeps : Rule → Setting → List ℕ → State → Type 0
@@ -101,7 +104,8 @@ pub record Counts (q : Quantizer) (s : Setting) (n samples room work : ℕ) (r :
   pub stands : Stands (r .quantizer) s (n + r .taken)
 
 -- the bytes are those that the running machine emits from the numbers found, and the numbers left are those that it keeps
-pub record Machines (q : Quantizer) (s : Setting) (n : ℕ) (samples out : List ℕ) (work : List ℤ) (r : RunEnded) (out′ : List ℕ) (work′ : List ℤ) : Type 0 where
+pub record Machines (q : Quantizer) (s : Setting) (n : ℕ) (samples out : List ℕ) (work : List ℤ) (r : RunEnded) (out′ : List ℕ)
+    (work′ : List ℤ) : Type 0 where
   pub bytes : out′ ≡ emitted s n (stateOf (q .place) work) samples (r .taken) ++ drop (r .written) out
   pub keeps : carried s n (stateOf (q .place) work) samples (r .taken) ≡ stateOf (r .quantizer .place) work′
 

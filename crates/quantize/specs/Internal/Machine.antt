@@ -1,4 +1,5 @@
--- The running machine: it goes from sample to sample, emits the bytes that each one finishes, and keeps, beside its place, the begun byte's dots and the rule's carry.
+-- The running machine: it goes from sample to sample, emits the bytes that each one finishes, and keeps, beside its place, the begun byte's
+-- dots and the rule's carry.
 use Prim.Native.Nat.{ℕ, zero, suc, _+_, _-_, _*_, _/_, _%_, _^_}
 use mathlib.Core.Bool.{Bool, _||_}
 use mathlib.Core.List.{List, [], _∷_, _++_}
@@ -42,8 +43,11 @@ stepOf (ordered side table) w y x gray st = byteStep (ordered side table) w y x 
 -- what is kept after i of the samples xs, where n were taken before and st was kept, and the bytes that they finish
 unfoldable pub carried : Setting → ℕ → State → List ℕ → ℕ → State
 carried s n st xs zero = st
-carried s n st xs (suc i) = stepOf (s .rule) (s .width) ((n + i) / s .width % s .height) ((n + i) % s .width) (getD xs i 0) (carried s n st xs i) .state
+carried s n st xs (suc i) =
+    stepOf (s .rule) (s .width) ((n + i) / s .width % s .height) ((n + i) % s .width) (getD xs i 0) (carried s n st xs i) .state
 
 unfoldable pub emitted : Setting → ℕ → State → List ℕ → ℕ → List ℕ
 emitted s n st xs zero = []
-emitted s n st xs (suc i) = emitted s n st xs i ++ stepOf (s .rule) (s .width) ((n + i) / s .width % s .height) ((n + i) % s .width) (getD xs i 0) (carried s n st xs i) .bytes
+emitted s n st xs (suc i) =
+    emitted s n st xs i ++ stepOf (s .rule) (s .width) ((n + i) / s .width % s .height) ((n + i) % s .width) (getD xs i 0)
+    (carried s n st xs i) .bytes

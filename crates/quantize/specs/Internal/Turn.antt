@@ -107,7 +107,8 @@ pub record Advances (w h frames row column m digits : ℕ) (r : Advanced) : Type
   pub begunSmall : r .place .begun < 2 ^ (r .place .column % 8)
   pub ended : r .whole ≡ true → Ended w column m digits r
   pub goes : r .whole ≡ false → Goes w column m digits r
-  pub moves : (s : Setting) (n : ℕ) → s .width ≡ w → s .height ≡ h → At s n frames row column → At s (n + m) (r .place .frames) (r .place .row) (r .place .column)
+  pub moves : (s : Setting) (n : ℕ) → s .width ≡ w → s .height ≡ h → At s n frames row column
+      → At s (n + m) (r .place .frames) (r .place .row) (r .place .column)
 
 -- n samples, which end no later than the begun byte
 pub record Taking (rule : Quantize) (w h : ℕ) (p : Place) (n work : ℕ) : Type 0 where
@@ -118,10 +119,12 @@ pub record Taking (rule : Quantize) (w h : ℕ) (p : Place) (n work : ℕ) : Typ
   pub high : h < 2 ^ 64
   pub begunSmall : p .begun < 2 ^ (p .column % 8)
 
-pub record Takes (rule : Quantize) (table : List ℕ) (w h : ℕ) (p : Place) (gray : List ℕ) (work : List ℤ) (r : Advanced) (work′ : List ℤ) : Type 0 where
+pub record Takes (rule : Quantize) (table : List ℕ) (w h : ℕ) (p : Place) (gray : List ℕ) (work : List ℤ) (r : Advanced)
+    (work′ : List ℤ) : Type 0 where
   -- the digits of the begun byte after them
   pub digits : ℕ
-  pub dotted : Dotted rule table w (p .row) (p .column) gray (p .begun) (p .corner) work (record { digits = digits; corner = r .place .corner }) work′
+  pub dotted : Dotted rule table w (p .row) (p .column) gray (p .begun) (p .corner) work
+      (record { digits = digits; corner = r .place .corner }) work′
   pub advances : Advances w h (p .frames) (p .row) (p .column) (length gray) digits r
 
 -- samples and room for so many bytes, which do not end the row
@@ -134,7 +137,8 @@ pub record BytesFilling (rule : Quantize) (w : ℕ) (p : Place) (samples count w
 
 -- so many bytes, one after the other, of the rule that the code's values stand for, with any table
 abbrev pub Fills : Quantize → ℕ → ℕ → ℕ → List ℕ → ℕ → List ℤ → ℕ → List ℕ → ℕ → List ℤ → Type 0
-Fills rule w y x samples corner work k bytes corner′ work′ = (table : List ℕ) → Bytes (ruleOf rule table) w y x samples corner work k bytes corner′ work′
+Fills rule w y x samples corner work k bytes corner′ work′ =
+    (table : List ℕ) → Bytes (ruleOf rule table) w y x samples corner work k bytes corner′ work′
 
 -- the row goes on
 pub record RowFilling (rule : Quantize) (w : ℕ) (p : Place) (work : ℕ) : Type 0 where
@@ -143,7 +147,8 @@ pub record RowFilling (rule : Quantize) (w : ℕ) (p : Place) (work : ℕ) : Typ
   pub served : Served rule w work
 
 -- whole bytes stand at the output's front
-pub record RowFilled (rule : Quantize) (w : ℕ) (p : Place) (samples out : List ℕ) (work : List ℤ) (r : BytesFilled) (out′ : List ℕ) (work′ : List ℤ) : Type 0 where
+pub record RowFilled (rule : Quantize) (w : ℕ) (p : Place) (samples out : List ℕ) (work : List ℤ) (r : BytesFilled) (out′ : List ℕ)
+    (work′ : List ℤ) : Type 0 where
   pub wholes : Wholes w (p .column) (length samples) (length out) (r .count)
   pub bytes : List ℕ
   pub fills : Fills rule w (p .row) (p .column) samples (p .corner) work (r .count) bytes (r .corner) work′

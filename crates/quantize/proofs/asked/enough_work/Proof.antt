@@ -21,7 +21,9 @@ returns : tie.Need-returns
 returns c = search needs
 
 returns-2 : tie.Need-returns-2
-returns-2 c = let a = c .before .before .args in half-leb (a .width) (a .work) ∙ ap (λ (r : Quantize). enoughWork (meaning r) (a .width) (a .work)) (sym (c .enum-told2 .given .1))
+returns-2 c =
+    let a = c .before .before .args in
+    half-leb (a .width) (a .work) ∙ ap (λ (r : Quantize). enoughWork (meaning r) (a .width) (a .work)) (sym (c .enum-told2 .given .1))
 
 returns-3 : tie.Need-returns-3
 returns-3 c = search needs

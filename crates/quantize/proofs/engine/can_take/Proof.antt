@@ -43,8 +43,10 @@ returns-6 : tie.Need-returns-6
 returns-6 c =
     let e = c .before in
     let b = e .before .before in
-    can-take-if (b .before .before .before .before .before .before .before .if1 .left) (b .before .before .before .before .before .if2 .left) (b .before .before .before .if3 .left) (div-zero _ _ (pow-pos (b .before .before .before .before .before .before .before .before .before .args .p .column % 8)) (b .if4 .left)) _
-    (sym (e .before .known-rule .ensures) ∙ not-false _ (e .if5 .left)) (c .enough-work .ensures)
+    can-take-if (b .before .before .before .before .before .before .before .if1 .left)
+    (b .before .before .before .before .before .if2 .left) (b .before .before .before .if3 .left)
+    (div-zero _ _ (pow-pos (b .before .before .before .before .before .before .before .before .before .args .p .column % 8)) (b .if4 .left))
+    _ (sym (e .before .known-rule .ensures) ∙ not-false _ (e .if5 .left)) (c .enough-work .ensures)
 
 pub can-take-spec : {M : Type 1} → statement M
 can-take-spec =

@@ -44,7 +44,13 @@ returns-2 c =
     let e = told .enum-told .given .1 in
     let k = served-dither (s .args .rule) (s .args .width) (length (now (s .args .work))) e (p .served) in
     dots-dither _ _ _ _ _ _ _ _ _ _ _ e
-    (d .dither-row-dots .ensures .does (record { some = p .some; packs = p .packs; within = p .within; room = omega (arith, k); small = p .small }))
+    (d .dither-row-dots .ensures .does (record {
+      some = p .some;
+      packs = p .packs;
+      within = p .within;
+      room = omega (arith, k);
+      small = p .small;
+    }))
 
 returns-3 : tie.Need-returns-3
 returns-3 c =

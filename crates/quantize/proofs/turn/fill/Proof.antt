@@ -33,7 +33,8 @@ returns c =
     let told = t .before .before .before in
     let s = told .before .before .before .before in
     let a = s .args in
-    fills-threshold (a .rule) (a .width) (a .p .row) (a .p .column) (now (a .samples)) (a .p .corner) (now (a .work)) _ (length (now (a .out))) _
+    fills-threshold (a .rule) (a .width) (a .p .row) (a .p .column) (now (a .samples)) (a .p .corner) (now (a .work)) _
+    (length (now (a .out))) _
     (told .rule .given .1) (s .pre .small) (s .pre .there) (t .threshold-row-bytes .ensures .does (s .pre .there))
 
 same-length-2 : tie.Need-same-length-2
@@ -50,8 +51,14 @@ returns-2 c =
     let a = s .args in
     let e = told .enum-told .given .1 in
     let k = served-dither (a .rule) (a .width) (length (now (a .work))) e (s .pre .served) in
-    fills-dither (a .rule) (a .width) (a .p .row) (a .p .column) (now (a .samples)) (a .p .corner) (now (a .work)) (length (now (a .out))) _ _ _
-    e (d .dither-row-bytes .ensures .does (record { there = s .pre .there; inRow = s .pre .inRow; room = omega (arith, k); small = s .pre .small }))
+    fills-dither (a .rule) (a .width) (a .p .row) (a .p .column) (now (a .samples)) (a .p .corner) (now (a .work)) (length (now (a .out)))
+    _ _ _
+    e (d .dither-row-bytes .ensures .does (record {
+      there = s .pre .there;
+      inRow = s .pre .inRow;
+      room = omega (arith, k);
+      small = s .pre .small;
+    }))
 
 returns-3 : tie.Need-returns-3
 returns-3 c =

@@ -51,7 +51,8 @@ returns c =
       wholes = w;
       bytes = last .0;
       fills = subst
-          (λ (k : ℕ). Fills (a .rule) (a .width) (a .p .row) (a .p .column) (now (a .samples)) (a .p .corner) (now (a .work)) k (last .0) (f .fill .result) (last .1 .0)) n
+          (λ (k : ℕ). Fills (a .rule) (a .width) (a .p .row) (a .p .column) (now (a .samples)) (a .p .corner) (now (a .work)) k (last .0)
+          (f .fill .result) (last .1 .0)) n
           (f .fill .ensures);
       stored = refl;
     }

@@ -14,7 +14,9 @@ shl-result : tie.Need-shl-result
 shl-result c = search needs
 
 cast-result : tie.Need-cast-result
-cast-result c = let h = shifted-lt (c .args .digits) (c .args .m) (c .pre .0) (c .pre .1) in rw (mod-eq-of-lt {m = 4294967296} (lt-trans h (lit< tt))) (record { fits = h })
+cast-result c =
+    let h = shifted-lt (c .args .digits) (c .args .m) (c .pre .0) (c .pre .1) in
+    rw (mod-eq-of-lt {m = 4294967296} (lt-trans h (lit< tt))) (record { fits = h })
 
 returns : tie.Need-returns
 returns c = mod-eq-of-lt (lt-trans (shifted-lt (c .args .digits) (c .args .m) (c .pre .0) (c .pre .1)) (lit< tt))

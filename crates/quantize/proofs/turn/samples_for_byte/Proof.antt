@@ -28,8 +28,18 @@ capped : (j : tie.Joined1) → Capped (j .before .args .width) (j .before .args 
 capped j =
     let p = j .before .pre in
     ⊎-elim
-    (λ v. record { some = omega (arith, v .0 .taken, v .1); inRow = omega (arith, v .0 .taken, v .1); inByte = omega (arith, v .0 .taken, v .1); ends = inl (omega (arith, v .0 .taken, v .1)) })
-    (λ v. record { some = omega (arith, v .0 .left, v .1); inRow = omega (arith, v .0 .left, v .1); inByte = omega (arith, v .0 .left, v .1); ends = inr (omega (arith, v .0 .left, v .1)) })
+    (λ v. record {
+      some = omega (arith, v .0 .taken, v .1);
+      inRow = omega (arith, v .0 .taken, v .1);
+      inByte = omega (arith, v .0 .taken, v .1);
+      ends = inl (omega (arith, v .0 .taken, v .1));
+    })
+    (λ v. record {
+      some = omega (arith, v .0 .left, v .1);
+      inRow = omega (arith, v .0 .left, v .1);
+      inByte = omega (arith, v .0 .left, v .1);
+      ends = inr (omega (arith, v .0 .left, v .1));
+    })
     (j .if1 .came)
 
 sub-most-3 : tie.Need-sub-most-3
@@ -39,8 +49,20 @@ returns : tie.Need-returns
 returns c =
     let k = capped (c .before .before) in
     ⊎-elim
-    (λ v. record { there = omega arith; inRow = omega (arith, k, v .2); inByte = omega (arith, k, v .2); fits = λ z. (omega (arith, k, v .2), omega (arith, k, v .2)); all = λ z. inl z })
-    (λ v. record { there = omega arith; inRow = omega (arith, k, v .1); inByte = omega (arith, k, v .1); fits = λ z. absurd (v .0 .left z); all = λ z. inl z })
+    (λ v. record {
+      there = omega arith;
+      inRow = omega (arith, k, v .2);
+      inByte = omega (arith, k, v .2);
+      fits = λ z. (omega (arith, k, v .2), omega (arith, k, v .2));
+      all = λ z. inl z;
+    })
+    (λ v. record {
+      there = omega arith;
+      inRow = omega (arith, k, v .1);
+      inByte = omega (arith, k, v .1);
+      fits = λ z. absurd (v .0 .left z);
+      all = λ z. inl z;
+    })
     (c .before .if2 .came)
 
 returns-2 : tie.Need-returns-2

@@ -21,7 +21,9 @@ add-need : tie.Need-add-need
 add-need c = search needs
 
 mul-need : tie.Need-mul-need
-mul-need c = let s = c .before .before .before .before in record { fits = product-below 32 32 {a = (s .args .width + 7) / 8} (omega arith) (s .fits .height .fits) }
+mul-need c =
+    let s = c .before .before .before .before in
+    record { fits = product-below 32 32 {a = (s .args .width + 7) / 8} (omega arith) (s .fits .height .fits) }
 
 returns-2 : tie.Need-returns-2
 returns-2 c = let g = c .before in quantizes-short _ _ _ _ _ _ _ (g .before .refused .ensures) (g .if1 .left) (c .if2 .taken)
@@ -59,7 +61,8 @@ returns-3 c =
     let m = p .before .before .before in
     let e = m .before .before in
     let g = e .before in
-    quantizes-threshold _ _ _ _ _ _ _ _ (m .rule .given .1) (g .before .refused .ensures) (g .if1 .left) (e .if2 .left) _ (p .threshold-plane .ensures)
+    quantizes-threshold _ _ _ _ _ _ _ _ (m .rule .given .1) (g .before .refused .ensures) (g .if1 .left) (e .if2 .left) _
+    (p .threshold-plane .ensures)
 
 same-length-2 : tie.Need-same-length-2
 same-length-2 c = search needs

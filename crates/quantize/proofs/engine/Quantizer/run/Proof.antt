@@ -49,7 +49,8 @@ mid : (f : tie.After-work Inv-loop μ-loop)
     → let l = looped f in
     let r = f .before .before .before .fill-row in
     Loop (start l .args .self) (now (start l .args .samples)) (now (start l .args .out)) (now (start l .args .work))
-    (putMid (l .loop .written) (length (l .loop .out) - l .loop .written) (l .loop .out) (r .last .1 .1 .1 .1 .0)) (r .last .1 .1 .1 .1 .1 .0)
+    (putMid (l .loop .written) (length (l .loop .out) - l .loop .written) (l .loop .out) (r .last .1 .1 .1 .1 .0))
+    (r .last .1 .1 .1 .1 .1 .0)
     (record {
       frames = l .loop .p .frames;
       row = l .loop .p .row;
@@ -62,7 +63,8 @@ mid f =
     let l = looped f in
     let r = f .before .before .before .fill-row in
     let q = start l .args .self in
-    loop-filled q (omega (arith, start l .good)) (now (start l .args .samples)) (now (start l .args .out)) (now (start l .args .work)) (l .loop .out) (l .loop .work) (l .loop .p)
+    loop-filled q (omega (arith, start l .good)) (now (start l .args .samples)) (now (start l .args .out)) (now (start l .args .work))
+    (l .loop .out) (l .loop .work) (l .loop .p)
     (l .loop .taken) (l .loop .written) (l .loop .inv) (running f .if2 .taken) (by-bytes q (l .loop .p .row))
     (r .result) (r .last .1 .1 .1 .1 .0) (r .last .1 .1 .1 .1 .1 .0) (r .ensures)
 
@@ -84,7 +86,8 @@ returns c =
     let t = c .before in
     let o = t .before .before .before .before .before in
     let a = o .before .args in
-    none-told (a .self) (now (a .samples)) (now (a .out)) (now (a .work)) (c .ran .result) (c .ran .ensures) (octets o) (λ s. t .before .can-take .ensures .no (not-true _ (t .if1 .taken)) s)
+    none-told (a .self) (now (a .samples)) (now (a .out)) (now (a .work)) (c .ran .result) (c .ran .ensures) (octets o)
+    (λ s. t .before .can-take .ensures .no (not-true _ (t .if1 .taken)) s)
 
 loop-holds : tie.Need-loop-holds Inv-loop μ-loop
 loop-holds c = loop-start _ _ _ _ (c .before .can-take .ensures .yes (not-false _ (c .if1 .left)))
@@ -152,13 +155,16 @@ returns-2 c =
     let l = looped f in
     let o = octets (l .before .before .before .before .before .before) in
     end-told _ _ _ _ _ _ _ _ _ (mid f) o
-    (full-byte _ _ _ _ _ _ _ _ _ (mid f) o _ (running f .if2 .taken) (by-bytes (start l .args .self) (l .loop .p .row)) (t .before .samples-for-byte .ensures) (t .if3 .taken))
+    (full-byte _ _ _ _ _ _ _ _ _ (mid f) o _ (running f .if2 .taken) (by-bytes (start l .args .self) (l .loop .p .row))
+    (t .before .samples-for-byte .ensures) (t .if3 .taken))
     (c .ran2 .result) (c .ran2 .ensures)
 
 -- the samples-for-byte's samples are there
 there : (e : tie.Else3 Inv-loop μ-loop)
-    → looped (filled e) .loop .taken + 8 * (filled e .before .before .before .fill-row .result .count) + e .before .samples-for-byte .result ≤ length (now (begun e .args .samples))
-there e = end-fits _ _ _ _ _ _ _ _ _ (mid (filled e)) (running (filled e) .if2 .taken) _ (e .before .samples-for-byte .ensures) (e .if3 .left)
+    → looped (filled e) .loop .taken + 8 * (filled e .before .before .before .fill-row .result .count) + e .before .samples-for-byte .result
+    ≤ length (now (begun e .args .samples))
+there e =
+    end-fits _ _ _ _ _ _ _ _ _ (mid (filled e)) (running (filled e) .if2 .taken) _ (e .before .samples-for-byte .ensures) (e .if3 .left)
 
 add-end : tie.Need-add-end Inv-loop μ-loop
 add-end c = omega (arith, there c, begun c .good)
@@ -175,23 +181,27 @@ part-take-end c = there (c .before)
 take-requires : tie.Need-take-requires Inv-loop μ-loop
 take-requires c κs =
     let e = c .before .before .before in
-    taking _ _ _ _ _ _ _ _ _ (mid (filled e)) (running (filled e) .if2 .taken) _ (e .before .samples-for-byte .ensures) (e .if3 .left) (omega (arith, begun e .good)) (omega (arith, begun e .good))
+    taking _ _ _ _ _ _ _ _ _ (mid (filled e)) (running (filled e) .if2 .taken) _ (e .before .samples-for-byte .ensures) (e .if3 .left)
+    (omega (arith, begun e .good)) (omega (arith, begun e .good))
 
 -- there is room for a finished byte
 room : (c : tie.Then4 Inv-loop μ-loop)
     → let f = filled (c .before .before .before .before .before .before) in
     let l = looped f in
     let r = f .before .before .before .fill-row in
-    l .loop .written + r .result .count < length (putMid (l .loop .written) (length (l .loop .out) - l .loop .written) (l .loop .out) (r .last .1 .1 .1 .1 .0))
+    l .loop .written + r .result .count
+    < length (putMid (l .loop .written) (length (l .loop .out) - l .loop .written) (l .loop .out) (r .last .1 .1 .1 .1 .0))
 room c =
     let e = c .before .before .before .before .before .before in
-    took-room _ _ _ _ _ _ _ _ _ (mid (filled e)) (running (filled e) .if2 .taken) _ (e .before .samples-for-byte .ensures) (e .if3 .left) _ _ (c .before .before .take .ensures) (c .if4 .taken)
+    took-room _ _ _ _ _ _ _ _ _ (mid (filled e)) (running (filled e) .if2 .taken) _ (e .before .samples-for-byte .ensures) (e .if3 .left)
+    _ _ (c .before .before .take .ensures) (c .if4 .taken)
 
 slice-write-out : tie.Need-slice-write-out Inv-loop μ-loop
 slice-write-out c = room c
 
 add-written-2 : tie.Need-add-written-2 Inv-loop μ-loop
-add-written-2 c = let e = c .before .before .before .before .before .before in omega (arith, room c, (mid (filled e)) .outLong, begun e .good)
+add-written-2 c =
+    let e = c .before .before .before .before .before .before in omega (arith, room c, (mid (filled e)) .outLong, begun e .good)
 
 loop-less : tie.Need-loop-less Inv-loop μ-loop
 loop-less c = let e = c .before .before .before .before .before .before .before in omega (arith, there e, e .if3 .left)
@@ -199,7 +209,8 @@ loop-less c = let e = c .before .before .before .before .before .before .before 
 loop-again : tie.Need-loop-again Inv-loop μ-loop
 loop-again c =
     let e = c .before .before .before .before .before .before .before in
-    loop-took _ _ _ _ _ _ _ _ _ (mid (filled e)) (running (filled e) .if2 .taken) _ (e .before .samples-for-byte .ensures) (e .if3 .left) _ _ (c .before .before .before .take .ensures)
+    loop-took _ _ _ _ _ _ _ _ _ (mid (filled e)) (running (filled e) .if2 .taken) _ (e .before .samples-for-byte .ensures) (e .if3 .left)
+    _ _ (c .before .before .before .take .ensures)
     (by-bytes (begun e .args .self) (looped (filled e) .loop .p .row)) _ _
     (⊎-elim (λ v. inl (v .0 .taken, v .1, v .2)) (λ v. inr (v .0 .left, v .1, v .2)) (c .before .if4 .came))
 
@@ -215,7 +226,8 @@ same-length-4 c = c .before .before .before .loop .inv .turn .long
 returns-3 : tie.Need-returns-3 Inv-loop μ-loop
 returns-3 c =
     let l = c .before .before .before in
-    end-told _ _ _ _ _ _ _ _ _ (l .loop .inv) (octets (l .before .before .before .before .before .before)) (λ s n t. inl (c .before .if2 .left)) (c .ran3 .result) (c .ran3 .ensures)
+    end-told _ _ _ _ _ _ _ _ _ (l .loop .inv) (octets (l .before .before .before .before .before .before))
+    (λ s n t. inl (c .before .if2 .left)) (c .ran3 .result) (c .ran3 .ensures)
 
 pub run-spec : {M : Type 1} → statement M
 run-spec =

@@ -11,7 +11,9 @@ returns : tie.Need-returns
 returns c = off-row (c .before .before .before .args .self) _ _ (c .before .before .spot .ensures) (c .if1 .taken)
 
 returns-2 : tie.Need-returns-2
-returns-2 c = off-column (c .before .before .before .before .before .args .self) _ _ (c .before .before .before .before .spot .ensures) (c .if2 .taken)
+returns-2 c =
+    off-column (c .before .before .before .before .before .args .self) _ _ (c .before .before .before .before .spot .ensures)
+    (c .if2 .taken)
 
 returns-3 : tie.Need-returns-3
 returns-3 c =
