@@ -2,13 +2,15 @@
 -- Assumes nothing.
 use Prim.Native.Nat.{ℕ, _+_, _-_, _*_, _/_, _%_, _^_, _≤_, _<_}
 use mathlib.Core.Path.{_≡_, sym, ap, _∙_}
+use mathlib.Core.Logic.{⊎-elim}
 use native.Mathlib.Nat.{mul-add-div-right, mul-add-mod-self-right, mod-eq-of-lt, div-eq-of-lt, add-zero}
 use native.Mathlib.Omega.{arith}
 use lib.Bits.{bitAnd}
 use borrow.Author.Tests.{lt-ltb, le-ltb}
 use Rattle.image.specs.Geometry.{rowBytes, paddingBits, paddingMask}
 use Rattle.image.proofs.MaskClears.{mask-low}
-use Rattle.rules.specs.Bits.{digits}
+use Rattle.laws.proofs.Tests.{lt-or-le}
+use Rattle.rules.specs.Bits.{digits, appended}
 use Rattle.rules.specs.Packed.{paddedBit, byteAt}
 use Rattle.rules.proofs.DigitsAppended.{appended-ext, appended-lt, digits-tail, digits-high}
 
@@ -69,3 +71,21 @@ masked w f low h =
     ∙ ap (λ (k : ℕ). digits f 8 / 2 ^ k * 2 ^ k) p
     ∙ ap (λ (n : ℕ). digits f n / 2 ^ (8 - w % 8) * 2 ^ (8 - w % 8)) (sym e)
     ∙ ap (λ (n : ℕ). n * 2 ^ (8 - w % 8)) (digits-high f low (w % 8) (8 - w % 8))
+
+-- ---- the byte of a second row behind one of three dots or four, cut from the same eight
+
+module _ (f : ℕ → ℕ) (low : (i : ℕ) → f i ≤ 1) where
+  second-three : digits f 8 * 2 ^ 3 % 256 / 2 ^ 5 * 2 ^ 5 ≡ digits (λ i. f (3 + i)) 3 * 2 ^ 5
+  unfolding appended
+  second-three = omega (arith, low 0, low 1, low 2, low 3, low 4, low 5, low 6, low 7)
+
+  second-four : digits f 8 * 2 ^ 4 % 256 / 2 ^ 4 * 2 ^ 4 ≡ digits (λ i. f (4 + i)) 4 * 2 ^ 4
+  unfolding appended
+  second-four = omega (arith, low 0, low 1, low 2, low 3, low 4, low 5, low 6, low 7)
+
+  pub masked-second : (w : ℕ) → 2 < w → w < 5 → bitAnd (digits f 8 * 2 ^ w % 256) (paddingMask w) ≡ digits (λ i. f (w + i)) w * 2 ^ (8 - w)
+  masked-second w wide narrow =
+      ⊎-elim
+      (λ l. let e : w ≡ 3 = omega arith in rw e (mask-low 5 (digits f 8 * 2 ^ 3 % 256) (omega arith) (omega arith) ∙ second-three))
+      (λ l. let e : w ≡ 4 = omega arith in rw e (mask-low 4 (digits f 8 * 2 ^ 4 % 256) (omega arith) (omega arith) ∙ second-four))
+      (lt-or-le w 4)

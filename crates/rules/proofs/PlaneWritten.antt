@@ -1,10 +1,10 @@
 -- Planes of the threshold rule as their rows are written.
 -- Assumes nothing.
 use Prim.Native.Nat.{ℕ, suc, _+_, _-_, _*_, _/_, _%_, _^_, _≤_, _<_}
-use mathlib.Core.Path.{_≡_, refl, sym, ap, ap₂, _∙_}
+use mathlib.Core.Path.{_≡_, refl, sym, ap, ap₂, _∙_, subst}
 use mathlib.Core.Bool.{true, false, _&&_}
 use mathlib.Core.List.{List}
-use native.Mathlib.Nat.{mul-comm, mul-assoc, add-mul, mul-le-mul-right, zero-add, mod-lt, mod-eq-of-lt, lt-of-lt-of-le, div-add-mod'}
+use native.Mathlib.Nat.{mul-comm, mul-assoc, add-assoc, add-mul, mul-le-mul-right, zero-add, mod-lt, mod-eq-of-lt, lt-of-lt-of-le, div-add-mod'}
 use native.Mathlib.Omega.{arith}
 use lib.Bits.{bitAnd}
 use lib.Dec.{leb}
@@ -17,9 +17,9 @@ use Rattle.rules.specs.Bits.{digits, appended}
 use Rattle.rules.specs.Packed.{byteAt}
 use Rattle.rules.specs.Internal.Kernels.{thresholdBit, thresholdFrom, stored}
 use Rattle.rules.specs.Internal.Planes.{PlaneFits, planeAt, planeIn, endingByte, endedRow, maskedRow}
-use Rattle.rules.proofs.DigitsAppended.{bit-le, appended-lt, shifted-lt}
+use Rattle.rules.proofs.DigitsAppended.{bit-le, appended-lt, appended-ext, shifted-lt}
 use Rattle.rules.proofs.ListPiece.{piece}
-use Rattle.rules.proofs.PlaneBytes.{byte-whole, byte-ending, masked}
+use Rattle.rules.proofs.PlaneBytes.{byte-whole, byte-ending, masked, masked-second}
 use Rattle.rules.proofs.StoredBytes.{digits-piece}
 use Rattle.rules.proofs.UptoOverlaid.{overlaid, overlaid-none, overlaid-length, overlaid-next, overlaid-stored}
 
@@ -129,6 +129,20 @@ rows-none t w h gray out₀ =
       outIs = overlaid-none f out₀ ∙ ap (λ (n : ℕ). overlaid n f out₀) e;
     }
 
+pub rows-some : {t w h : ℕ} {gray out₀ out : List ℕ} {y : ℕ} → 0 < w % 8 → (y ≤ h) × (out ≡ planeAt w y (thresholdBit t gray) out₀)
+    → RowsTo t w h gray out₀ out (y * w) (y * (w / 8 + 1)) y
+rows-some {t} {w} {h} {gray} {out₀} {out} {y} odd e =
+    record { within = e .0; atIs = refl; toIs = ap (λ (n : ℕ). y * n) (omega arith); outIs = e .1 }
+
+-- their samples and bytes
+pub rows-there : (w h samples y : ℕ) → w * h ≤ samples → y ≤ h → y * w ≤ samples
+rows-there w h samples y k l = omega (arith, mul-le-mul-right w l, mul-comm w h)
+
+pub rows-room : (w h bytes y : ℕ) → h * rowBytes w ≤ bytes → y ≤ h → 0 < w % 8 → y * (w / 8 + 1) ≤ bytes
+rows-room w h bytes y k l odd =
+    let e : rowBytes w ≡ w / 8 + 1 = omega arith in
+    omega (arith, mul-le-mul-right (w / 8 + 1) l, subst (λ (n : ℕ). h * n ≤ bytes) e k)
+
 -- eight dots cut by the row's mask
 pub masked-row : (t w : ℕ) (gray : List ℕ) (at : ℕ) (out : List ℕ) (to mask : ℕ) → 0 < w % 8 → mask ≡ paddingMask w
     → maskedRow t gray at out to (w / 8) mask ≡ endedRow t gray at out to (w / 8) (w % 8)
@@ -137,6 +151,17 @@ masked-row t w gray at out to mask odd e =
     ap (λ (v : ℕ). set (stored t gray at out to (w / 8)) (to + w / 8) v)
     (ap (bitAnd (digits (thresholdFrom t gray p) 8)) e
     ∙ masked w (thresholdFrom t gray p) (λ i. bit-le (leb t (getD gray (p + i) 0))) odd)
+
+-- a row of one byte
+single-row : (t w : ℕ) (gray : List ℕ) (at : ℕ) (out : List ℕ) (to v : ℕ) → w < 8 → v ≡ endingByte t gray at w
+    → set out to v ≡ endedRow t gray at out to (w / 8) (w % 8)
+unfolding stored
+single-row t w gray at out to v h e =
+    let a : w / 8 ≡ 0 = omega arith in
+    let b : w % 8 ≡ w = omega arith in
+    let c : at + 8 * 0 ≡ at = omega arith in
+    let d : to + 0 ≡ to = omega arith in
+    rw (e, a, b, c, d)
 
 module _ {t w h : ℕ} {gray out₀ : List ℕ} (fits : PlaneFits w h (length gray) (length out₀)) {out : List ℕ} {at to y : ℕ}
     (r : RowsTo t w h gray out₀ out at to y) where
@@ -187,3 +212,43 @@ module _ {t w h : ℕ} {gray out₀ : List ℕ} (fits : PlaneFits w h (length gr
             (sym (byte-ending w (thresholdBit t gray) y odd))
             ∙ ap (λ (m : ℕ). overlaid m f out₀) n);
       }
+
+  single-more : (v : ℕ) → 0 < w → w < 8 → y < h → v ≡ endingByte t gray at w → RowsTo t w h gray out₀ (set out to v) (at + w) (to + 1) (y + 1)
+  single-more v some narrow l e =
+      let p : to + (w / 8 + 1) ≡ to + 1 = omega arith in
+      subst (λ (n : ℕ). RowsTo t w h gray out₀ (set out to v) (at + w) n (y + 1)) p
+      (row-more (set out to v) (omega arith) l (single-row t w gray at out to v narrow e))
+
+-- two rows of three dots or four, from the same eight
+
+module _ {t w h : ℕ} {gray out₀ : List ℕ} (fits : PlaneFits w h (length gray) (length out₀)) {out : List ℕ} {at y : ℕ}
+    (r : RowsTo t w h gray out₀ out at y y) (wide : 2 < w) (narrow : w < 5) (l : 2 < h - y) where
+  pub two-room : y + 2 ≤ length out
+  two-room =
+      let e : h * rowBytes w ≡ h * 1 = ap (λ (n : ℕ). h * n) (omega arith) in
+      omega (arith, rows-length fits r, fits .1)
+
+  first-byte : (b mask : ℕ) → mask ≡ paddingMask w → b ≡ digits (thresholdFrom t gray at) 8 → bitAnd b mask ≡ endingByte t gray at w
+  first-byte b mask m e =
+      let n : w % 8 ≡ w = omega arith in
+      ap₂ bitAnd e m
+      ∙ masked w (thresholdFrom t gray at) (λ i. bit-le (leb t (getD gray (at + i) 0))) (omega arith)
+      ∙ ap (λ (k : ℕ). endingByte t gray at k) n
+
+  second-byte : (b mask : ℕ) → mask ≡ paddingMask w → b ≡ digits (thresholdFrom t gray at) 8
+      → bitAnd (b * 2 ^ w % 256) mask ≡ endingByte t gray (at + w) w
+  second-byte b mask m e =
+      ap₂ (λ (n k : ℕ). bitAnd (n * 2 ^ w % 256) k) e m
+      ∙ masked-second (thresholdFrom t gray at) (λ i. bit-le (leb t (getD gray (at + i) 0))) w wide narrow
+      ∙ ap (λ (n : ℕ). n * 2 ^ (8 - w))
+      (appended-ext 0 (λ i. thresholdFrom t gray at (w + i)) (thresholdFrom t gray (at + w)) w
+      (λ i k. ap (thresholdBit t gray) (sym (add-assoc at w i))))
+
+  pub two-more : (b mask : ℕ) → mask ≡ paddingMask w → b ≡ digits (thresholdFrom t gray at) 8
+      → RowsTo t w h gray out₀ (set (set out y (bitAnd b mask)) (y + 1) (bitAnd (b * 2 ^ w % 256) mask)) (at + 2 * w) (y + 2) (y + 2)
+  two-more b mask m e =
+      let one = single-more fits r (bitAnd b mask) (omega arith) (omega arith) (omega arith) (first-byte b mask m e) in
+      let two = single-more fits one (bitAnd (b * 2 ^ w % 256) mask) (omega arith) (omega arith) (omega arith) (second-byte b mask m e) in
+      let p : at + w + w ≡ at + 2 * w = omega arith in
+      let q : y + 1 + 1 ≡ y + 2 = omega arith in
+      rw (p, q) at two

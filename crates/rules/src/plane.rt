@@ -88,6 +88,35 @@ fn last_row(bound: u8, width: usize, gray: &[u8], at: usize, out: &mut [u8], to:
     out[end] = ending_byte(bound, gray, at + 8 * count, width % 8);
 }
 
+// Rows of three samples or four, two of them from eight samples, which reach into the next row: the number of rows written, all but the
+// last two at most. None where rows are longer.
+fn narrow_rows(
+    bound: u8,
+    width: usize,
+    height: usize,
+    mask: u8,
+    gray: &[u8],
+    out: &mut [u8],
+) -> usize
+    requires { ⌜ PlaneFits width height (length (now gray)) (length (now out)) × ((2 < width) × (mask ≡ paddingMask width)) ⌝ }
+    ensures { λ r. ⌜ (r ≤ height) × (now (out .exit) ≡ planeAt width r (thresholdBit bound (now (gray .entry))) (now (out .entry))) ⌝ }
+{
+    if 4 < width {
+        return 0;
+    }
+    let mut at: usize = 0;
+    let mut y: usize = 0;
+    while height - y > 2 {
+        let dots = byte(bound, gray, at);
+        out[y] = dots & mask;
+        let next = y + 1;
+        out[next] = (dots << width as u32) & mask;
+        at += 2 * width;
+        y += 2;
+    }
+    y
+}
+
 // Rows that end inside a byte. The last byte is cut from the dots of eight samples, which reach into the next two rows; those of the last
 // two rows are made one by one.
 fn threshold_rows(bound: u8, width: usize, height: usize, mask: u8, gray: &[u8], out: &mut [u8])
@@ -95,9 +124,9 @@ fn threshold_rows(bound: u8, width: usize, height: usize, mask: u8, gray: &[u8],
     ensures { λ r. ⌜ now (out .exit) ≡ planeAt width height (thresholdBit bound (now (gray .entry))) (now (out .entry)) ⌝ }
 {
     let count = width / 8;
-    let mut at: usize = 0;
-    let mut to: usize = 0;
-    let mut y: usize = 0;
+    let mut y = narrow_rows(bound, width, height, mask, gray, out);
+    let mut at = y * width;
+    let mut to = y * (count + 1);
     while 2 < height - y {
         threshold_row(bound, gray, at, out, to, count, mask);
         at += width;
