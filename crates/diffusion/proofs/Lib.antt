@@ -11,3 +11,5 @@ pub mod DotStep
 pub mod RowGrows
 pub mod RowBytes
 pub mod RowEnds
+pub mod LevelDots
+pub mod LevelTold

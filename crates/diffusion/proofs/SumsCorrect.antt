@@ -113,7 +113,7 @@ module _ (w : ℕ) (gray gray′ sums sums′ : ℕ → ℕ) (same : (i : ℕ) �
 
 -- ---- a row of black and white to which nothing is handed: its dots are those of the threshold 128, and nothing is handed down
 
-rest-none : (g : ℕ) → g < 256 → g % 255 ≡ 0 → restOf (g + 72 + 56) ≡ 128
+pub rest-none : (g : ℕ) → g < 256 → g % 255 ≡ 0 → restOf (g + 72 + 56) ≡ 128
 unfolding restOf
 rest-none g h e = omega arith
 

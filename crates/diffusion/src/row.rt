@@ -1,11 +1,13 @@
 // One row, dot by dot.
+use rules::plain_row;
 ghost use mathlib.Core.Path.{_≡_};
+ghost use mathlib.Core.Bool.{true};
 ghost use mathlib.Core.List.{List};
-ghost use Prim.Native.Nat.{_+_, _-_, _*_, _/_, _<_};
+ghost use Prim.Native.Nat.{_+_, _-_, _*_, _/_, _≤_, _<_};
 ghost use lib.IntN.{ℤ, natAbs};
 ghost use lib.ListN.{length};
 ghost use Rattle.diffusion.specs.Internal.Rows.{RightTable, DownTable, RowLent, RowDithered};
-ghost use Rattle.diffusion.specs.Internal.Flow.{DotLent, DotPassed, RowAt, DotsLent, DotsPassed, BytesPassed};
+ghost use Rattle.diffusion.specs.Internal.Flow.{DotLent, DotPassed, RowAt, DotsLent, DotsPassed, LevelFrom, LevelByte, BytesPassed};
 
 // What the dots so far hand on, and the digits of the begun byte.
 struct Flow {
@@ -98,6 +100,69 @@ fn eight(
     s
 }
 
+// Whether nothing was added to the sums of eight columns from x on. The loop runs to its end, so that the compiler can take all at once.
+fn level_eight(work: &[i16], x: usize) -> bool
+    requires { ⌜ x + 8 ≤ length (now work) ⌝ }
+    ensures { λ r. ⌜ (r ≡ true → LevelFrom (now (work .entry)) x 8) ⌝ }
+{
+    let mut others: u8 = 0;
+    let mut i: usize = 0;
+    while i < 8 {
+        let j = x + i;
+        if work[j] != 72 {
+            others = 1;
+        }
+        i += 1;
+    }
+    others == 0
+}
+
+// The byte of eight samples from column x on that are black and white and to which nothing is handed, and 256 for others.
+fn level_byte(right: u32, gray: &[u8], x: usize, work: &[i16]) -> u32
+    requires { ⌜ (x + 8 ≤ length (now gray)) × (x + 8 ≤ length (now work)) ⌝ }
+    ensures { λ r. ⌜ (r < 256 → LevelByte right (now (gray .entry)) x (now (work .entry)) r) × (r ≤ 256) ⌝ }
+{
+    if right != 56 {
+        return 256;
+    }
+    if !level_eight(work, x) {
+        return 256;
+    }
+    let mut byte = [0u8; 1];
+    if !plain_row(8, &gray[x..], &mut byte) {
+        return 256;
+    }
+    byte[0] as u32
+}
+
+// As `eight`. Dots that are level hand on nothing: they alter only the sum on the left of column x, which lacks their part.
+fn eight_or_level(
+    rights: &[u8; 512],
+    downs: &[u32; 512],
+    f: Flow,
+    gray: &[u8],
+    x: usize,
+    work: &mut [i16],
+) -> Flow
+    requires { ⌜ RightTable (now rights) × (DownTable (now downs) × (DotsLent (now gray) x (x + 8) f (now work) × (0 < x))) ⌝ }
+    ensures { λ r. ⌜ ((old : List ℤ) → RowAt (now (gray .entry)) old x f (now (work .entry))
+        → DotsPassed (now (gray .entry)) old x (x + 8) r (now (work .exit))) ⌝ }
+{
+    let byte = level_byte(f.right, gray, x, work);
+    if byte == 256 {
+        return eight(rights, downs, f, gray, x, work);
+    }
+    let k = x - 1;
+    let begun = f.down / 256 % 256;
+    work[k] = (begun + 24) as i16;
+    Flow {
+        right: 56,
+        down: 536648,
+        stirred: f.stirred,
+        digits: byte,
+    }
+}
+
 // All bytes of a row but its last.
 fn bytes(
     rights: &[u8; 512],
@@ -124,7 +189,7 @@ fn bytes(
     out[0] = f.digits as u8;
     let mut j: usize = 1;
     while j < last {
-        f = eight(rights, downs, f, gray, 8 * j, work);
+        f = eight_or_level(rights, downs, f, gray, 8 * j, work);
         out[j] = f.digits as u8;
         j += 1;
     }

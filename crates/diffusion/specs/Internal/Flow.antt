@@ -6,8 +6,10 @@ use lib.IntN.{ℤ, pos, natAbs}
 use lib.ListN.{length, getD, take}
 use Rattle.rules.specs.Bits.{upto, appended}
 use Rattle.rules.specs.Packed.{byteAt}
+use Rattle.rules.specs.Internal.Kernels.{thresholdFrom}
+use Rattle.rules.specs.Internal.Row.{Plain}
 use Rattle.diffusion.specs.declared.row.Flow.{Flow}
-use Rattle.diffusion.specs.Internal.Sums.{partOf, restOf, handedRight, restBy, restBefore, handedDown, sumsOf, Sums}
+use Rattle.diffusion.specs.Internal.Sums.{partOf, restOf, handedRight, restBy, restBefore, handedDown, none, sumsOf, Sums}
 use Rattle.diffusion.specs.Internal.Rows.{grayOf, dotBy}
 
 -- the parts that a residual hands down, as digits to the base 256
@@ -64,6 +66,17 @@ pub record DotsLent (gray : List ℕ) (x end : ℕ) (f : Flow) (work : List ℤ)
 pub record DotsPassed (gray : List ℕ) (old : List ℤ) (x end : ℕ) (r : Flow) (work′ : List ℤ) : Type 0 where
   pub at : RowAt gray old end r work′
   pub digitsIs : r .digits ≡ appended 0 (λ i. dotBy gray (sumsOf old) (x + i)) (end - x)
+
+-- nothing was added to n sums from column x on
+abbrev pub LevelFrom : List ℤ → ℕ → ℕ → Type 0
+LevelFrom work x n = (i : ℕ) → i < n → getD work (x + i) (pos 0) ≡ pos none
+
+-- eight samples from column x on are black and white, nothing is handed to them, and their dots are those of the byte
+pub record LevelByte (right : ℕ) (gray : List ℕ) (x : ℕ) (work : List ℤ) (byte : ℕ) : Type 0 where
+  pub rightIs : right ≡ 56
+  pub sums : LevelFrom work x 8
+  pub plain : Plain gray x 8
+  pub byteIs : byte ≡ appended 0 (thresholdFrom 128 gray x) 8
 
 -- the row's first n bytes, of eight dots each
 pub record BytesPassed (gray : List ℕ) (old : List ℤ) (n room : ℕ) (r : Flow) (out′ : List ℕ) (work′ : List ℤ) : Type 0 where
