@@ -89,7 +89,7 @@ fn last_row(bound: u8, width: usize, gray: &[u8], at: usize, out: &mut [u8], to:
 }
 
 // Rows of three samples or four, two of them from eight samples, which reach into the next row: the number of rows written, all but the
-// last two at most. None where rows are longer.
+// last two at most.
 fn narrow_rows(
     bound: u8,
     width: usize,
@@ -98,12 +98,9 @@ fn narrow_rows(
     gray: &[u8],
     out: &mut [u8],
 ) -> usize
-    requires { ⌜ PlaneFits width height (length (now gray)) (length (now out)) × ((2 < width) × (mask ≡ paddingMask width)) ⌝ }
+    requires { ⌜ PlaneFits width height (length (now gray)) (length (now out)) × ((2 < width) × (width < 5) × (mask ≡ paddingMask width)) ⌝ }
     ensures { λ r. ⌜ (r ≤ height) × (now (out .exit) ≡ planeAt width r (thresholdBit bound (now (gray .entry))) (now (out .entry))) ⌝ }
 {
-    if 4 < width {
-        return 0;
-    }
     let mut at: usize = 0;
     let mut y: usize = 0;
     while height - y > 2 {
@@ -117,22 +114,52 @@ fn narrow_rows(
     y
 }
 
-// Rows that end inside a byte. The last byte is cut from the dots of eight samples, which reach into the next two rows; those of the last
-// two rows are made one by one.
-fn threshold_rows(bound: u8, width: usize, height: usize, mask: u8, gray: &[u8], out: &mut [u8])
+// Rows that end inside a byte, one at a time, likewise: the last byte is cut from the dots of eight samples, which reach into the next two
+// rows.
+fn wide_rows(bound: u8, width: usize, height: usize, mask: u8, gray: &[u8], out: &mut [u8]) -> usize
     requires { ⌜ PlaneFits width height (length (now gray)) (length (now out)) × ((2 < width) × (0 < width % 8) × (mask ≡ paddingMask width)) ⌝ }
-    ensures { λ r. ⌜ now (out .exit) ≡ planeAt width height (thresholdBit bound (now (gray .entry))) (now (out .entry)) ⌝ }
+    ensures { λ r. ⌜ (r ≤ height) × (now (out .exit) ≡ planeAt width r (thresholdBit bound (now (gray .entry))) (now (out .entry))) ⌝ }
 {
     let count = width / 8;
-    let mut y = narrow_rows(bound, width, height, mask, gray, out);
-    let mut at = y * width;
-    let mut to = y * (count + 1);
+    let mut at: usize = 0;
+    let mut to: usize = 0;
+    let mut y: usize = 0;
     while 2 < height - y {
         threshold_row(bound, gray, at, out, to, count, mask);
         at += width;
         to += count + 1;
         y += 1;
     }
+    y
+}
+
+// The rows before the last two, at most, by the way that suits their width: the number of rows written.
+fn front_rows(
+    bound: u8,
+    width: usize,
+    height: usize,
+    mask: u8,
+    gray: &[u8],
+    out: &mut [u8],
+) -> usize
+    requires { ⌜ PlaneFits width height (length (now gray)) (length (now out)) × ((2 < width) × (0 < width % 8) × (mask ≡ paddingMask width)) ⌝ }
+    ensures { λ r. ⌜ (r ≤ height) × (now (out .exit) ≡ planeAt width r (thresholdBit bound (now (gray .entry))) (now (out .entry))) ⌝ }
+{
+    if width < 5 {
+        return narrow_rows(bound, width, height, mask, gray, out);
+    }
+    wide_rows(bound, width, height, mask, gray, out)
+}
+
+// Rows that end inside a byte. The last dots of the last two rows are made one by one, as too few samples follow them.
+fn threshold_rows(bound: u8, width: usize, height: usize, mask: u8, gray: &[u8], out: &mut [u8])
+    requires { ⌜ PlaneFits width height (length (now gray)) (length (now out)) × ((2 < width) × (0 < width % 8) × (mask ≡ paddingMask width)) ⌝ }
+    ensures { λ r. ⌜ now (out .exit) ≡ planeAt width height (thresholdBit bound (now (gray .entry))) (now (out .entry)) ⌝ }
+{
+    let count = width / 8;
+    let mut y = front_rows(bound, width, height, mask, gray, out);
+    let mut at = y * width;
+    let mut to = y * (count + 1);
     while y < height {
         last_row(bound, width, gray, at, out, to);
         at += width;

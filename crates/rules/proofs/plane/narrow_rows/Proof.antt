@@ -1,9 +1,7 @@
 -- `rules::plane::narrow_rows` meets its contract: two rows more with each turn.
 -- Assumes nothing.
-use Prim.Native.Nat.{ℕ, _+_, _-_, _*_, _≤_, _<_}
-use mathlib.Core.Path.{_≡_, _∙_}
+use Prim.Native.Nat.{_+_, _-_, _≤_, _<_}
 use native.Mathlib.Omega.{arith}
-use borrow.Author.Needs.{needs}
 use denote.Ref.{now}
 use lib.ListN.{length, length-set}
 use Rattle.rules.proofs.PlaneWritten.{RowsTo, rows-none, rows-length, word-there, two-room, two-more}
@@ -17,10 +15,10 @@ abbrev μ-loop : tie.MeasureT-loop
 μ-loop bound width height mask gray out₀ at₀ y₀ out at y = height - y
 
 abbrev start : tie.At-loop Inv-loop μ-loop → tie.Start Inv-loop μ-loop
-start l = l .before .before .before .before
+start l = l .before .before .before
 
 narrow : (l : tie.At-loop Inv-loop μ-loop) → start l .args .width < 5
-narrow l = omega (arith, l .before .if1 .left)
+narrow l = start l .pre .1 .1
 
 -- the eight samples of two rows, and their bytes
 word : (i : tie.In-loop Inv-loop μ-loop) → i .before .loop .at + 8 ≤ length (now (start (i .before) .args .gray))
@@ -34,7 +32,7 @@ room i =
     two-room (s .pre .0) (i .before .loop .inv) (s .pre .1 .0) (narrow (i .before)) (omega (arith, i .loop-test .taken))
 
 loop-holds : tie.Need-loop-holds Inv-loop μ-loop
-loop-holds c = let a = c .before .before .before .args in rows-none (a .bound) (a .width) (a .height) (now (a .gray)) (now (a .out))
+loop-holds c = let a = c .before .before .args in rows-none (a .bound) (a .width) (a .height) (now (a .gray)) (now (a .out))
 
 sub-loop : tie.Need-sub-loop Inv-loop μ-loop
 sub-loop c = omega (arith, c .loop .inv .within)
@@ -77,18 +75,13 @@ loop-again c =
     let l = c .before .before in
     let s = start l in
     two-more (s .pre .0) (l .loop .inv) (s .pre .1 .0) (narrow l) (omega (arith, c .before .loop-test .taken)) (c .byte .result) (s .args .mask)
-    (s .pre .1 .1) (c .byte .ensures)
+    (s .pre .1 .2) (c .byte .ensures)
 
 same-length : tie.Need-same-length Inv-loop μ-loop
 same-length c = let s = start (c .before) in rows-length (s .pre .0) (c .before .loop .inv)
 
 returns : tie.Need-returns Inv-loop μ-loop
-returns c =
-    let a = c .before .before .before .args in
-    (omega arith, rows-none (a .bound) (a .width) (a .height) (now (a .gray)) (now (a .out)) .outIs)
-
-returns-2 : tie.Need-returns-2 Inv-loop μ-loop
-returns-2 c = (c .before .loop .inv .within, c .before .loop .inv .outIs)
+returns c = (c .before .loop .inv .within, c .before .loop .inv .outIs)
 
 pub narrow-rows-spec : {M : Type 1} → statement M
 narrow-rows-spec =
@@ -96,7 +89,6 @@ narrow-rows-spec =
     (tie.spec
     Inv-loop
     μ-loop
-    returns
     loop-holds
     sub-loop
     byte-requires
@@ -112,4 +104,4 @@ narrow-rows-spec =
     loop-less
     loop-again
     same-length
-    returns-2)
+    returns)
