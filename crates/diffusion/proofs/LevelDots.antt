@@ -115,12 +115,12 @@ module _ (gray : List ℕ) (old : List ℤ) (x : ℕ) (f : Flow) (work : List �
         let u : getD gray x 0 % 255 ≡ 0 = subst (λ (n : ℕ). getD gray n 0 % 255 ≡ 0) e q in
         let v : getD work x (pos 0) ≡ pos 72 = subst (λ (n : ℕ). getD work n (pos 0) ≡ pos 72) e (l .sums 0 (omega arith)) in
         let t = one-level gray old x x _ work (byte-begins gray old x f work a) (omega arith) (omega arith) (l .rightIs) u v
-            (f .down / 256 + 534552) stored refl left in
+        (f .down / 256 + 534552) stored refl left in
         subst⁻¹ (λ (n : ℕ). DotsPassed gray old x (x + 1)
         (record { right = 56; down = f .down / 256 + 534552; stirred = f .stirred; digits = 0 * 2 + bit (leb 128 n) }) stored) p t
     run (suc m) h =
         let t = one-level gray old x (x + suc m) (after m) stored (run m (omega arith)) (omega arith) (omega arith) refl
-            (l .plain (suc m) h) (kept-sum (suc m) h) 536648 stored (omega (arith, high m)) (same-sum m (omega arith)) in
+        (l .plain (suc m) h) (kept-sum (suc m) h) 536648 stored (omega (arith, high m)) (same-sum m (omega arith)) in
         let e : x + suc m + 1 ≡ x + suc (suc m) = omega arith in
         subst (λ (n : ℕ). DotsPassed gray old x n (after (suc m)) stored) e t
 

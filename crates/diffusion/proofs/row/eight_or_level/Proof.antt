@@ -30,8 +30,8 @@ add-work c = search needs
 cast-work : tie.Need-cast-work
 cast-work c = search needs
 
-mul-t18 : tie.Need-mul-t18
-mul-t18 c = search needs
+mul-t17 : tie.Need-mul-t17
+mul-t17 c = search needs
 
 slice-set-from-work : tie.Need-slice-set-from-work
 slice-set-from-work c = search needs
@@ -59,7 +59,7 @@ eight-or-level-spec =
     sub-k
     add-work
     cast-work
-    mul-t18
+    mul-t17
     slice-set-from-work
     same-length-2
     returns-2)
