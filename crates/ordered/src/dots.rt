@@ -8,7 +8,7 @@ ghost use lib.ListN.{length};
 ghost use Rattle.rules.specs.Bits.{bit, appended};
 ghost use Rattle.rules.specs.Ordered.{bound, knownSide};
 ghost use Rattle.rules.specs.Ordered;
-ghost use Rattle.rules.specs.Internal.Entry.{Tells, Where};
+ghost use Rattle.rules.specs.Internal.Entry.{TrueExactly, Where};
 ghost use Rattle.ordered.specs.Internal.Sides.{Matching, orderedBit};
 
 // The number of a table at a column and a row of the image.
@@ -55,7 +55,7 @@ pub(crate) fn ordered_dots(
 
 // Whether n samples from a column on can be compared with the numbers of this side: a known side, and columns that can be counted.
 fn matching(side: u8, column: usize, n: usize, begun: u32) -> bool
-    ensures { λ r. ⌜ Tells (Matching side column n begun) r ⌝ }
+    ensures { λ r. ⌜ TrueExactly (Matching side column n begun) r ⌝ }
 {
     if !packs(begun, n) {
         return false;

@@ -19,7 +19,7 @@ use Rattle.options.specs.declared.Quantize.the-variants.{Threshold, Dither}
 use Rattle.rules.specs.Bits.{upto, bit}
 use Rattle.rules.specs.Diffusion.{white, valueAt}
 use Rattle.rules.specs.Internal.Kernels.{thresholdBit}
-use Rattle.rules.specs.Internal.Planes.{planeIn, ditherBit}
+use Rattle.rules.specs.Internal.Planes.{planeWhere, ditherBit}
 use Rattle.rules.specs.Rule.{rightwards, dot}
 use Rattle.quantize.specs.Finished.{Setting, count, frame, dotOf, finished, setting}
 use Rattle.quantize.specs.Whole.{refusedBy, Quantizes}
@@ -85,7 +85,7 @@ threshold-plane t w h gray wide high enough =
 -- so the plane that the rule writes at once is what a whole call promises
 pub quantizes-threshold : (rule : Quantize) (t w h : ℕ) (gray out : List ℕ) (work : List ℤ) (code : ℕ) → rule ≡ Threshold t
     → code ≡ refusedBy rule w h (length gray) (length work) → code ≡ 0 → rowBytes w * h ≤ length out
-    → (out′ : List ℕ) → out′ ≡ planeIn w h (thresholdBit t gray) (length gray) out
+    → (out′ : List ℕ) → out′ ≡ planeWhere w h (thresholdBit t gray) (length gray) out
     → Quantizes rule w h gray out work (gives (rowBytes w * h)) out′ work
 quantizes-threshold rule t w h gray out work code r e z l out′ o =
     let p = passed rule w h (length gray) (length work) (sym z ∙ e) in

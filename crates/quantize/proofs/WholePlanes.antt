@@ -23,7 +23,7 @@ use Rattle.quantize.specs.declared.engine.RunEnded.{RunEnded}
 use Rattle.quantize.specs.Finished.{Setting, count, dotOf, finished, takes, setting}
 use Rattle.rules.specs.Packed.{byteAt}
 use Rattle.rules.specs.Rule.{meaning, knownRule, carries, enoughWork}
-use Rattle.rules.specs.Internal.Planes.{plane, planeIn}
+use Rattle.rules.specs.Internal.Planes.{plane, planeWhere}
 use Rattle.quantize.specs.Internal.Engine.{Opens, Holds, Runs}
 use Rattle.quantize.specs.Whole.{refusedBy, quantized, Quantizes}
 use Rattle.quantize.proofs.Places.{count-rows}
@@ -150,7 +150,7 @@ module _ (rule : Quantize) (w h : ℕ) (gray out : List ℕ) (work : List ℤ) (
 
     -- a plane that was written at once, whatever gives its dots
     pub quantizes-plane : rowBytes w * h ≤ length out → (d : ℕ → ℕ) (out′ : List ℕ) (work′ : List ℤ)
-        → finished (setting rule w h 1) (take (w * h) gray) ≡ plane w h d → out′ ≡ planeIn w h d (length gray) out
+        → finished (setting rule w h 1) (take (w * h) gray) ≡ plane w h d → out′ ≡ planeWhere w h d (length gray) out
         → drop w work′ ≡ drop w work → (carries (meaning rule) ≡ false → work′ ≡ work)
         → Quantizes rule w h gray out work (gives (rowBytes w * h)) out′ work′
     quantizes-plane l d out′ work′ f o b c =

@@ -5,18 +5,18 @@ use mathlib.Core.Bool.{false}
 use native.Mathlib.Omega.{arith}
 use borrow.Author.Tests.{leb-true, leb-false, ltb-true, ltb-false}
 use lib.Dec.{leb, ltb}
-use Rattle.rules.specs.Internal.Entry.{Tells, Where}
+use Rattle.rules.specs.Internal.Entry.{TrueExactly, Where}
 use Rattle.rules.proofs.Signed.{never}
 
 module _ {P : Type 0} where
-  pub told-no : (P → ⊥) → Tells P false
+  pub told-no : (P → ⊥) → TrueExactly P false
   told-no f = record { yes = λ e. never e; no = λ e p. f p }
 
   -- the last test decides
-  pub told-le : (a b : ℕ) → (a ≤ b → P) → (P → a ≤ b) → Tells P (leb a b)
+  pub told-le : (a b : ℕ) → (a ≤ b → P) → (P → a ≤ b) → TrueExactly P (leb a b)
   told-le a b f g = record { yes = λ e. f (leb-true a b e); no = λ e p. let h = g p in let l = leb-false a b e in omega arith }
 
-  pub told-lt : (a b : ℕ) → (a < b → P) → (P → a < b) → Tells P (ltb a b)
+  pub told-lt : (a b : ℕ) → (a < b → P) → (P → a < b) → TrueExactly P (ltb a b)
   told-lt a b f g = record { yes = λ e. f (ltb-true a b e); no = λ e p. let h = g p in let l = ltb-false a b e in omega arith }
 
   module _ {Does Idles : Type 0} where

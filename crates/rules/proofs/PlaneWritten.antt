@@ -16,7 +16,7 @@ use Rattle.image.specs.Geometry.{rowBytes, planeBytes, paddingMask}
 use Rattle.rules.specs.Bits.{digits, appended}
 use Rattle.rules.specs.Packed.{byteAt}
 use Rattle.rules.specs.Internal.Kernels.{thresholdBit, thresholdFrom, stored}
-use Rattle.rules.specs.Internal.Planes.{PlaneFits, planeAt, planeIn, endingByte, endedRow, maskedRow}
+use Rattle.rules.specs.Internal.Planes.{PlaneFits, planeOnto, planeWhere, endingByte, endedRow, maskedRow}
 use Rattle.rules.proofs.DigitsAppended.{bit-le, appended-lt, appended-ext, shifted-lt}
 use Rattle.rules.proofs.ListPiece.{piece}
 use Rattle.rules.proofs.PlaneBytes.{byte-whole, byte-ending, masked, masked-second}
@@ -26,13 +26,13 @@ use Rattle.rules.proofs.UptoOverlaid.{overlaid, overlaid-none, overlaid
 -- ---- whether there is a plane
 
 module _ (w h : ℕ) (d : ℕ → ℕ) (samples : ℕ) (out : List ℕ) where
-  pub plane-in : PlaneFits w h samples (length out) → planeIn w h d samples out ≡ planeAt w h d out
+  pub plane-in : PlaneFits w h samples (length out) → planeWhere w h d samples out ≡ planeOnto w h d out
   plane-in f = if-true _ _ _ (ap₂ _&&_ (le-leb (w * h) samples (f .0)) (le-leb (h * rowBytes w) (length out) (f .1)))
 
-  pub plane-unread : samples < w * h → planeIn w h d samples out ≡ out
+  pub plane-unread : samples < w * h → planeWhere w h d samples out ≡ out
   plane-unread l = if-false _ _ _ (ap (λ t. t && leb (h * rowBytes w) (length out)) (lt-leb (w * h) samples l))
 
-  pub plane-unheld : length out < planeBytes w h → planeIn w h d samples out ≡ out
+  pub plane-unheld : length out < planeBytes w h → planeWhere w h d samples out ≡ out
   plane-unheld l =
       let e = mul-comm (rowBytes w) h in
       let k = lt-leb (h * rowBytes w) (length out) (omega arith) in
@@ -100,7 +100,7 @@ module _ (t : ℕ) (gray : List ℕ) where
         byte-whole w dots q b (omega arith) in
         sym (rw (u, s) at p)
 
-    pub flat-is : (out : List ℕ) → planeBytes w h ≤ length out → stored t gray 0 out 0 (planeBytes w h) ≡ planeAt w h dots out
+    pub flat-is : (out : List ℕ) → planeBytes w h ≤ length out → stored t gray 0 out 0 (planeBytes w h) ≡ planeOnto w h dots out
     flat-is out l =
         let f : ℕ → ℕ = byteAt w dots in
         let e : 0 + planeBytes w h ≡ h * rowBytes w = omega (arith, mul-comm (rowBytes w) h) in
@@ -129,7 +129,7 @@ rows-none t w h gray out₀ =
       outIs = overlaid-none f out₀ ∙ ap (λ (n : ℕ). overlaid n f out₀) e;
     }
 
-pub rows-some : {t w h : ℕ} {gray out₀ out : List ℕ} {y : ℕ} → 0 < w % 8 → (y ≤ h) × (out ≡ planeAt w y (thresholdBit t gray) out₀)
+pub rows-some : {t w h : ℕ} {gray out₀ out : List ℕ} {y : ℕ} → 0 < w % 8 → (y ≤ h) × (out ≡ planeOnto w y (thresholdBit t gray) out₀)
     → RowsTo t w h gray out₀ out (y * w) (y * (w / 8 + 1)) y
 rows-some {t} {w} {h} {gray} {out₀} {out} {y} odd e =
     record { within = e .0; atIs = refl; toIs = ap (λ (n : ℕ). y * n) (omega arith); outIs = e .1 }
@@ -170,7 +170,7 @@ module _ {t w h : ℕ} {gray out₀ : List ℕ} (fits : PlaneFits w h (length gr
       let l : y * rowBytes w ≤ h * rowBytes w = mul-le-mul-right (rowBytes w) (r .within) in
       ap length (r .outIs) ∙ overlaid-length (byteAt w (thresholdBit t gray)) out₀ (y * rowBytes w) (omega (arith, fits .1))
 
-  pub rows-ended : h ≤ y → out ≡ planeAt w h (thresholdBit t gray) out₀
+  pub rows-ended : h ≤ y → out ≡ planeOnto w h (thresholdBit t gray) out₀
   rows-ended l =
       let e : y ≡ h = omega (arith, r .within) in
       r .outIs ∙ ap (λ (n : ℕ). overlaid (n * rowBytes w) (byteAt w (thresholdBit t gray)) out₀) e

@@ -10,13 +10,13 @@ ghost use Prim.Native.Nat.{_*_, _≤_};
 ghost use lib.ListN.{length};
 ghost use Rattle.rules.specs.Bits.{appended};
 ghost use Rattle.rules.specs.Rule.{dither};
-ghost use Rattle.rules.specs.Internal.Entry.{Tells, Where};
+ghost use Rattle.rules.specs.Internal.Entry.{TrueExactly, Where};
 ghost use Rattle.rules.specs.Internal.Kernels.{Packs, Diffusing, Diffuses, thresholdBit, thresholdBytes};
 ghost use Rattle.rules.specs.Internal.Row.{Filling, Bytes};
 
 // Whether n is at most a byte's dots, and the digits of the begun byte are at most eight.
 pub fn packs(begun: u32, n: usize) -> bool
-    ensures { λ r. ⌜ Tells (Packs begun n) r ⌝ }
+    ensures { λ r. ⌜ TrueExactly (Packs begun n) r ⌝ }
 {
     if 8 < n {
         return false;
@@ -26,7 +26,7 @@ pub fn packs(begun: u32, n: usize) -> bool
 
 // Whether n samples from a column on stay within the row, and the residuals within their range and the work buffer.
 fn diffusing(width: usize, column: usize, n: usize, begun: u32, corner: u32, work: usize) -> bool
-    ensures { λ r. ⌜ Tells (Diffusing width column n begun corner work) r ⌝ }
+    ensures { λ r. ⌜ TrueExactly (Diffusing width column n begun corner work) r ⌝ }
 {
     if n == 0 {
         return false;
@@ -55,7 +55,7 @@ fn filling(
     corner: u32,
     work: usize,
 ) -> bool
-    ensures { λ r. ⌜ Tells (Filling width column samples count corner work) r ⌝ }
+    ensures { λ r. ⌜ TrueExactly (Filling width column samples count corner work) r ⌝ }
 {
     if samples / 8 < count {
         return false;

@@ -8,7 +8,7 @@ ghost use Prim.Native.Nat.{_+_, _*_, _/_, _%_, _≤_, _<_};
 ghost use lib.ListN.{length};
 ghost use Rattle.image.specs.Geometry.{paddingMask};
 ghost use Rattle.rules.specs.Internal.Kernels.{thresholdBit};
-ghost use Rattle.rules.specs.Internal.Planes.{PlaneFits, planeAt, planeIn, endingByte, endedRow, maskedRow};
+ghost use Rattle.rules.specs.Internal.Planes.{PlaneFits, planeOnto, planeWhere, endingByte, endedRow, maskedRow};
 
 // A sample's dot as a bit of a byte.
 fn dot_bit(bound: u8, gray: &[u8], at: usize, bit: u8) -> u8
@@ -21,7 +21,7 @@ fn dot_bit(bound: u8, gray: &[u8], at: usize, bit: u8) -> u8
 // Rows of one sample: one flat loop, of which the compiler takes many samples at once.
 fn threshold_ones(bound: u8, height: usize, gray: &[u8], out: &mut [u8])
     requires { ⌜ PlaneFits 1 height (length (now gray)) (length (now out)) ⌝ }
-    ensures { λ r. ⌜ now (out .exit) ≡ planeAt 1 height (thresholdBit bound (now (gray .entry))) (now (out .entry)) ⌝ }
+    ensures { λ r. ⌜ now (out .exit) ≡ planeOnto 1 height (thresholdBit bound (now (gray .entry))) (now (out .entry)) ⌝ }
 {
     let mut i: usize = 0;
     while i < height {
@@ -33,7 +33,7 @@ fn threshold_ones(bound: u8, height: usize, gray: &[u8], out: &mut [u8])
 // Rows of two samples, likewise.
 fn threshold_pairs(bound: u8, height: usize, gray: &[u8], out: &mut [u8])
     requires { ⌜ PlaneFits 2 height (length (now gray)) (length (now out)) ⌝ }
-    ensures { λ r. ⌜ now (out .exit) ≡ planeAt 2 height (thresholdBit bound (now (gray .entry))) (now (out .entry)) ⌝ }
+    ensures { λ r. ⌜ now (out .exit) ≡ planeOnto 2 height (thresholdBit bound (now (gray .entry))) (now (out .entry)) ⌝ }
 {
     let mut i: usize = 0;
     while i < height {
@@ -99,7 +99,7 @@ fn narrow_rows(
     out: &mut [u8],
 ) -> usize
     requires { ⌜ PlaneFits width height (length (now gray)) (length (now out)) × ((2 < width) × (width < 5) × (mask ≡ paddingMask width)) ⌝ }
-    ensures { λ r. ⌜ (r ≤ height) × (now (out .exit) ≡ planeAt width r (thresholdBit bound (now (gray .entry))) (now (out .entry))) ⌝ }
+    ensures { λ r. ⌜ (r ≤ height) × (now (out .exit) ≡ planeOnto width r (thresholdBit bound (now (gray .entry))) (now (out .entry))) ⌝ }
 {
     let mut at: usize = 0;
     let mut y: usize = 0;
@@ -118,7 +118,7 @@ fn narrow_rows(
 // rows.
 fn wide_rows(bound: u8, width: usize, height: usize, mask: u8, gray: &[u8], out: &mut [u8]) -> usize
     requires { ⌜ PlaneFits width height (length (now gray)) (length (now out)) × ((2 < width) × (0 < width % 8) × (mask ≡ paddingMask width)) ⌝ }
-    ensures { λ r. ⌜ (r ≤ height) × (now (out .exit) ≡ planeAt width r (thresholdBit bound (now (gray .entry))) (now (out .entry))) ⌝ }
+    ensures { λ r. ⌜ (r ≤ height) × (now (out .exit) ≡ planeOnto width r (thresholdBit bound (now (gray .entry))) (now (out .entry))) ⌝ }
 {
     let count = width / 8;
     let mut at: usize = 0;
@@ -143,7 +143,7 @@ fn front_rows(
     out: &mut [u8],
 ) -> usize
     requires { ⌜ PlaneFits width height (length (now gray)) (length (now out)) × ((2 < width) × (0 < width % 8) × (mask ≡ paddingMask width)) ⌝ }
-    ensures { λ r. ⌜ (r ≤ height) × (now (out .exit) ≡ planeAt width r (thresholdBit bound (now (gray .entry))) (now (out .entry))) ⌝ }
+    ensures { λ r. ⌜ (r ≤ height) × (now (out .exit) ≡ planeOnto width r (thresholdBit bound (now (gray .entry))) (now (out .entry))) ⌝ }
 {
     if width < 5 {
         return narrow_rows(bound, width, height, mask, gray, out);
@@ -154,7 +154,7 @@ fn front_rows(
 // Rows that end inside a byte. The last dots of the last two rows are made one by one, as too few samples follow them.
 fn threshold_rows(bound: u8, width: usize, height: usize, mask: u8, gray: &[u8], out: &mut [u8])
     requires { ⌜ PlaneFits width height (length (now gray)) (length (now out)) × ((2 < width) × (0 < width % 8) × (mask ≡ paddingMask width)) ⌝ }
-    ensures { λ r. ⌜ now (out .exit) ≡ planeAt width height (thresholdBit bound (now (gray .entry))) (now (out .entry)) ⌝ }
+    ensures { λ r. ⌜ now (out .exit) ≡ planeOnto width height (thresholdBit bound (now (gray .entry))) (now (out .entry)) ⌝ }
 {
     let count = width / 8;
     let mut y = front_rows(bound, width, height, mask, gray, out);
@@ -170,7 +170,7 @@ fn threshold_rows(bound: u8, width: usize, height: usize, mask: u8, gray: &[u8],
 
 // The plane of a frame's samples, white from `bound` on, at the front of the output; nothing where samples or room are missing.
 pub fn threshold_plane(bound: u8, width: u32, height: u32, gray: &[u8], out: &mut [u8])
-    ensures { λ r. ⌜ now (out .exit) ≡ planeIn width height (thresholdBit bound (now (gray .entry))) (length (now (gray .entry))) (now (out .entry)) ⌝ }
+    ensures { λ r. ⌜ now (out .exit) ≡ planeWhere width height (thresholdBit bound (now (gray .entry))) (length (now (gray .entry))) (now (out .entry)) ⌝ }
 {
     let layout = PlaneLayout::new(width, height);
     let columns = width as usize;

@@ -20,12 +20,12 @@ abbrev pub plane : ℕ → ℕ → (ℕ → ℕ) → List ℕ
 plane w h d = upto (h * rowBytes w) (byteAt w d)
 
 -- the plane at the output's front
-abbrev pub planeAt : ℕ → ℕ → (ℕ → ℕ) → List ℕ → List ℕ
-planeAt w h d out = plane w h d ++ drop (h * rowBytes w) out
+abbrev pub planeOnto : ℕ → ℕ → (ℕ → ℕ) → List ℕ → List ℕ
+planeOnto w h d out = plane w h d ++ drop (h * rowBytes w) out
 
 -- the plane at the output's front, where there are samples and room for it, and otherwise the output as it was
-abbrev pub planeIn : ℕ → ℕ → (ℕ → ℕ) → ℕ → List ℕ → List ℕ
-planeIn w h d samples out = if (leb (w * h) samples && leb (h * rowBytes w) (length out)) (planeAt w h d out) out
+abbrev pub planeWhere : ℕ → ℕ → (ℕ → ℕ) → ℕ → List ℕ → List ℕ
+planeWhere w h d samples out = if (leb (w * h) samples && leb (h * rowBytes w) (length out)) (planeOnto w h d out) out
 
 -- there are samples and room for it
 abbrev pub PlaneFits : ℕ → ℕ → ℕ → ℕ → Type 0

@@ -11,7 +11,7 @@ use Rattle.laws.proofs.Products.{product-below}
 use Rattle.image.specs.Geometry.{rowBytes, planeBytes, paddingMask}
 use Rattle.image.specs.declared.PlaneLayout.{PlaneLayout}
 use Rattle.rules.specs.Internal.Kernels.{thresholdBit, stored}
-use Rattle.rules.specs.Internal.Planes.{PlaneFits, planeAt, planeIn}
+use Rattle.rules.specs.Internal.Planes.{PlaneFits, planeOnto, planeWhere}
 use Rattle.rules.proofs.PlaneWritten.{plane-in, plane-unread, plane-unheld, flat-there, flat-is}
 use Rattle.rules.proofs.plane.threshold_plane.Statement.{statement}
 use Rattle.rules.proofs.plane.threshold_plane.Tie as tie
@@ -32,19 +32,19 @@ fits e =
 
 -- the plane is there
 there : (e : tie.Else2) → let a = start (begun e) .args in
-    planeAt (a .width) (a .height) (thresholdBit (a .bound) (now (a .gray))) (now (a .out))
-    ≡ planeIn (a .width) (a .height) (thresholdBit (a .bound) (now (a .gray))) (length (now (a .gray))) (now (a .out))
+    planeOnto (a .width) (a .height) (thresholdBit (a .bound) (now (a .gray))) (now (a .out))
+    ≡ planeWhere (a .width) (a .height) (thresholdBit (a .bound) (now (a .gray))) (length (now (a .gray))) (now (a .out))
 there e =
     let a = start (begun e) .args in
     sym (plane-in (a .width) (a .height) (thresholdBit (a .bound) (now (a .gray))) (length (now (a .gray))) (now (a .out)) (fits e))
 
 -- it has rows of this width
 narrow : (e : tie.Else2) (w : ℕ) → let a = start (begun e) .args in
-    a .width ≡ w → planeAt w (a .height) (thresholdBit (a .bound) (now (a .gray))) (now (a .out))
-    ≡ planeIn (a .width) (a .height) (thresholdBit (a .bound) (now (a .gray))) (length (now (a .gray))) (now (a .out))
+    a .width ≡ w → planeOnto w (a .height) (thresholdBit (a .bound) (now (a .gray))) (now (a .out))
+    ≡ planeWhere (a .width) (a .height) (thresholdBit (a .bound) (now (a .gray))) (length (now (a .gray))) (now (a .out))
 narrow e w k =
     let a = start (begun e) .args in
-    ap (λ (n : ℕ). planeAt n (a .height) (thresholdBit (a .bound) (now (a .gray))) (now (a .out))) (sym k) ∙ there e
+    ap (λ (n : ℕ). planeOnto n (a .height) (thresholdBit (a .bound) (now (a .gray))) (now (a .out))) (sym k) ∙ there e
 
 narrow-fits : (e : tie.Else2) (w : ℕ) → let a = start (begun e) .args in
     a .width ≡ w → PlaneFits w (a .height) (length (now (a .gray))) (length (now (a .out)))
