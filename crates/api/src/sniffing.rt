@@ -22,7 +22,8 @@ fn eight_ends(body: &[u8], row: usize, at: usize) -> u8
     first | second
 }
 
-// Whether the padding of a body's whole rows is clear: the first row alone, since most other files fail there, then eight rows a turn, and then the others. `at` is the last byte of row y.
+// Whether the padding of a body's whole rows is clear: the first row alone, since most other files fail there, then eight rows a turn,
+// and then the others. `at` is the last byte of row y.
 fn are_clear(body: &[u8], row: usize, mask: u8) -> bool
     requires { ⌜ (0 < row) × (row ≤ length (now body)) ⌝ }
     ensures { λ r. ⌜ AreClear (now (body .entry)) row mask (length (now (body .entry)) / row) r ⌝ }

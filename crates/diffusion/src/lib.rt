@@ -1,4 +1,5 @@
-// Floyd and Steinberg's dithering of a whole plane: a row keeps for each column the sum of what it hands down, and what a dot hands on stands in tables.
+// Floyd and Steinberg's dithering of a whole plane: a row keeps for each column the sum of what it hands down, and what a dot hands on
+// stands in tables.
 mod ones;
 mod plane;
 mod row;

@@ -66,8 +66,8 @@ fn matching(side: u8, column: usize, n: usize, begun: u32) -> bool
     column <= 0xFFFF_FFFF_FFFF_FFFF - n
 }
 
-// The digits of `begun`, and then a dot for each sample, from a column of row y on. Answers `begun` where the side is unknown, there are more
-// than eight samples, the digits are more than a byte's, or a column passes 64 bits.
+// The digits of `begun`, and then a dot for each sample, from a column of row y on. Answers `begun` where the side is unknown, there
+// are more than eight samples, the digits are more than a byte's, or a column passes 64 bits.
 pub fn ordered_row_dots(
     table: &[u8; 64],
     side: u8,

@@ -1,6 +1,9 @@
 -- Floyd and Steinberg's dithering (document 01, quantize.rs: Dither).
--- A dot's value is its gray and what its neighbours handed it. It is white from 128 on. Its residual, the value less what is shown, 255 or 0, is handed on in sixteenths, each part rounded: 7 to the next dot of its row, and in the row below 3 to the dot before its column, 5 at its column, 1 after it.
--- Said from the side of the dot that receives: 7 sixteenths of the residual before it in its row, and of the row above, in the direction in which that row ran, 1 of the residual before it, 5 of that at its own column, 3 of that after it. Past an edge stands 0.
+-- A dot's value is its gray and what its neighbours handed it. It is white from 128 on. Its residual, the value less what is shown, 255
+-- or 0, is handed on in sixteenths, each part rounded: 7 to the next dot of its row, and in the row below 3 to the dot before its column,
+-- 5 at its column, 1 after it.
+-- Said from the side of the dot that receives: 7 sixteenths of the residual before it in its row, and of the row above, in the direction
+-- in which that row ran, 1 of the residual before it, 5 of that at its own column, 3 of that after it. Past an edge stands 0.
 use Prim.Native.Nat.{ℕ, zero, suc, _+_, _-_, _/_}
 use mathlib.Core.Bool.{Bool}
 use lib.Dec.{ltb}
@@ -54,7 +57,8 @@ abbrev pub visited : Direction → ℕ → ℕ → ℕ
 visited toRight w k = k
 visited toLeft w k = w - suc k
 
--- the value of the dot at column x, from the residual before it in its row; `e` is the direction of the row above, whose residuals are `above`
+-- the value of the dot at column x, from the residual before it in its row; `e` is the direction of the row above, whose
+-- residuals are `above`
 unfoldable pub valueFrom : Direction → ℕ → (ℕ → ℕ) → (ℕ → ℤ) → ℕ → ℤ → ℤ
 valueFrom e w gray above x previous = value (gray x) previous (before e w above x) (above x) (after e w above x)
 

@@ -51,7 +51,8 @@ const TOPS: u64 = 0x8080_8080_8080_8080;
 // The lowest bit of each byte.
 pub(crate) const ONES: u64 = 0x0101_0101_0101_0101;
 
-// The dots of eight samples, a byte each. The highest bit of a byte of `low` says whether the sample's other seven bits are at least those of `bound`.
+// The dots of eight samples, a byte each. The highest bit of a byte of `low` says whether the sample's other seven bits are at least
+// those of `bound`.
 fn compared(bound: u8, samples: u64) -> u64
     ensures { λ r. ⌜ Compares bound samples r ⌝ }
 {
@@ -62,7 +63,8 @@ fn compared(bound: u8, samples: u64) -> u64
     (samples & low & TOPS) >> 7
 }
 
-// Eight dots, a byte each, as one byte. In `halves` dot j of the lower half, from the lowest on, is bit 8 j, and that of the upper half bit 8 j + 4; the product brings them to bits 21 + j and 25 + j.
+// Eight dots, a byte each, as one byte. In `halves` dot j of the lower half, from the lowest on, is bit 8 j, and that of the upper half
+// bit 8 j + 4; the product brings them to bits 21 + j and 25 + j.
 pub(crate) fn gathered(dots: u64) -> u8
     ensures { λ r. ⌜ Gathers dots r ⌝ }
 {

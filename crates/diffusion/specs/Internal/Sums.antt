@@ -1,5 +1,7 @@
--- Dithering by sums. For each column the sum of the three parts that the row above hands down to it is kept, so that a dot reads one number and writes one.
--- Numbers are held shifted, so that none is below 0: k sixteenths of a residual plus 8 k, a sum of what is handed down plus 72, a residual plus 128 and a value plus 128.
+-- Dithering by sums. For each column the sum of the three parts that the row above hands down to it is kept, so that a dot reads one
+-- number and writes one.
+-- Numbers are held shifted, so that none is below 0: k sixteenths of a residual plus 8 k, a sum of what is handed down plus 72, a
+-- residual plus 128 and a value plus 128.
 use Prim.Native.Nat.{ℕ, zero, suc, _+_, _*_, _/_, _%_, _<_, _≤_}
 use mathlib.Core.Path.{_≡_}
 use mathlib.Core.List.{List}

@@ -33,8 +33,8 @@ Ends o bytes piece at r (HeadEnd.Done h) =
 Ends o bytes piece at r (HeadEnd.Refused e) =
     (map outline (readHeader o (bytes ++ piece)) ≡ refuses (e .code) (e .offset)) × (isEnd (e .code) ≡ false)
 
--- for whatever bytes the reader has taken; the extension bytes of the piece are stored behind those kept, and over a buffer that is short of
--- them nothing is done
+-- for whatever bytes the reader has taken; the extension bytes of the piece are stored behind those kept, and over a buffer that is
+-- short of them nothing is done
 pub record Heads (r₀ : HeaderReader) (at kept : ℕ) (piece ext : List ℕ) (r : HeadFed) (ext′ : List ℕ) : Type 0 where
   pub within : r .taken ≤ length piece
   pub short : length ext < 4118 → (r ≡ record { taken = 0; kept = kept; end = HeadEnd.More r₀ }) × (ext′ ≡ ext)
