@@ -55,7 +55,7 @@ use Rattle.rules.specs.Ordered.{bound, numbers}
 use Rattle.ordered.proofs.OrderedNumbers.{table, table-right, product-form}
 use Rattle.quantize.proofs.FinishedGrows.{finished-prefix}
 use Rattle.quantize.proofs.FramesJoined.{finished-behind, scans-more}
-use Rattle.rules.proofs.ResidualRange.{residual-within}
+use Rattle.dither.proofs.ResidualRange.{residual-within}
 use Rattle.decoder.specs.Body.{planeOf, framesIn}
 use Rattle.decoder.specs.Frames.{decoded}
 use Rattle.decoder.specs.Frames as Decoder

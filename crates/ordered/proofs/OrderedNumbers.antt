@@ -15,7 +15,7 @@ use Rattle.rules.specs.Bits.{upto}
 use Rattle.rules.specs.Ordered.{quarter, number, numbers, bound, cell, knownSide}
 use Rattle.ordered.specs.Internal.Sides.{Cell}
 use Rattle.laws.proofs.Tests.{lt-or-le}
-use Rattle.rules.proofs.Signed.{never}
+use Rattle.rules.proofs.EntryTold.{never}
 
 -- ---- the quarters
 

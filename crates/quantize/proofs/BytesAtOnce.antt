@@ -16,12 +16,12 @@ use Rattle.quantize.specs.declared.turn.BytesFilled.{BytesFilled}
 use Rattle.quantize.specs.declared.turn.Place.{Place}
 use Rattle.rules.specs.Rule.{Rule}
 use Rattle.quantize.specs.Finished.{Bytewise}
-use Rattle.rules.specs.Internal.Kernels.{Dots}
+use Rattle.dither.specs.Internal.Kernels.{Dots}
 use Rattle.quantize.specs.Internal.Turn.{ruleOf, Sound, Dotted, Advances, RowFilled}
-use Rattle.rules.specs.Internal.Row.{Bytes}
+use Rattle.dither.specs.Internal.Row.{Bytes}
 use Rattle.quantize.proofs.PlaceAdvanced.{advances-byte}
 use Rattle.rules.proofs.ListPiece.{piece, piece-length}
-use Rattle.rules.proofs.DitherDotsLoop.{dots-small}
+use Rattle.dither.proofs.DitherDotsLoop.{dots-small}
 use Rattle.quantize.proofs.TurnMoves.{Turn, turn-none, turn-turn, turn-byte}
 use Rattle.quantize.proofs.RunLoop.{Loop, loop-turn}
 use Rattle.quantize.proofs.TurnTakes.{piece-same}

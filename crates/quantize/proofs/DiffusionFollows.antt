@@ -14,11 +14,11 @@ use lib.ListN.{length, getD}
 use lib.Seq.{getD-set-same, getD-set-other}
 use Rattle.rules.specs.Diffusion.{Scan, Direction, toRight, toLeft, value, residual, onLeft, onRight, before, after, above}
 use Rattle.rules.specs.Diffusion.{valueAt, residualAt}
-use Rattle.rules.specs.Internal.Carry.{Carry, clamp, leftOf, cornerOf, overOf, valueOf, diffused}
+use Rattle.dither.specs.Internal.Carry.{Carry, clamp, leftOf, cornerOf, overOf, valueOf, diffused}
 use Rattle.quantize.specs.Internal.Engine.{Diffusion}
 use Rattle.laws.proofs.Tests.{lt-or-le}
-use Rattle.rules.proofs.HeldRange.{Held, within, held, clamp-same, clamp-held, residual-held}
-use Rattle.rules.proofs.CarryRead.{over-in, over-past, over-top}
+use Rattle.dither.proofs.HeldRange.{Held, within, held, clamp-same, clamp-held, residual-held}
+use Rattle.dither.proofs.CarryRead.{over-in, over-past, over-top}
 use Rattle.rules.proofs.DotCauses.{above-ext, residual-is, value-is, above-top}
 
 held-zero : Held (pos 0)

@@ -11,9 +11,9 @@ use lib.ListN.{length, length-append}
 use lib.Seq.{getD-append-seam}
 use Rattle.rules.specs.Diffusion.{Scan, Direction, toRight, residualAt, valueAt}
 use Rattle.quantize.specs.Finished.{frame}
-use Rattle.rules.specs.Internal.Carry.{Carry, valueOf, diffused}
+use Rattle.dither.specs.Internal.Carry.{Carry, valueOf, diffused}
 use Rattle.quantize.specs.Internal.Engine.{Diffusion}
-use Rattle.rules.proofs.HeldRange.{Held}
+use Rattle.dither.proofs.HeldRange.{Held}
 use Rattle.rules.proofs.PlaneBytes.{div-at, mod-at}
 use Rattle.quantize.proofs.Places.{next-row}
 use Rattle.quantize.proofs.DotsDepend.{place-of, earlier, residual-same}

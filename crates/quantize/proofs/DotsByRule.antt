@@ -11,12 +11,13 @@ use lib.ListN.{length, getD, take}
 use Rattle.error.specs.Choice.{if}
 use Rattle.options.specs.declared.Quantize.{Quantize}
 use Rattle.options.specs.declared.Quantize.the-variants.{Threshold, Dither, Ordered}
-use Rattle.rules.specs.declared.dither.RowDots.{RowDots}
+use Rattle.dither.specs.declared.dots.RowDots.{RowDots}
 use Rattle.rules.specs.Bits.{bit, appended}
 use Rattle.rules.specs.Ordered.{bound, knownSide}
 use Rattle.rules.specs.Rule.{threshold, ordered, meaning, knownRule, carries, enoughWork}
-use Rattle.rules.specs.Internal.Carry.{Carry, machineDot, next}
-use Rattle.rules.specs.Internal.Kernels.{rowCarry, rowBit, thresholdBit, carryOf, Diffuses}
+use Rattle.dither.specs.Internal.Carry.{Carry, machineDot, next}
+use Rattle.rules.specs.Internal.Kernels.{thresholdBit}
+use Rattle.dither.specs.Internal.Kernels.{rowCarry, rowBit, carryOf, Diffuses}
 use Rattle.ordered.specs.Internal.Sides.{orderedBit}
 use Rattle.quantize.specs.Internal.Turn.{ruleOf, Dotted, Served}
 use Rattle.rules.proofs.DigitsAppended.{appended-ext}

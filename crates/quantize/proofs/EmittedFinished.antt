@@ -19,10 +19,10 @@ use Rattle.rules.specs.Rule.{Rule, threshold, dither, ordered, rightwards, dot,
 use Rattle.quantize.specs.Finished.{Setting, Bytewise, count, frame, dotOf, finished}
 use Rattle.rules.specs.Packed.{byteAt}
 use Rattle.quantize.specs.Internal.Machine.{State, Step, byteStep, stepOf, carried, emitted}
-use Rattle.rules.specs.Internal.Carry.{machineDot, next}
+use Rattle.dither.specs.Internal.Carry.{machineDot, next}
 use Rattle.quantize.specs.Internal.Place.{begunBy, Begun}
 use Rattle.quantize.specs.Internal.Engine.{Begins, Keeps}
-use Rattle.rules.proofs.HeldRange.{Held}
+use Rattle.dither.proofs.HeldRange.{Held}
 use Rattle.quantize.proofs.Places.{bytewise, on-column, end-column, count-last, count-open}
 use Rattle.quantize.proofs.BytePacked.{begun-none, begun-ext, begun-more, byte-last, begun-on}
 use Rattle.quantize.proofs.MachineSteps.{last-or, byte-shut, byte-open, carry-after, carried-long}

@@ -12,8 +12,8 @@ use Rattle.rules.specs.Bits.{digits, upto}
 use Rattle.rules.specs.Rule.{threshold, dither}
 use Rattle.rules.specs.Internal.Kernels.{thresholdFrom, thresholdBytes}
 use Rattle.quantize.specs.Internal.Turn.{ruleOf, AtOnce, Fills}
-use Rattle.rules.specs.Internal.Row.{Bytes}
-use Rattle.rules.proofs.DitherBytesLoop.{bytes-none}
+use Rattle.dither.specs.Internal.Row.{Bytes}
+use Rattle.dither.proofs.DitherBytesLoop.{bytes-none}
 use Rattle.quantize.proofs.DotsByRule.{dots-threshold}
 use Rattle.rules.proofs.ListPiece.{piece}
 use Rattle.rules.proofs.StoredBytes.{digits-piece}

@@ -15,12 +15,12 @@ use Rattle.laws.proofs.Tests.{lt-or-le, if-true, if-false}
 use Rattle.rules.specs.Bits.{bit, appended}
 use Rattle.rules.specs.Rule.{Rule, threshold, dither, ordered}
 use Rattle.quantize.specs.Finished.{Setting, Bytewise, count}
-use Rattle.rules.specs.Internal.Carry.{Carry, machineDot, next}
+use Rattle.dither.specs.Internal.Carry.{Carry, machineDot, next}
 use Rattle.quantize.specs.Internal.Machine.{State, Step, lastOf, byteStep, stepOf, carried, emitted}
 use Rattle.quantize.specs.Internal.Place.{At}
-use Rattle.rules.specs.Internal.Kernels.{rowCarry, rowBit}
+use Rattle.dither.specs.Internal.Kernels.{rowCarry, rowBit}
 use Rattle.quantize.proofs.Places.{bytewise, count-last, count-open, column-is, frame-row-is, at-inside}
-use Rattle.rules.proofs.RowKept.{next-long}
+use Rattle.dither.proofs.RowKept.{next-long}
 
 or-true : (a : Bool) → (a || true) ≡ true
 or-true true = refl

@@ -14,13 +14,13 @@ use Rattle.options.specs.declared.Quantize.{Quantize}
 use Rattle.options.specs.declared.Quantize.the-variants.{Threshold, Dither, Ordered}
 use Rattle.rules.specs.Rule.{Rule, threshold, dither, ordered, rightwards, meaning, enoughWork}
 use Rattle.quantize.specs.Finished.{Setting, frame, dotOf, finished, setting}
-use Rattle.rules.specs.Internal.Carry.{Carry}
+use Rattle.dither.specs.Internal.Carry.{Carry}
 use Rattle.quantize.specs.Internal.Machine.{emitted}
-use Rattle.rules.specs.Internal.Kernels.{carryOf}
+use Rattle.dither.specs.Internal.Kernels.{carryOf}
 use Rattle.ordered.specs.Internal.Sides.{Table}
 use Rattle.quantize.specs.Internal.Engine.{Begins, Keeps, Holds, Tabled, Opens}
 use Rattle.laws.proofs.Octets.{octets-by}
-use Rattle.rules.proofs.HeldRange.{Held}
+use Rattle.dither.proofs.HeldRange.{Held}
 use Rattle.quantize.proofs.BytePacked.{begun-none}
 use Rattle.quantize.proofs.FinishedGrows.{finished-none}
 use Rattle.quantize.proofs.EmittedFinished.{kept}

@@ -10,12 +10,12 @@ use lib.IntN.{ℤ}
 use lib.ListN.{length}
 use lib.Pow.{pow-pos}
 use Rattle.options.specs.declared.Quantize.{Quantize}
-use Rattle.rules.specs.declared.dither.RowDots.{RowDots}
+use Rattle.dither.specs.declared.dots.RowDots.{RowDots}
 use Rattle.quantize.specs.declared.turn.Advanced.{Advanced}
 use Rattle.quantize.specs.declared.turn.Place.{Place}
 use Rattle.quantize.specs.Finished.{Setting}
 use Rattle.quantize.specs.Internal.Turn.{Dotted, Advancing, Advances, Takes}
-use Rattle.rules.proofs.Signed.{never}
+use Rattle.rules.proofs.EntryTold.{never}
 use Rattle.quantize.proofs.Places.{at-inside, at-row, at-frame}
 
 module _ (w h frames row column m digits corner byte : ℕ) (p : Advancing w h frames row column m digits)

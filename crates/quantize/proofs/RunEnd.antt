@@ -20,7 +20,7 @@ use Rattle.quantize.specs.Finished.{Setting, Bytewise, count, finished, 
 use Rattle.quantize.specs.Internal.Machine.{State, carried, emitted}
 use Rattle.quantize.specs.Internal.Turn.{stateOf, ruleOf, Sound, SamplesForByte, Served}
 use Rattle.quantize.specs.Internal.Engine.{Stands, Keeps, Holds, Counts, Machines, Defined, Ready, Runs, ranTo}
-use Rattle.rules.proofs.HeldRange.{Held}
+use Rattle.dither.proofs.HeldRange.{Held}
 use Rattle.quantize.proofs.DotsByRule.{enough-work-same}
 use Rattle.quantize.proofs.TakenMost.{takes-all, next-byte}
 use Rattle.quantize.proofs.MachineSteps.{emitted-count}

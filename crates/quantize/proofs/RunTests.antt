@@ -12,7 +12,7 @@ use Rattle.options.specs.declared.Quantize.{Quantize}
 use Rattle.rules.specs.Rule.{meaning, knownRule, enoughWork}
 use Rattle.quantize.specs.Internal.Turn.{Served, Sound, CanTake}
 use Rattle.laws.proofs.Tests.{lt-or-le}
-use Rattle.rules.proofs.Signed.{never}
+use Rattle.rules.proofs.EntryTold.{never}
 
 -- w numbers twice
 pub half-leb : (w n : ℕ) → leb w (n / 2) ≡ leb (2 * w) n

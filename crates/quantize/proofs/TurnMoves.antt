@@ -16,12 +16,12 @@ use Rattle.rules.specs.Bits.{appended}
 use Rattle.rules.specs.Rule.{Rule, meaning, carries}
 use Rattle.quantize.specs.Internal.Turn.{Served, stateOf, ruleOf, Sound, Dotted, Advances}
 use Rattle.quantize.specs.Finished.{Setting, Bytewise}
-use Rattle.rules.specs.Internal.Carry.{Carry}
+use Rattle.dither.specs.Internal.Carry.{Carry}
 use Rattle.quantize.specs.Internal.Machine.{State, carried, emitted}
 use Rattle.quantize.specs.Internal.Place.{At}
-use Rattle.rules.specs.Internal.Kernels.{rowCarry, rowBit, carryOf}
+use Rattle.dither.specs.Internal.Kernels.{rowCarry, rowBit, carryOf}
 use Rattle.quantize.proofs.DotsByRule.{carries-same}
-use Rattle.rules.proofs.RowKept.{row-beyond, row-long, row-spared}
+use Rattle.dither.proofs.RowKept.{row-beyond, row-long, row-spared}
 use Rattle.quantize.proofs.MachineSteps.{carried-add, emitted-add, part-on, part-last}
 
 -- a quantizer's setting, wherever it stands

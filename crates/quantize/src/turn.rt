@@ -1,9 +1,9 @@
 // A turn of the engine: whole bytes at once, then the samples of one byte.
+use dither::RowDots;
+use dither::dither_row_bytes;
+use dither::dither_row_dots;
 use options::Quantize;
 use ordered::ordered_row_dots;
-use rules::RowDots;
-use rules::dither_row_bytes;
-use rules::dither_row_dots;
 use rules::threshold_row_bytes;
 use rules::threshold_row_dots;
 ghost use mathlib.Core.Path.{_≡_};

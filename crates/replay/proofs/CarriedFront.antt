@@ -13,11 +13,11 @@ use lib.ListN.{length, getD, set, List·getD-append}
 use lib.Seq.{set-append-left}
 use Rattle.error.specs.Choice.{if}
 use Rattle.rules.specs.Bits.{bit}
-use Rattle.rules.specs.Internal.Carry.{clamp, Carry, leftOf, overOf, valueOf, diffused, machineDot, next}
+use Rattle.dither.specs.Internal.Carry.{clamp, Carry, leftOf, overOf, valueOf, diffused, machineDot, next}
 use Rattle.rules.specs.Diffusion.{toRight, white, residual}
 use Rattle.rules.specs.Rule.{Rule, threshold, dither, ordered, carries}
 use Rattle.quantize.specs.Finished.{Setting}
-use Rattle.rules.specs.Internal.Carry.{clamp, Carry, leftOf, overOf, valueOf, diffused, machineDot, next}
+use Rattle.dither.specs.Internal.Carry.{clamp, Carry, leftOf, overOf, valueOf, diffused, machineDot, next}
 use Rattle.quantize.specs.Internal.Machine.{State, Step, lastOf, byteStep, stepOf, carried}
 use Rattle.rules.specs.Rule.{Rule, threshold, dither, ordered}
 use Rattle.quantize.proofs.MachineSteps.{carried-long}

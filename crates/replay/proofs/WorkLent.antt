@@ -18,7 +18,7 @@ use Rattle.quantize.specs.declared.engine.Quantizer.{Quantizer}
 use Rattle.rules.specs.Rule.{carries, enoughWork, Rule, threshold, dither, ordered}
 use Rattle.quantize.specs.Internal.Engine.{Keeps, Holds as QHolds}
 use Rattle.quantize.specs.Finished.{Setting}
-use Rattle.rules.specs.Internal.Carry.{clamp}
+use Rattle.dither.specs.Internal.Carry.{clamp}
 use Rattle.quantize.specs.Internal.Turn.{stateOf}
 use Rattle.encode_session.specs.declared.EncodeSession.{EncodeSession}
 use Rattle.encode_session.specs.Model.{serves, settingOf, Model, feed, Told, fedBy, unaltered, outcome}

@@ -11,7 +11,7 @@ use borrow.Author.Tests.{lt-ltb, le-ltb, le-leb, lt-leb}
 use Rattle.laws.proofs.Tests.{lt-or-le}
 use Rattle.rules.specs.Diffusion.{round16, part, value, white, residual}
 use Rattle.rules.specs.Bits.{bit}
-use Rattle.rules.specs.Internal.Kernels.{DotMade}
+use Rattle.rules.specs.Internal.Held.{DotMade}
 
 pub sub-neg : (a b : ℕ) → a < b → subℕ a b ≡ negsuc (b - suc a)
 sub-neg a b h = rw (lt-ltb a b h)

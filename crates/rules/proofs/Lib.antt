@@ -1,20 +1,12 @@
 -- The laws that several proofs cite.
 pub mod Differences
-pub mod Signed
-pub mod HeldRange
 pub mod DigitsAppended
 pub mod ListPiece
-pub mod CarryRead
-pub mod DitherDotsLoop
 pub mod BelowGrows
-pub mod ResidualFreeBytes
 pub mod UptoList
-pub mod RowKept
-pub mod DitherBytesLoop
 pub mod EntryTold
 pub mod DotCauses
 pub mod StoredBytes
-pub mod ResidualRange
 pub mod Words
 pub mod WordCompared
 pub mod WordGathered

@@ -16,7 +16,7 @@ use Rattle.rules.specs.Diffusion.{Direction, Scan, onLeft, above, residualAt}
 use Rattle.rules.specs.Rule.{Rule, threshold, dither, ordered, rightwards, meaning, knownRule, carries, enoughWork}
 use Rattle.quantize.specs.Internal.Turn.{Served, stateOf, ruleOf}
 use Rattle.quantize.specs.Finished.{Setting, count, frame, dotOf, newly, takes, setting}
-use Rattle.rules.specs.Internal.Carry.{Carry, clamp}
+use Rattle.dither.specs.Internal.Carry.{Carry, clamp}
 use Rattle.quantize.specs.Internal.Machine.{State, carried, emitted}
 use Rattle.quantize.specs.Internal.Place.{At, Begun}
 

@@ -9,7 +9,7 @@ use Rattle.error.specs.Choice.{if}
 use Rattle.rules.specs.Bits.{bit}
 use Rattle.rules.specs.Rule.{Rule, threshold, dither, ordered}
 use Rattle.quantize.specs.Finished.{Setting}
-use Rattle.rules.specs.Internal.Carry.{Carry, machineDot, next}
+use Rattle.dither.specs.Internal.Carry.{Carry, machineDot, next}
 
 -- what is kept beside the place: the dots of the begun byte, as binary digits, and the residuals
 pub record State : Type 0 where

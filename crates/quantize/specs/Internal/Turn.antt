@@ -8,7 +8,7 @@ use lib.IntN.{ℤ}
 use lib.ListN.{length, take, drop}
 use Rattle.options.specs.declared.Quantize.{Quantize}
 use Rattle.options.specs.declared.Quantize.the-variants.{Threshold, Dither, Ordered}
-use Rattle.rules.specs.declared.dither.RowDots.{RowDots}
+use Rattle.dither.specs.declared.dots.RowDots.{RowDots}
 use Rattle.quantize.specs.declared.turn.Advanced.{Advanced}
 use Rattle.quantize.specs.declared.turn.Place.{Place}
 use Rattle.rules.specs.Bits.{digits}
@@ -17,8 +17,9 @@ use Rattle.quantize.specs.Finished.{Setting}
 use Rattle.quantize.specs.Internal.Machine.{State}
 use Rattle.quantize.specs.Internal.Place.{At}
 use Rattle.quantize.specs.declared.turn.BytesFilled.{BytesFilled}
-use Rattle.rules.specs.Internal.Kernels.{Dots, carryOf, Packs}
-use Rattle.rules.specs.Internal.Row.{Bytes}
+use Rattle.rules.specs.Internal.Kernels.{Packs}
+use Rattle.dither.specs.Internal.Kernels.{Dots, carryOf}
+use Rattle.dither.specs.Internal.Row.{Bytes}
 
 -- samples can be taken: the rule is known, and the work buffer long enough
 pub record Served (rule : Quantize) (w work : ℕ) : Type 0 where

@@ -6,7 +6,7 @@ use native.Mathlib.Omega.{arith}
 use borrow.Author.Needs.{needs}
 use borrow.Author.Tests.{not-true, not-false}
 use Rattle.rules.proofs.EntryTold.{told-no, told-le}
-use Rattle.rules.proofs.Signed.{never}
+use Rattle.rules.proofs.EntryTold.{never}
 use Rattle.ordered.proofs.dots.matching.Statement.{statement}
 use Rattle.ordered.proofs.dots.matching.Tie as tie
 

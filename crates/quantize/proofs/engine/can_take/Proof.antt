@@ -6,7 +6,7 @@ use native.Mathlib.Nat.{div-eq-of-lt}
 use native.Mathlib.Omega.{arith}
 use lib.Pow.{pow-pos}
 use borrow.Author.Tests.{not-true, not-false}
-use Rattle.rules.proofs.Signed.{never}
+use Rattle.rules.proofs.EntryTold.{never}
 use Rattle.quantize.proofs.RunTests.{denied, div-zero, can-take-if}
 use borrow.Author.Needs.{needs}
 use Rattle.quantize.proofs.engine.can_take.Statement.{statement}

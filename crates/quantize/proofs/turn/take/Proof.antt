@@ -3,7 +3,7 @@
 use mathlib.Core.Path.{refl}
 use borrow.Author.Needs.{needs}
 use denote.Ref.{now}
-use Rattle.rules.proofs.DitherDotsLoop.{dots-small}
+use Rattle.dither.proofs.DitherDotsLoop.{dots-small}
 use Rattle.quantize.proofs.PlaceAdvanced.{takes-dots}
 use Rattle.quantize.proofs.turn.take.Statement.{statement}
 use Rattle.quantize.proofs.turn.take.Tie as tie

@@ -1,7 +1,7 @@
 use Prim.Native.Nat.{_-_, _≤_}
 use native.Mathlib.Omega.{arith}
 use borrow.Author.Needs.{needs}
-use Rattle.rules.proofs.Signed.{never}
+use Rattle.rules.proofs.EntryTold.{never}
 use Rattle.quantize.proofs.whole.few_grays.Statement.{statement}
 use Rattle.quantize.proofs.whole.few_grays.Tie as tie
 

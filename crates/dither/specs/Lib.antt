@@ -1,0 +1,2 @@
+-- What the kernels promise.
+pub mod Internal
