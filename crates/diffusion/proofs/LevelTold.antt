@@ -14,6 +14,7 @@ use Rattle.rules.specs.Packed.{byteAt}
 use Rattle.rules.specs.Internal.Kernels.{thresholdBit, thresholdFrom}
 use Rattle.rules.specs.Internal.Planes.{PlainRow}
 use Rattle.rules.proofs.DigitsAppended.{bit-le, appended-lt, appended-ext}
+use Rattle.rules.proofs.PlainRowWritten.{row-plain, row-written}
 use Rattle.rules.proofs.UptoList.{upto-at, length-upto}
 use Rattle.diffusion.specs.Internal.Flow.{LevelFrom, LevelByte}
 use Rattle.diffusion.proofs.RowBytes.{byte-whole}
@@ -31,7 +32,7 @@ module _ (gray : List ℕ) (x : ℕ) (out out′ : List ℕ) (r : Bool) (p : Pla
 
   told : getD out′ 0 0 ≡ appended 0 d 8
   told =
-      ap (λ (l : List ℕ). getD l 0 0) (p .written e)
+      ap (λ (l : List ℕ). getD l 0 0) (row-written p e)
       ∙ List·getD-append (upto 1 (byteAt 8 d)) (drop 1 out) 0 0 (omega (arith, length-upto (byteAt 8 d) 1))
       ∙ upto-at (byteAt 8 d) 0 1 0 (omega arith)
       ∙ byte-whole 8 d 0 (omega arith)
@@ -49,7 +50,7 @@ module _ (gray : List ℕ) (x : ℕ) (out out′ : List ℕ) (r : Bool) (p : Pla
         sums = s;
         plain = λ i l.
             let k : 0 + i ≡ i = omega arith in
-            ap (λ (n : ℕ). n % 255) (same i l) ∙ subst (λ (n : ℕ). getD part n 0 % 255 ≡ 0) k (p .plain e i l);
+            ap (λ (n : ℕ). n % 255) (same i l) ∙ subst (λ (n : ℕ). getD part n 0 % 255 ≡ 0) k (row-plain p e i l);
         byteIs = told
             ∙ appended-ext 0 d (thresholdFrom 128 gray x) 8 (λ i l. ap (λ (n : ℕ). bit (leb 128 n)) (sym (same i l)));
       }

@@ -15,6 +15,7 @@ use Rattle.image.specs.Geometry.{rowBytes}
 use Rattle.rules.specs.Internal.Kernels.{thresholdBit}
 use Rattle.rules.specs.Internal.Planes.{PlainRow}
 use Rattle.rules.specs.Internal.Row.{Plain}
+use Rattle.rules.proofs.PlainRowWritten.{row-plain, row-written}
 use Rattle.diffusion.specs.Internal.Sums.{none, handedDown, sumsOf, Sums, Level}
 use Rattle.diffusion.specs.Internal.Rows.{grayOf, dotBy, rowOf, RowDithered}
 use Rattle.diffusion.specs.Internal.RowByRow.{handedTo, AllNone, RowBegun, RowNext}
@@ -58,8 +59,8 @@ module _ (gray : List ℕ) (work : List ℤ) (out′ : List ℕ) where
       record {
         beyond = refl;
         even = λ e. d;
-        plain = λ e. p .plain t;
-        written = λ e. row-alone w (thresholdBit 128 gray) out out′ n (p .written t);
+        plain = λ e. row-plain p t;
+        written = λ e. row-alone w (thresholdBit 128 gray) out out′ n (row-written p t);
         sums = λ e. zero-one (cc);
         same = λ e. zero-one (cc);
       }

@@ -15,6 +15,7 @@ use Rattle.rules.specs.Internal.Kernels.{thresholdBit}
 use Rattle.rules.specs.Internal.Planes.{PlainRow}
 use Rattle.rules.specs.Internal.Row.{Plain}
 use Rattle.rules.proofs.ListPiece.{piece, piece-length}
+use Rattle.rules.proofs.PlainRowWritten.{row-plain, row-written}
 use Rattle.diffusion.specs.Internal.Sums.{none, Sums}
 use Rattle.diffusion.specs.Internal.Rows.{rowOf}
 use Rattle.diffusion.specs.Internal.RowByRow.{handedTo, RowGiven, RowNext, PlaneLent, RowsWritten, PlainRows}
@@ -45,10 +46,10 @@ module _ {w h : ℕ} {gray out₀ out : List ℕ} {at to y : ℕ} (lent : PlaneL
   pub plain-more : ((n : ℕ) → getD gray n 0 < 256) → r ≡ true → PlainRow w (piece gray at w) (midOf to (to + rowBytes w - to) out) r new
       → RowsAt w h gray out₀ (λ x. none) (putMid to (to + rowBytes w - to) out new) (at + w) (to + rowBytes w) (y + 1)
   plain-more bytes e p =
-      let a : Plain row 0 (length row) = subst (λ (n : ℕ). Plain row 0 n) (sym row-is) (p .plain e) in
+      let a : Plain row 0 (length row) = subst (λ (n : ℕ). Plain row 0 n) (sym row-is) (row-plain p e) in
       let b : new ≡ rowOf (length row) (thresholdBit 128 row) =
       subst (λ (n : ℕ). new ≡ rowOf n (thresholdBit 128 row)) (sym row-is)
-      (row-alone w (thresholdBit 128 row) room new room-is (p .written e)) in
+      (row-alone w (thresholdBit 128 row) room new room-is (row-written p e)) in
       row-next lent i l bytes true [] refl true new [] (next-plain row [] new (row-bytes lent i l bytes) [] a b refl)
 
   pub plain-end : length new ≡ length (midOf to (to + rowBytes w - to) out)

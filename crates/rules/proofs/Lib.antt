@@ -15,4 +15,5 @@ pub mod UptoOverlaid
 pub mod PlaneBytes
 pub mod PlaneWritten
 pub mod WordPlain
+pub mod PlainFront
 pub mod PlainRowWritten

@@ -1,13 +1,13 @@
 -- A list whose front is overlaid with a function's values.
 -- Assumes nothing.
-use Prim.Native.Nat.{ℕ, zero, suc, _+_, _-_, _*_, _≤_, _<_}
+use Prim.Native.Nat.{ℕ, zero, suc, _+_, _*_, _≤_, _<_}
 use mathlib.Core.Path.{_≡_, refl, sym, ap, _∙_}
 use mathlib.Core.List.{List, [], _∷_, _++_}
-use native.Mathlib.Nat.{add-zero, add-suc}
+use native.Mathlib.Nat.{add-zero}
 use native.Mathlib.Numerals.{add-one}
 use native.Mathlib.Omega.{arith}
 use lib.ListN.{length, getD, drop, set, length-append, length-drop}
-use lib.Seq.{drop-cons, drop-drop, drop-append-add, append-snoc, set-at}
+use lib.Seq.{drop-cons, append-snoc, set-at}
 use Rattle.rules.specs.Bits.{upto, digits}
 use Rattle.rules.specs.Internal.Kernels.{thresholdFrom, stored}
 use Rattle.rules.proofs.UptoList.{length-upto}
@@ -22,16 +22,6 @@ module _ (f : ℕ → ℕ) (out : List ℕ) where
 
   pub overlaid-length : (n : ℕ) → n ≤ length out → length (overlaid n f out) ≡ length out
   overlaid-length n h = length-append (upto n f) (drop n out) ∙ simp (length-upto, length-drop) (omega arith)
-
-  -- what stands behind is as it was
-  pub overlaid-beyond : (n m : ℕ) → n ≤ m → drop m (overlaid n f out) ≡ drop m out
-  overlaid-beyond n m h =
-      let e : m ≡ length (upto n f) + (m - n) = omega (arith, length-upto f n) in
-      let k : n + (m - n) ≡ m = omega arith in
-      ap (λ (j : ℕ). drop j (overlaid n f out)) e
-      ∙ drop-append-add (upto n f) (drop n out) (m - n)
-      ∙ drop-drop (m - n) n out
-      ∙ ap (λ (j : ℕ). drop j out) k
 
   -- one value more
   pub overlaid-next : (n v : ℕ) → n < length out → v ≡ f n → set (overlaid n f out) n v ≡ overlaid (n + 1) f out

@@ -34,7 +34,8 @@ fn few(gray: &[u8], at: usize, count: usize) -> u64
 // The samples of a row from column `at` to its end, fewer than eight, and zeros behind them, as `word` has eight.
 fn ending_word(width: usize, gray: &[u8], at: usize) -> u64
     requires { ⌜ (at < width) × (width < at + 8) × (width ≤ length (now gray)) ⌝ }
-    ensures { λ r. ⌜ (r ≡ bytes (λ i. rowSample width (now (gray .entry)) (at + i)) 8) × Below 256 (λ i. rowSample width (now (gray .entry)) (at + i)) ⌝ }
+    ensures { λ r. ⌜ (r ≡ bytes (λ i. rowSample width (now (gray .entry)) (at + i)) 8)
+        × Below 256 (λ i. rowSample width (now (gray .entry)) (at + i)) ⌝ }
 {
     let count = width - at;
     let shift = (64 - 8 * count) as u32;
@@ -44,7 +45,8 @@ fn ending_word(width: usize, gray: &[u8], at: usize) -> u64
     few(gray, at, count) << shift
 }
 
-// Whether the first `width` samples are there, with room for their row, and black and white alone: then their row is written.
+// Whether the first `width` samples are there, with room for their row, and black and white alone. The row's bytes are written up to the
+// first that has a gray sample.
 pub fn plain_row(width: usize, gray: &[u8], out: &mut [u8]) -> bool
     ensures { λ r. ⌜ PlainRow width (now (gray .entry)) (now (out .entry)) r (now (out .exit)) ⌝ }
 {

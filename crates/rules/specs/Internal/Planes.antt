@@ -1,10 +1,10 @@
 -- What the functions promise that write whole planes, or whole rows, at once.
 use Prim.Native.Nat.{ℕ, _+_, _-_, _*_, _%_, _/_, _^_, _≤_}
 use mathlib.Core.Path.{_≡_}
-use mathlib.Core.Bool.{Bool, true, _&&_}
+use mathlib.Core.Bool.{Bool, _&&_}
 use mathlib.Core.List.{List, _++_}
 use lib.Bits.{bitAnd}
-use lib.Dec.{leb, ltb}
+use lib.Dec.{eqb, leb, ltb}
 use lib.ListN.{length, getD, drop, set}
 use Rattle.error.specs.Choice.{if}
 use Rattle.image.specs.Geometry.{rowBytes}
@@ -13,7 +13,7 @@ use Rattle.rules.specs.Diffusion.{Scan, white, valueAt}
 use Rattle.rules.specs.Packed.{byteAt}
 use Rattle.rules.specs.Rule.{rightwards}
 use Rattle.rules.specs.Internal.Kernels.{thresholdBit, thresholdFrom, stored}
-use Rattle.rules.specs.Internal.Row.{Plain}
+use Rattle.rules.specs.Internal.Row.{plainFront}
 
 -- the bytes of h rows of w dots, where the dot of sample n is d n
 abbrev pub plane : ℕ → ℕ → (ℕ → ℕ) → List ℕ
@@ -56,11 +56,12 @@ ditherBit w gray n = bit (white (valueAt rightwards w (scanOf w gray) (n % w) (n
 abbrev pub rowSample : ℕ → List ℕ → ℕ → ℕ
 rowSample w gray c = if (ltb c w) (getD gray c 0) 0
 
--- r says whether there are w samples, with room for their row, and they are black and white alone: then the row is written, white where a
--- sample is white
+-- how many bytes of a row of w, from the first on, have black and white samples alone: none where samples or room are missing
+abbrev pub plainBytes : ℕ → List ℕ → ℕ → ℕ
+plainBytes w gray room =
+    if (leb w (length gray) && leb (rowBytes w) room) (plainFront (rowSample w gray) (8 * rowBytes w) / 8) 0
+
+-- these bytes are written, white where a sample is white, and r says whether they are the whole row
 pub record PlainRow (w : ℕ) (gray out : List ℕ) (r : Bool) (out′ : List ℕ) : Type 0 where
-  pub beyond : drop (rowBytes w) out′ ≡ drop (rowBytes w) out
-  pub there : r ≡ true → (w ≤ length gray) × (rowBytes w ≤ length out)
-  pub plain : r ≡ true → Plain gray 0 w
-  pub all : w ≤ length gray → rowBytes w ≤ length out → Plain gray 0 w → r ≡ true
-  pub written : r ≡ true → out′ ≡ plane w 1 (thresholdBit 128 gray) ++ drop (rowBytes w) out
+  pub told : r ≡ eqb (plainBytes w gray (length out)) (rowBytes w)
+  pub written : out′ ≡ upto (plainBytes w gray (length out)) (byteAt w (thresholdBit 128 gray)) ++ drop (plainBytes w gray (length out)) out

@@ -85,7 +85,8 @@ returns-3 c =
     let i = w .before in
     let l = i .before in
     row-stopped (room l) (l .loop .inv .1) (w .word .result) (samplesFrom (gray l) (8 * l .loop .k)) (w .word .ensures .1)
-    (w .word .ensures .0) (held i) (p .plain-word .result) (p .plain-word .ensures) (not-true _ (c .if3 .taken))
+    (w .word .ensures .0) (held i) (p .plain-word .result) (p .plain-word .ensures) (not-true _ (c .if3 .taken)) (there l)
+    (omega (arith, i .loop-test .taken))
 
 gathered-requires : tie.Need-gathered-requires Inv-loop μ-loop
 gathered-requires c κs = search needs
@@ -145,7 +146,7 @@ returns-5 c =
     let l = a .before in
     row-stopped (room l) (ended a) (w .ending-word .result) (λ i. rowSample (width l) (gray l) (8 * (width l / 8) + i))
     (w .ending-word .ensures .1) (w .ending-word .ensures .0) (λ i _. refl) (p .plain-word2 .result) (p .plain-word2 .ensures)
-    (not-true _ (c .if5 .taken))
+    (not-true _ (c .if5 .taken)) (there l) (omega (arith, w .before .if4 .left))
 
 gathered-requires-2 : tie.Need-gathered-requires-2 Inv-loop μ-loop
 gathered-requires-2 c κs = search needs
