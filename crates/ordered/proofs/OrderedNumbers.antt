@@ -1,21 +1,22 @@
 -- The ordered numbers: the quarter rule, the table of 64, and the product form of the rule.
 -- Assumes nothing.
-use Prim.Native.Nat.{ℕ, zero, suc, _+_, _*_, _/_, _%_, _^_, _≤_, _<_}
+use Prim.Native.Nat.{ℕ, zero, suc, _+_, _-_, _*_, _/_, _%_, _^_, _≤_, _<_}
 use mathlib.Core.Path.{_≡_, refl, sym, ap, _∙_, subst}
 use mathlib.Core.Bool.{Bool, true, false, _||_}
 use mathlib.Core.Logic.{_⊎_, inl, inr, ⊎-elim}
-use mathlib.Core.List.{List, [], _∷_}
+use mathlib.Core.List.{List, [], _∷_, append-nil}
 use native.Mathlib.Nat.{div-eq-of-lt, div-add-mod', mod-lt, mul-le-mul, mul-le-mul-left, mul-suc, mul-comm, mul-assoc, pow-suc}
 use native.Mathlib.Omega.{arith}
-use lib.ListN.{take}
-use lib.Seq.{getD-take}
+use lib.ListN.{length, take, drop, replicate}
+use lib.Seq.{getD-take, take-at, drop-nil}
 use lib.Dec.{leb, eqb}
-use borrow.Author.Tests.{eqb-true, le-leb, lt-leb}
+use borrow.Author.Tests.{eqb-true, ne-eqb, le-leb, lt-leb}
 use Rattle.rules.specs.Bits.{upto}
-use Rattle.rules.specs.Ordered.{quarter, number, numbers, bound, cell, knownSide}
-use Rattle.ordered.specs.Internal.Sides.{Cell}
+use Rattle.rules.specs.Ordered.{quarter, number, numbers, exponent, bound, cell, knownSide}
+use Rattle.ordered.specs.Internal.Sides.{Cell, numberTable}
 use Rattle.laws.proofs.Tests.{lt-or-le}
 use Rattle.rules.proofs.EntryTold.{never}
+use Rattle.rules.proofs.UptoList.{length-upto}
 
 -- ---- the quarters
 
@@ -71,7 +72,10 @@ cell-one x y = record { small = omega arith; is = λ k e. go k e }
     go (suc k) e = let q = pow-suc 2 k in absurd (omega arith)
 
 four : (h : ℕ) → 4 * (h * h) ≡ (2 * h) * (2 * h)
-four h = let a : 2 * (2 * (h * h)) ≡ 4 * (h * h) = omega arith in sym a ∙ sym (mul-assoc 2 h (2 * h) ∙ ap (λ (t : ℕ). 2 * t) (sym (mul-assoc h 2 h) ∙ ap (λ (t : ℕ). t * h) (mul-comm h 2) ∙ mul-assoc 2 h h))
+four h =
+    let a : 2 * (2 * (h * h)) ≡ 4 * (h * h) = omega arith in
+    let b : h * (2 * h) ≡ 2 * (h * h) = sym (mul-assoc h 2 h) ∙ ap (λ (t : ℕ). t * h) (mul-comm h 2) ∙ mul-assoc 2 h h in
+    sym a ∙ sym (mul-assoc 2 h (2 * h) ∙ ap (λ (t : ℕ). 2 * t) b)
 
 area-half : (side : ℕ) → 4 * (side / 2 * (side / 2)) ≤ side * side
 area-half side =
@@ -105,13 +109,30 @@ cell-small s x y n h c = omega (arith, c .small, mul-le-mul {n₁ = s} {m₁ = s
 
 abbrev pub table : List ℕ
 table =
-    0 ∷ 32 ∷ 8 ∷ 40 ∷ 2 ∷ 34 ∷ 10 ∷ 42 ∷ 48 ∷ 16 ∷ 56 ∷ 24 ∷ 50 ∷ 18 ∷ 58 ∷ 26 ∷ 12 ∷ 44 ∷ 4 ∷ 36 ∷ 14 ∷ 46 ∷ 6 ∷ 38 ∷ 60 ∷ 28 ∷ 52 ∷ 20 ∷ 62 ∷ 30 ∷ 54 ∷ 22
-    ∷ 3 ∷ 35 ∷ 11 ∷ 43 ∷ 1 ∷ 33 ∷ 9 ∷ 41 ∷ 51 ∷ 19 ∷ 59 ∷ 27 ∷ 49 ∷ 17 ∷ 57 ∷ 25 ∷ 15 ∷ 47 ∷ 7 ∷ 39 ∷ 13 ∷ 45 ∷ 5 ∷ 37 ∷ 63 ∷ 31 ∷ 55 ∷ 23 ∷ 61 ∷ 29 ∷ 53 ∷ 21 ∷ []
+    0 ∷ 32 ∷ 8 ∷ 40 ∷ 2 ∷ 34 ∷ 10 ∷ 42 ∷ 48 ∷ 16 ∷ 56 ∷ 24 ∷ 50 ∷ 18 ∷ 58 ∷ 26
+    ∷ 12 ∷ 44 ∷ 4 ∷ 36 ∷ 14 ∷ 46 ∷ 6 ∷ 38 ∷ 60 ∷ 28 ∷ 52 ∷ 20 ∷ 62 ∷ 30 ∷ 54 ∷ 22
+    ∷ 3 ∷ 35 ∷ 11 ∷ 43 ∷ 1 ∷ 33 ∷ 9 ∷ 41 ∷ 51 ∷ 19 ∷ 59 ∷ 27 ∷ 49 ∷ 17 ∷ 57 ∷ 25
+    ∷ 15 ∷ 47 ∷ 7 ∷ 39 ∷ 13 ∷ 45 ∷ 5 ∷ 37 ∷ 63 ∷ 31 ∷ 55 ∷ 23 ∷ 61 ∷ 29 ∷ 53 ∷ 21 ∷ []
 
 -- the one computed test: the table follows the quarter rule
 pub table-right : table ≡ numbers 3
 unfolding numbers number upto
 table-right = refl
+
+-- it is taken for every side but 2 and 4
+pub table-other : (s : ℕ) → (s ≡ 2 → ⊥) → (s ≡ 4 → ⊥) → table ≡ numberTable (exponent s)
+table-other s h k = rw (ne-eqb s 2 h, ne-eqb s 4 k) (table-right ∙ sym (append-nil (numbers 3)))
+
+pub drop-replicate : {A : Type 0} (n m : ℕ) (a : A) → drop m (replicate n a) ≡ replicate (n - m) a
+drop-replicate zero m a = let e : 0 ≡ 0 - m = omega arith in drop-nil m ∙ ap (λ (k : ℕ). replicate k a) e
+drop-replicate (suc n) zero a = let e : suc n ≡ suc n - 0 = omega arith in ap (λ (k : ℕ). replicate k a) e
+drop-replicate (suc n) (suc m) a =
+    let e : n - m ≡ suc n - suc m = omega arith in
+    drop-replicate n m a ∙ ap (λ (k : ℕ). replicate k a) e
+
+numbers-length : (k : ℕ) → length (numbers k) ≡ 2 ^ k * 2 ^ k
+unfolding numbers
+numbers-length k = length-upto (λ i. number k (i % 2 ^ k) (i / 2 ^ k)) (2 ^ k * 2 ^ k)
 
 -- ---- the rule
 
@@ -125,6 +146,16 @@ pub known-side : (s : ℕ) → knownSide s ≡ true → (s ≡ 2) ⊎ ((s ≡ 4)
 known-side s e =
     ⊎-elim (λ h. inl (eqb-true s 2 h)) (λ h. inr (⊎-elim (λ k. inl (eqb-true s 4 k)) (λ k. inr (eqb-true s 8 k)) h))
     (or-three (eqb s 2) (eqb s 4) (eqb s 8) e)
+
+-- a known side's numbers stand at the front
+pub table-front : (s : ℕ) → knownSide s ≡ true → take (s * s) (numberTable (exponent s)) ≡ numbers (exponent s)
+table-front s h =
+    ⊎-elim (λ e. rw e (front 1))
+    (λ h. ⊎-elim (λ e. rw e (front 2)) (λ e. rw e (front 3)) h)
+    (known-side s h)
+  where
+    front : (k : ℕ) → take (2 ^ k * 2 ^ k) (numberTable k) ≡ numbers k
+    front k = take-at (numbers k) (replicate (64 - 2 ^ k * 2 ^ k) 0) (2 ^ k * 2 ^ k) (numbers-length k)
 
 pub known-small : (s : ℕ) → knownSide s ≡ true → (0 < s) × (s ≤ 8)
 known-small s h = ⊎-elim (λ e. rw e (omega arith)) (λ h. ⊎-elim (λ e. rw e (omega arith)) (λ e. rw e (omega arith)) h) (known-side s h)

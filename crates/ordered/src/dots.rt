@@ -76,7 +76,9 @@ pub fn ordered_row_dots(
     gray: &[u8],
     begun: u32,
 ) -> u32
-    ensures { λ r. ⌜ Where (Matching side column (length (now (gray .entry))) begun) (r ≡ appended begun (orderedBit side (now (table .entry)) y column (now (gray .entry))) (length (now (gray .entry)))) (r ≡ begun) ⌝ }
+    ensures { λ r. ⌜ Where (Matching side column (length (now (gray .entry))) begun)
+        (r ≡ appended begun (orderedBit side (now (table .entry)) y column (now (gray .entry))) (length (now (gray .entry))))
+        (r ≡ begun) ⌝ }
 {
     if matching(side, column, gray.len(), begun) {
         return ordered_dots(table, side, y, column, gray, begun);

@@ -1,8 +1,8 @@
 // The numbers of the sides 2, 4 and 8.
 ghost use mathlib.Core.Path.{_≡_};
 ghost use Prim.Native.Nat.{_≤_, _<_};
-ghost use Rattle.rules.specs.Ordered.{knownSide};
-ghost use Rattle.ordered.specs.Internal.Sides.{Cell, Filled, Table};
+ghost use Rattle.rules.specs.Ordered.{exponent, knownSide};
+ghost use Rattle.ordered.specs.Internal.Sides.{Cell, Filled, numberTable};
 
 // The numbers for side 8, row by row.
 const TABLE: [u8; 64] = [
@@ -89,7 +89,7 @@ fn cell(side: usize, x: usize, y: usize) -> usize
     }
 }
 
-// The numbers for a side, row by row, at the front.
+// The numbers for a side, row by row, at the front, and zeros behind them.
 fn filled(side: usize) -> [u8; 64]
     requires { ⌜ (0 < side) × (side ≤ 8) ⌝ }
     ensures { λ r. ⌜ Filled side r ⌝ }
@@ -117,9 +117,9 @@ pub fn known_side(side: u8) -> bool
     side == 8
 }
 
-// The numbers for the side 2, 4 or 8.
+// The numbers for the side 2, 4 or 8, row by row, at the front, and zeros behind them; for another side those of 8.
 pub fn numbers(side: u8) -> [u8; 64]
-    ensures { λ r. ⌜ Table side r ⌝ }
+    ensures { λ r. ⌜ r ≡ numberTable (exponent side) ⌝ }
 {
     if side == 2 {
         return filled(2);

@@ -7,17 +7,19 @@ use mathlib.Core.List.{List, [], _∷_, _++_}
 use native.Mathlib.Nat.{zero-mul, zero-mod, zero-div}
 use native.Mathlib.Omega.{arith}
 use lib.IntN.{pos, negsuc}
-use lib.ListN.{length, getD}
+use lib.ListN.{length, getD, take}
 use lib.Seq.{take-length}
 use lib.Pow.{pow-pos}
 use Rattle.options.specs.declared.Quantize.{Quantize}
 use Rattle.options.specs.declared.Quantize.the-variants.{Threshold, Dither, Ordered}
+use Rattle.rules.specs.Ordered.{exponent}
 use Rattle.rules.specs.Rule.{Rule, threshold, dither, ordered, rightwards, meaning, enoughWork}
 use Rattle.quantize.specs.Finished.{Setting, frame, dotOf, finished, setting}
 use Rattle.dither.specs.Internal.Carry.{Carry}
 use Rattle.quantize.specs.Internal.Machine.{emitted}
 use Rattle.dither.specs.Internal.Kernels.{carryOf}
-use Rattle.ordered.specs.Internal.Sides.{Table}
+use Rattle.ordered.specs.Internal.Sides.{numberTable}
+use Rattle.ordered.proofs.OrderedNumbers.{table-front}
 use Rattle.quantize.specs.Internal.Engine.{Begins, Keeps, Holds, Tabled, Opens}
 use Rattle.laws.proofs.Octets.{octets-by}
 use Rattle.dither.proofs.HeldRange.{Held}
@@ -34,8 +36,10 @@ tabled-threshold rule t table e = subst (λ (r : Quantize). Tabled r table) (sym
 pub tabled-dither : (rule : Quantize) (table : List ℕ) → rule ≡ Dither → Tabled rule table
 tabled-dither rule table e = subst (λ (r : Quantize). Tabled r table) (sym e) (λ k. refl)
 
-pub tabled-ordered : (rule : Quantize) (side : ℕ) (table : List ℕ) → rule ≡ Ordered side → Table side table → Tabled rule table
-tabled-ordered rule side table e h = subst (λ (r : Quantize). Tabled r table) (sym e) (λ k. ap (ordered side) (h k))
+pub tabled-ordered : (rule : Quantize) (side : ℕ) (table : List ℕ) → rule ≡ Ordered side → table ≡ numberTable (exponent side)
+    → Tabled rule table
+tabled-ordered rule side table e h =
+    subst (λ (r : Quantize). Tabled r table) (sym e) (λ k. ap (ordered side) (ap (take (side * side)) h ∙ table-front side k))
 
 -- ---- the first place
 

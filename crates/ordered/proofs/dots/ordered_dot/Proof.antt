@@ -19,7 +19,10 @@ mul-if1 : tie.Need-mul-if1
 mul-if1 c = omega (arith, area-le (c .args .side) (known-small (c .args .side) (c .pre) .1))
 
 mul-if1-2 : tie.Need-mul-if1-2
-mul-if1-2 c = let s = c .args .side in omega (arith, area-le s (known-small s (c .pre) .1), mul-le-mul {n₁ = c .args .gray} {m₁ = s * s} {n₂ = 255} {m₂ = 64} (omega arith) (area-le s (known-small s (c .pre) .1)))
+mul-if1-2 c =
+    let s = c .args .side in
+    let a = area-le s (known-small s (c .pre) .1) in
+    omega (arith, a, mul-le-mul {n₁ = c .args .gray} {m₁ = s * s} {n₂ = 255} {m₂ = 64} (omega arith) a)
 
 returns : tie.Need-returns
 returns c = let a = c .before .args in bit-yes _ _ (product-white (a .side) (a .n) (a .gray) (c .before .pre) (c .if1 .taken))

@@ -14,7 +14,8 @@ use Rattle.ordered.proofs.dots.ordered_dots.Statement.{statement}
 use Rattle.ordered.proofs.dots.ordered_dots.Tie as tie
 
 abbrev Inv-loop : tie.InvT-loop
-Inv-loop table side y column gray begun digits₀ i₀ digits i = (i ≤ length gray) × (digits ≡ appended begun (orderedBit side table y column gray) i)
+Inv-loop table side y column gray begun digits₀ i₀ digits i =
+    (i ≤ length gray) × (digits ≡ appended begun (orderedBit side table y column gray) i)
 
 abbrev μ-loop : tie.MeasureT-loop
 μ-loop table side y column gray begun digits₀ i₀ digits i = length gray - i
@@ -37,13 +38,15 @@ dot-is : (c : tie.After-ordered-dot Inv-loop μ-loop) →
 dot-is c =
     let l = c .before .before .before .before in
     let a = start l .args in
-    c .ordered-dot .ensures ∙ ap (λ (n : ℕ). bit (leb (bound (a .side) n) (getD (now (a .gray)) (l .loop .i) 0))) (c .before .before .cell-at .ensures)
+    c .ordered-dot .ensures
+    ∙ ap (λ (n : ℕ). bit (leb (bound (a .side) n) (getD (now (a .gray)) (l .loop .i) 0))) (c .before .before .cell-at .ensures)
 
 dot-le : (c : tie.After-ordered-dot Inv-loop μ-loop) → c .ordered-dot .result ≤ 1
 dot-le c =
     let l = c .before .before .before .before in
     let a = start l .args in
-    subst (λ (n : ℕ). n ≤ 1) (sym (dot-is c)) (bit-le (leb (bound (a .side) (cell (a .side) (now (a .table)) (a .column + l .loop .i) (a .y))) (getD (now (a .gray)) (l .loop .i) 0)))
+    subst (λ (n : ℕ). n ≤ 1) (sym (dot-is c))
+    (bit-le (leb (bound (a .side) (cell (a .side) (now (a .table)) (a .column + l .loop .i) (a .y))) (getD (now (a .gray)) (l .loop .i) 0)))
 
 loop-holds : tie.Need-loop-holds Inv-loop μ-loop
 unfolding appended
@@ -77,7 +80,9 @@ loop-again : tie.Need-loop-again Inv-loop μ-loop
 loop-again c =
     let l = c .before .before .before .before in
     let a = start l .args in
-    (omega arith, one-more (a .begun) (orderedBit (a .side) (now (a .table)) (a .y) (a .column) (now (a .gray))) (l .loop .i) (l .loop .digits) (c .ordered-dot .result) (l .loop .inv .1) (dot-is c))
+    let more = one-more (a .begun) (orderedBit (a .side) (now (a .table)) (a .y) (a .column) (now (a .gray))) (l .loop .i) (l .loop .digits)
+    (c .ordered-dot .result) (l .loop .inv .1) (dot-is c) in
+    (omega arith, more)
 
 returns : tie.Need-returns Inv-loop μ-loop
 returns c =

@@ -34,7 +34,9 @@ half t c = omega (arith, c .before .if1 .left, c .before .before .pre)
 small : (t : ℕ) (c : Called t) → c .cell .result < 16
 small t c = cell-small _ _ _ _ (omega (arith, c .before .before .pre)) (c .cell .ensures)
 
-more : (t : ℕ) (c : Called t) (q : ℕ) → q ≤ 3 → let a = c .before .before .args in q ≡ quarter (a .x / (a .side / 2)) (a .y / (a .side / 2)) → Cell (a .side) (a .x) (a .y) (4 * c .cell .result + q)
+more : (t : ℕ) (c : Called t) (q : ℕ) → q ≤ 3
+    → let a = c .before .before .args in
+    q ≡ quarter (a .x / (a .side / 2)) (a .y / (a .side / 2)) → Cell (a .side) (a .x) (a .y) (4 * c .cell .result + q)
 more t c q h e =
     let a = c .before .before .args in
     cell-more (a .side) (a .x) (a .y) (c .cell .result) q (c .before .if1 .left) (c .before .before .pre .1 .0) (c .cell .ensures) h e
@@ -51,7 +53,9 @@ cell-rem-cell-2 t c = omega (arith, c .if1 .left, c .before .pre)
 
 cell-cell-requires :
     (t : ℕ) → cell-lts.Need-cell-requires (cell-below t, cell.Post) (cell-at t) cell.Post
-cell-cell-requires t c κs = let p = c .before .pre in (omega (arith, c .if1 .left), (omega (arith, c .if1 .left), omega (arith, c .if1 .left)))
+cell-cell-requires t c κs =
+    let p = c .before .pre in
+    (omega (arith, c .if1 .left), (omega (arith, c .if1 .left), omega (arith, c .if1 .left)))
 
 cell-mul-result :
     (t : ℕ) → cell-lts.Need-mul-result (cell-below t, cell.Post) (cell-at t) cell.Post
@@ -82,16 +86,22 @@ cell-add-result-3 :
 cell-add-result-3 t c = omega (arith, small t (c .before .before))
 
 cell-returns-2 : (t : ℕ) → cell-lts.Need-returns-2 (cell-below t, cell.Post) (cell-at t) cell.Post
-cell-returns-2 t c = let a = c .before .before .before .before .args in subst (λ (n : ℕ). Cell (a .side) (a .x) (a .y) n) (add-zero (4 * c .before .before .cell .result)) (more t (c .before .before) 0 (omega arith) (upper-left _ _ _ (half t (c .before .before)) (c .if3 .taken) (c .before .if2 .taken)))
+cell-returns-2 t c =
+    let a = c .before .before .before .before .args in
+    subst (λ (n : ℕ). Cell (a .side) (a .x) (a .y) n) (add-zero (4 * c .before .before .cell .result))
+    (more t (c .before .before) 0 (omega arith) (upper-left _ _ _ (half t (c .before .before)) (c .if3 .taken) (c .before .if2 .taken)))
 
 cell-returns-3 : (t : ℕ) → cell-lts.Need-returns-3 (cell-below t, cell.Post) (cell-at t) cell.Post
-cell-returns-3 t c = more t (c .before .before) 2 (omega arith) (upper-right _ _ _ (half t (c .before .before)) (c .if3 .left) (c .before .if2 .taken))
+cell-returns-3 t c =
+    more t (c .before .before) 2 (omega arith) (upper-right _ _ _ (half t (c .before .before)) (c .if3 .left) (c .before .if2 .taken))
 
 cell-returns-4 : (t : ℕ) → cell-lts.Need-returns-4 (cell-below t, cell.Post) (cell-at t) cell.Post
-cell-returns-4 t c = more t (c .before .before) 3 (omega arith) (lower-left _ _ _ (half t (c .before .before)) (c .if4 .taken) (c .before .if2 .left))
+cell-returns-4 t c =
+    more t (c .before .before) 3 (omega arith) (lower-left _ _ _ (half t (c .before .before)) (c .if4 .taken) (c .before .if2 .left))
 
 cell-returns-5 : (t : ℕ) → cell-lts.Need-returns-5 (cell-below t, cell.Post) (cell-at t) cell.Post
-cell-returns-5 t c = more t (c .before .before) 1 (omega arith) (lower-right _ _ _ (half t (c .before .before)) (c .if4 .left) (c .before .if2 .left))
+cell-returns-5 t c =
+    more t (c .before .before) 1 (omega arith) (lower-right _ _ _ (half t (c .before .before)) (c .if4 .left) (c .before .if2 .left))
 
 pub +cell-spec : {M : Type 1} → statement M
 +cell-spec =

@@ -2,17 +2,22 @@
 -- Assumes nothing.
 use Prim.Native.Nat.{ℕ, _-_, _*_, _/_, _%_, _^_, _≤_}
 use mathlib.Core.Path.{_≡_, refl, ap, _∙_, subst}
+use mathlib.Core.List.{List, _++_}
 use native.Mathlib.Omega.{arith}
-use lib.ListN.{length, take, length-set}
-use Rattle.rules.specs.Bits.{upto}
+use lib.ListN.{length, set, replicate, length-set}
 use Rattle.rules.specs.Ordered.{number, numbers}
-use Rattle.rules.proofs.UptoList.{take-more}
-use Rattle.ordered.proofs.OrderedNumbers.{area-le}
+use Rattle.rules.proofs.UptoOverlaid.{overlaid, overlaid-none, overlaid-next}
+use Rattle.ordered.proofs.OrderedNumbers.{area-le, drop-replicate}
 use Rattle.ordered.proofs.table.filled.Statement.{statement}
 use Rattle.ordered.proofs.table.filled.Tie as tie
 
+-- the number at index j for the side 2 ^ k
+abbrev numberAt : ℕ → ℕ → ℕ
+numberAt k j = number k (j % 2 ^ k) (j / 2 ^ k)
+
 abbrev Inv-loop : tie.InvT-loop
-Inv-loop side table₀ area i₀ table i = (i ≤ area) × ((length table ≡ 64) × ((k : ℕ) → side ≡ 2 ^ k → take i table ≡ upto i (λ j. number k (j % 2 ^ k) (j / 2 ^ k))))
+Inv-loop side table₀ area i₀ table i =
+    (i ≤ area) × ((length table ≡ 64) × ((k : ℕ) → side ≡ 2 ^ k → table ≡ overlaid i (numberAt k) (replicate 64 0)))
 
 abbrev μ-loop : tie.MeasureT-loop
 μ-loop side table₀ area i₀ table i = area - i
@@ -21,8 +26,7 @@ mul-area : tie.Need-mul-area Inv-loop μ-loop
 mul-area c = omega (arith, area-le (c .args .side) (c .pre .1))
 
 loop-holds : tie.Need-loop-holds Inv-loop μ-loop
-unfolding upto
-loop-holds c = (omega arith, (refl, λ k e. refl))
+loop-holds c = (omega arith, (refl, λ k e. overlaid-none (numberAt k) (replicate 64 0)))
 
 rem-cell : tie.Need-rem-cell Inv-loop μ-loop
 rem-cell c = omega arith
@@ -53,7 +57,9 @@ loop-again c =
       omega arith,
       (
         length-set (l .loop .table) (l .loop .i) (c .cell .result) ∙ v .0,
-        λ k e. take-more (l .loop .table) (l .loop .i) (c .cell .result) (λ j. number k (j % 2 ^ k) (j / 2 ^ k)) (omega (arith, v .0, area-le s (l .before .pre .1))) (v .1 k e)
+        λ k e.
+            ap (λ (t : List ℕ). set t (l .loop .i) (c .cell .result)) (v .1 k e)
+            ∙ overlaid-next (numberAt k) (replicate 64 0) (l .loop .i) (c .cell .result) (omega (arith, area-le s (l .before .pre .1)))
             (subst (λ (t : ℕ). c .cell .result ≡ number k (l .loop .i % t) (l .loop .i / t)) e (c .cell .ensures .is k e)),
       ),
     )
@@ -64,8 +70,10 @@ returns c = λ k e.
     let l = c .before in
     let s = l .before .args .side in
     let n : l .loop .i ≡ s * s = omega arith in
-    subst (λ (t : ℕ). take t (l .loop .table) ≡ upto t (λ j. number k (j % 2 ^ k) (j / 2 ^ k))) n (l .loop .inv .1 .1 k e)
-    ∙ ap (λ (t : ℕ). upto (t * t) (λ j. number k (j % 2 ^ k) (j / 2 ^ k))) e
+    l .loop .inv .1 .1 k e
+    ∙ ap (λ (t : ℕ). overlaid t (numberAt k) (replicate 64 0)) n
+    ∙ ap (λ (t : ℕ). overlaid (t * t) (numberAt k) (replicate 64 0)) e
+    ∙ ap (λ (z : List ℕ). numbers k ++ z) (drop-replicate 64 (2 ^ k * 2 ^ k) 0)
 
 pub filled-spec : {M : Type 1} → statement M
 filled-spec =

@@ -1,8 +1,7 @@
 -- `ordered::table::numbers` meets its contract: the table for side 8 by its computed test, the others by the quarter rule.
 -- Assumes nothing.
 use mathlib.Core.Path.{refl}
-use mathlib.Core.Logic.{⊎-elim}
-use Rattle.ordered.proofs.OrderedNumbers.{known-side, table-right}
+use Rattle.ordered.proofs.OrderedNumbers.{table-other}
 use borrow.Author.Needs.{needs}
 use Rattle.ordered.proofs.table.numbers.Statement.{statement}
 use Rattle.ordered.proofs.table.numbers.Tie as tie
@@ -11,16 +10,16 @@ filled-requires : tie.Need-filled-requires
 filled-requires c κs = search needs
 
 returns : tie.Need-returns
-returns c = λ h. rw (c .before .if1 .taken) (c .filled .ensures 1 refl)
+returns c = rw (c .before .if1 .taken) (c .filled .ensures 1 refl)
 
 filled-requires-2 : tie.Need-filled-requires-2
 filled-requires-2 c κs = search needs
 
 returns-2 : tie.Need-returns-2
-returns-2 c = λ h. rw (c .before .if2 .taken) (c .filled2 .ensures 2 refl)
+returns-2 c = rw (c .before .if2 .taken) (c .filled2 .ensures 2 refl)
 
 returns-3 : tie.Need-returns-3
-returns-3 c = λ h. ⊎-elim (λ e. absurd (c .before .if1 .left e)) (λ h. ⊎-elim (λ e. absurd (c .if2 .left e)) (λ e. rw e table-right) h) (known-side _ h)
+returns-3 c = table-other _ (c .before .if1 .left) (c .if2 .left)
 
 pub numbers-spec : {M : Type 1} → statement M
 numbers-spec = tie.close (tie.spec filled-requires returns filled-requires-2 returns-2 returns-3)
