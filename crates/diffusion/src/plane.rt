@@ -1,5 +1,6 @@
 // A whole plane, row by row.
 use crate::ones::dither_ones;
+use crate::pairs::dither_pairs;
 use crate::rows::plain_rows;
 use crate::rows::rows_from;
 ghost use Rattle.diffusion.specs.Internal.Rows.{DitherPlane};
@@ -26,6 +27,10 @@ pub fn dither_plane(width: u32, height: u32, gray: &[u8], work: &mut [i16], out:
     }
     if columns == 1 {
         dither_ones(rows, gray, out);
+        return;
+    }
+    if columns == 2 {
+        dither_pairs(rows, gray, out);
         return;
     }
     let first = plain_rows(columns, rows, gray, out);
