@@ -51,10 +51,10 @@ module _ (first second left right : ℕ) (r : PairRow) where
   -- its samples are black and white, and nothing is handed to them
   pub pair-level : first < 256 → second < 256 → LevelPair first second left right
       → r .byte ≡ 128 * (first / 128) + 64 * (second / 128) → r .left ≡ 72 → r .right ≡ 72 → PairDithered first second left right r
-  unfolding either
   pair-level f s l b p q =
       let level : (x : ℕ) → x < 2 → sums x ≡ none = (λ x k. either-is left right none x (l .leftIs) (l .rightIs)) in
-      let plain : (x : ℕ) → x < 2 → (shades x < 256) × (shades x % 255 ≡ 0) = (λ x k. either-plain first second x (f, l .firstPlain) (s, l .secondPlain)) in
+      let plain : (x : ℕ) → x < 2 → (shades x < 256) × (shades x % 255 ≡ 0) =
+      (λ x k. either-plain first second x (f, l .firstPlain) (s, l .secondPlain)) in
       let v = valueBy-level 2 shades sums level plain 0 (omega arith) in
       let u = valueBy-level 2 shades sums level plain 1 (omega arith) in
       record {
@@ -79,7 +79,8 @@ module _ (first second left right : ℕ) (r : PairRow) where
     b = u % 256 + u / 256
 
     pub pair-made : p7 ≡ partOf 7 a → p5 ≡ partOf 5 a → p3 ≡ partOf 3 b → p1 ≡ partOf 1 a → q5 ≡ partOf 5 b
-        → r .byte ≡ 128 * (v / 256) + 64 * (u / 256) → r .left ≡ 8 + p5 + p3 → r .right ≡ p1 + q5 + 24 → PairDithered first second left right r
+        → r .byte ≡ 128 * (v / 256) + 64 * (u / 256) → r .left ≡ 8 + p5 + p3 → r .right ≡ p1 + q5 + 24
+        → PairDithered first second left right r
     unfolding either handedRight valueBy restOf restBy restBefore restAfter handedDown partOf
     pair-made e7 e5 e3 e1 f5 eb el er =
         let f : valueBy shades sums 1 ≡ u = ap (λ (n : ℕ). second + right + n) (sym e7) in

@@ -8,7 +8,8 @@ ghost use Rattle.diffusion.specs.Internal.Rows.{DitherPlane};
 // Packs width × height gray samples into the plane's rows, dithered, at the front of the lent output,
 // where there are so many samples, room, and `width` numbers of work. Otherwise nothing is altered.
 pub fn dither_plane(width: u32, height: u32, gray: &[u8], work: &mut [i16], out: &mut [u8])
-    ensures { λ r. ⌜ DitherPlane width height (now (gray .entry)) (now (out .entry)) (now (work .entry)) (now (out .exit)) (now (work .exit)) ⌝ }
+    ensures { λ r. ⌜ DitherPlane width height (now (gray .entry)) (now (out .entry)) (now (work .entry)) (now (out .exit))
+        (now (work .exit)) ⌝ }
 {
     let columns = width as usize;
     let rows = height as usize;

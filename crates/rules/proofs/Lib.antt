@@ -18,6 +18,7 @@ pub mod ResidualRange
 pub mod Words
 pub mod WordCompared
 pub mod WordGathered
+pub mod WordBackwards
 pub mod RuleAsked
 pub mod UptoOverlaid
 pub mod PlaneBytes

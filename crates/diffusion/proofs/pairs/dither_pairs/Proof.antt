@@ -46,12 +46,12 @@ dither-pair-requires : tie.Need-dither-pair-requires Inv-loop μ-loop
 dither-pair-requires c κs = pairs-small (c .before .before .before .loop .inv)
 
 slice-write-out : tie.Need-slice-write-out Inv-loop μ-loop
-slice-write-out c = 
+slice-write-out c =
     let q = c .before .before .before in
     omega (arith, start q .pre .room, q .before .loop .inv .written .long, q .loop-test .taken)
 
 add-y : tie.Need-add-y Inv-loop μ-loop
-add-y c = 
+add-y c =
     let q = c .before .before .before in
     omega (arith, q .loop-test .taken, start q .fits .height)
 
@@ -59,7 +59,7 @@ loop-less : tie.Need-loop-less Inv-loop μ-loop
 loop-less c = omega (arith, c .before .before .before .loop-test .taken)
 
 loop-again : tie.Need-loop-again Inv-loop μ-loop
-loop-again c = 
+loop-again c =
     let q = c .before .before .before in
     pairs-next (q .before .loop .inv) (bytes q) (c .dither-pair .result) (c .dither-pair .ensures) (q .loop-test .taken) (start q .pre)
 
