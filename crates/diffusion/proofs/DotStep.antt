@@ -14,7 +14,7 @@ use mir.Val.{Fits}
 use Rattle.diffusion.specs.declared.row.Flow.{Flow}
 use Rattle.diffusion.specs.Internal.Sums.{restOf}
 use Rattle.diffusion.specs.Internal.Rows.{RightTable, DownTable}
-use Rattle.diffusion.specs.Internal.Flow.{partsOf, DotLent, DotPassed}
+use Rattle.diffusion.specs.Internal.Flow.{partsOf, noneDown, DotLent, DotPassed}
 use Rattle.diffusion.proofs.SumsCorrect.{part-small, rest-small}
 
 -- bits of two numbers that are all 0
@@ -39,7 +39,7 @@ module _ (rights downs : List ℕ) (f : Flow) (v : ℕ) where
       record {
         right = getD rights v 0;
         down = f .down / 256 + getD downs v 0;
-        stirred = bitOr (f .stirred) (bitXor (getD downs v 0) 534552);
+        stirred = bitOr (f .stirred) (bitXor (getD downs v 0) noneDown);
         digits = f .digits * 2 + v / 256;
       }
 
@@ -48,9 +48,9 @@ module _ (rights downs : List ℕ) (f : Flow) (v : ℕ) where
       record {
         rightIs = r v h;
         downIs = ap (λ (n : ℕ). f .down / 256 + n) (d v h);
-        calm = λ e.
-            let o = or-none (f .stirred) (bitXor (getD downs v 0) 534552) e in
-            (o .0, sym (d v h) ∙ xor-none (getD downs v 0) 534552 (o .1));
+        unstirred = λ e.
+            let o = or-none (f .stirred) (bitXor (getD downs v 0) noneDown) e in
+            (o .0, sym (d v h) ∙ xor-none (getD downs v 0) noneDown (o .1));
         digitsIs = refl;
       }
 

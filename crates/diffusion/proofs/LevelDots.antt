@@ -16,7 +16,7 @@ use Rattle.laws.proofs.Tests.{lt-or-le}
 use Rattle.diffusion.specs.declared.row.Flow.{Flow}
 use Rattle.diffusion.specs.Internal.Sums.{partOf, restOf, handedRight, valueBy, restBy, restBefore, sumsOf}
 use Rattle.diffusion.specs.Internal.Rows.{grayOf, dotBy}
-use Rattle.diffusion.specs.Internal.Flow.{partsOf, DotPassed, owed, RowAt, DotsPassed, LevelByte}
+use Rattle.diffusion.specs.Internal.Flow.{partsOf, noneDown, DotPassed, owed, RowAt, DotsPassed, LevelByte}
 use Rattle.diffusion.proofs.RowGrows.{SumStored, sum-left, byte-begins, dots-more, owed-le}
 use Rattle.diffusion.proofs.SumsCorrect.{part-of-128, rest-none}
 
@@ -30,7 +30,7 @@ unfolding handedRight restBefore restBy valueBy
 before-none g s zero e = part-of-128 1
 before-none g s (suc x) e = part-none (restOf (g x + s x + handedRight g s x)) e
 
-parts-none : partsOf 128 ≡ 534552
+parts-none : partsOf 128 ≡ noneDown
 parts-none = omega (arith, part-of-128 1, part-of-128 3, part-of-128 5)
 
 dot-none : (g : ℕ) → g < 256 → g % 255 ≡ 0 → (g + 72 + 56) / 256 ≡ bit (leb 128 g)
@@ -40,21 +40,21 @@ dot-none g h e =
     (λ l. rw (le-leb 128 g l) (omega arith))
     (lt-or-le g 128)
 
-level-passed : (f : Flow) (g d : ℕ) → g < 256 → g % 255 ≡ 0 → d ≡ f .down / 256 + 534552
+level-passed : (f : Flow) (g d : ℕ) → g < 256 → g % 255 ≡ 0 → d ≡ f .down / 256 + noneDown
     → DotPassed f (g + 72 + 56) (record { right = 56; down = d; stirred = f .stirred; digits = f .digits * 2 + bit (leb 128 g) })
 level-passed f g d h e k =
-    let p : partsOf (restOf (g + 72 + 56)) ≡ 534552 = ap partsOf (rest-none g h e) ∙ parts-none in
+    let p : partsOf (restOf (g + 72 + 56)) ≡ noneDown = ap partsOf (rest-none g h e) ∙ parts-none in
     record {
       rightIs = sym (ap (partOf 7) (rest-none g h e) ∙ part-of-128 7);
       downIs = k ∙ ap (λ (n : ℕ). f .down / 256 + n) (sym p);
-      calm = λ z. (z, p);
+      unstirred = λ z. (z, p);
       digitsIs = ap (λ (n : ℕ). f .digits * 2 + n) (sym (dot-none g h e));
     }
 
 module _ (gray : List ℕ) (old : List ℤ) (b y : ℕ) (f : Flow) (work : List ℤ) (p : DotsPassed gray old b y f work)
     (from : b ≤ y) (more : y < length gray) (right : f .right ≡ 56) (plain : getD gray y 0 % 255 ≡ 0)
     (sum : getD work y (pos 0) ≡ pos 72) where
-  one-level : (d : ℕ) (work′ : List ℤ) → d ≡ f .down / 256 + 534552 → SumStored work y (d % 256) work′
+  one-level : (d : ℕ) (work′ : List ℤ) → d ≡ f .down / 256 + noneDown → SumStored work y (d % 256) work′
       → DotsPassed gray old b (y + 1)
       (record { right = 56; down = d; stirred = f .stirred; digits = f .digits * 2 + bit (leb 128 (getD gray y 0)) }) work′
   one-level d work′ e st =
@@ -79,20 +79,20 @@ module _ (gray : List ℕ) (old : List ℤ) (x : ℕ) (f : Flow) (work : List �
     stored = set work (x - 1) z
 
     abbrev downs : ℕ → ℕ
-    downs zero = f .down / 256 + 534552
+    downs zero = f .down / 256 + noneDown
     downs (suc m) = 536648
 
     abbrev after : ℕ → Flow
     after m = record { right = 56; down = downs m; stirred = f .stirred; digits = appended 0 (thresholdFrom 128 gray x) (suc m) }
 
-    low : (f .down / 256 + 534552) % 256 ≡ f .down / 256 % 256 + 24
+    low : (f .down / 256 + noneDown) % 256 ≡ f .down / 256 % 256 + 24
     low = omega (arith, a .downIs, none-before, owed-le gray old x f work a x (a .inRow))
 
     high : (m : ℕ) → downs m / 256 ≡ 2096
     high zero = omega (arith, a .downIs, none-before, owed-le gray old x f work a x (a .inRow))
     high (suc m) = refl
 
-    left : SumStored work x ((f .down / 256 + 534552) % 256) stored
+    left : SumStored work x ((f .down / 256 + noneDown) % 256) stored
     left = sum-left work x _ z stored some (omega arith) (ez ∙ ap pos (sym low)) refl
 
     kept-sum : (i : ℕ) → i < 8 → getD stored (x + i) (pos 0) ≡ pos 72
@@ -115,9 +115,9 @@ module _ (gray : List ℕ) (old : List ℤ) (x : ℕ) (f : Flow) (work : List �
         let u : getD gray x 0 % 255 ≡ 0 = subst (λ (n : ℕ). getD gray n 0 % 255 ≡ 0) e q in
         let v : getD work x (pos 0) ≡ pos 72 = subst (λ (n : ℕ). getD work n (pos 0) ≡ pos 72) e (l .sums 0 (omega arith)) in
         let t = one-level gray old x x _ work (byte-begins gray old x f work a) (omega arith) (omega arith) (l .rightIs) u v
-        (f .down / 256 + 534552) stored refl left in
+        (f .down / 256 + noneDown) stored refl left in
         subst⁻¹ (λ (n : ℕ). DotsPassed gray old x (x + 1)
-        (record { right = 56; down = f .down / 256 + 534552; stirred = f .stirred; digits = 0 * 2 + bit (leb 128 n) }) stored) p t
+        (record { right = 56; down = f .down / 256 + noneDown; stirred = f .stirred; digits = 0 * 2 + bit (leb 128 n) }) stored) p t
     run (suc m) h =
         let t = one-level gray old x (x + suc m) (after m) stored (run m (omega arith)) (omega arith) (omega arith) refl
         (l .plain (suc m) h) (kept-sum (suc m) h) 536648 stored (omega (arith, high m)) (same-sum m (omega arith)) in

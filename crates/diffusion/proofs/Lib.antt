@@ -5,6 +5,7 @@ pub mod RowsLoop
 pub mod RowHanded
 pub mod RowsGoing
 pub mod OnesLoop
+pub mod PairsLoop
 pub mod PlaneServed
 pub mod TableRule
 pub mod DotStep

@@ -10,7 +10,7 @@ use Rattle.diffusion.specs.Internal.Sums.{partOf, restOf, handedRight, v
 use Rattle.diffusion.specs.Internal.Rows.{rowOf}
 use Rattle.diffusion.specs.Internal.RowByRow.{PlaneLent, RowsWritten}
 use Rattle.diffusion.proofs.PlaneRows.{row-one}
-use Rattle.diffusion.proofs.RowsLoop.{HandedSums, first-sums, rows-unwritten, ones-put, row-dots, next-sums}
+use Rattle.diffusion.proofs.RowsLoop.{HandedSums, first-sums, rows-unwritten, byte-put, row-dots, next-sums}
 use Rattle.diffusion.proofs.SumsCorrect.{part-small, one-down}
 
 -- the sums handed to a row of one dot, below one whose residual is held as b
@@ -60,7 +60,7 @@ module _ {h : ℕ} {gray out₀ out : List ℕ} {rest y : ℕ} (bytes : (n : ℕ
       record {
         most = omega arith;
         small = omega arith;
-        written = ones-put lent (i .written) l (128 * (v / 256)) d;
+        written = byte-put lent (omega arith) (i .written) l (128 * (v / 256)) d;
         given = next-sums bytes (i .given) (sumsBelow (v % 256 + v / 256)) (λ x k.
             let z : x ≡ 0 = omega arith in
             rw z (sym (one-down shade (sumsBelow rest) ∙ ap (λ (b : ℕ). 32 + partOf 5 b) rest-is)));

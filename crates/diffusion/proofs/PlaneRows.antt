@@ -73,3 +73,10 @@ unfolding upto byteAt paddedBit appended
 row-one d =
     let e : (((((((0 + d 0) * 2 + 0) * 2 + 0) * 2 + 0) * 2 + 0) * 2 + 0) * 2 + 0) * 2 + 0 ≡ 128 * d 0 = omega arith in
     ap (λ (n : ℕ). n ∷ []) e
+
+-- a row of two dots
+pub row-two : (d : ℕ → ℕ) → rowOf 2 d ≡ (128 * d 0 + 64 * d 1) ∷ []
+unfolding upto byteAt paddedBit appended
+row-two d =
+    let e : (((((((0 + d 0) * 2 + d 1) * 2 + 0) * 2 + 0) * 2 + 0) * 2 + 0) * 2 + 0) * 2 + 0 ≡ 128 * d 0 + 64 * d 1 = omega arith in
+    ap (λ (n : ℕ). n ∷ []) e

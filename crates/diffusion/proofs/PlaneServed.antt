@@ -77,20 +77,6 @@ no-columns w h gray out z =
       long = refl;
     }
 
--- a plane of one column
-module _ (w h : ℕ) (one : w ≡ 1) where
-  pub lent-ones : (samples bytes : ℕ) → w * h ≤ samples → h * rowBytes w ≤ bytes → PlaneLent 1 h samples bytes
-  lent-ones samples bytes a b =
-      record {
-        wide = omega arith;
-        small = omega arith;
-        there = subst (λ (n : ℕ). n * h ≤ samples) one a;
-        room = subst (λ (n : ℕ). h * rowBytes n ≤ bytes) one b;
-      }
-
-  pub written-ones : (gray out out′ : List ℕ) → RowsWritten 1 h gray out h out′ → RowsWritten w h gray out h out′
-  written-ones gray out out′ r = subst (λ (n : ℕ). RowsWritten n h gray out h out′) (sym one) r
-
 -- plain rows, and then the others
 module _ {w h : ℕ} {gray out : List ℕ} {y : ℕ} {out′ : List ℕ} (p : PlainRows w h gray out y out′) where
   pub rows-left : PlainRows w h gray out′ y out′

@@ -18,11 +18,11 @@ use Rattle.rules.proofs.DigitsAppended.{one-more}
 use Rattle.diffusion.specs.declared.row.Flow.{Flow}
 use Rattle.diffusion.specs.Internal.Sums.{partOf, restOf, handedRight, valueBy, restBy, restBefore, restAfter, handedDown, sumsOf}
 use Rattle.diffusion.specs.Internal.Rows.{grayOf, dotBy}
-use Rattle.diffusion.specs.Internal.Flow.{partsOf, DotLent, DotPassed, owed, Still, RowAt, DotsPassed}
+use Rattle.diffusion.specs.Internal.Flow.{partsOf, noneDown, DotLent, DotPassed, owed, Still, RowAt, DotsPassed}
 use Rattle.diffusion.proofs.SumsCorrect.{part-small, rest-small, right-small, value-small}
 
 -- the parts' digits
-pub parts-still : (b : ℕ) → b ≤ 256 → partsOf b ≡ 534552 → Still b
+pub parts-still : (b : ℕ) → b ≤ 256 → partsOf b ≡ noneDown → Still b
 parts-still b h e =
     let p = part-small 1 b h in
     let q = part-small 3 b h in
@@ -183,8 +183,8 @@ module _ (gray : List ℕ) (old : List ℤ) (x : ℕ) (f : Flow) (work : List �
       unfolding restBy
       still-next e k h =
           ⊎-elim
-          (λ l. a .still (passed .calm e .0) k l)
-          (λ l. let o : k ≡ x = omega arith in rw o (parts-still (restOf (valueBy g s x)) (rest-le x more) (passed .calm e .1)))
+          (λ l. a .still (passed .unstirred e .0) k l)
+          (λ l. let o : k ≡ x = omega arith in rw o (parts-still (restOf (valueBy g s x)) (rest-le x more) (passed .unstirred e .1)))
           (lt-or-le k x)
 
       module _ (work′ : List ℤ) (st : SumStored work x (r .down % 256) work′) where

@@ -112,25 +112,30 @@ module _ {w h : ℕ} {gray out₀ : List ℕ} {y : ℕ} {out : List ℕ} (fits :
           long = put-length ∙ before .long;
         }
 
--- one row of one dot more
-pub ones-put : {h : ℕ} {gray out₀ : List ℕ} {y : ℕ} {out : List ℕ} → PlaneLent 1 h (length gray) (length out₀)
-    → RowsWritten 1 h gray out₀ y out → y < h
-    → (b : ℕ) → b ∷ [] ≡ rowOf 1 (λ c. ditherBit 1 gray (y * 1 + c)) → RowsWritten 1 h gray out₀ (y + 1) (set out y b)
-ones-put {h} {gray} {out₀} {y} {out} fits before l b e =
+-- one row of one byte more
+pub byte-put : {w h : ℕ} {gray out₀ : List ℕ} {y : ℕ} {out : List ℕ} → PlaneLent w h (length gray) (length out₀) → w ≤ 8
+    → RowsWritten w h gray out₀ y out → y < h
+    → (b : ℕ) → b ∷ [] ≡ rowOf w (λ c. ditherBit w gray (y * w + c)) → RowsWritten w h gray out₀ (y + 1) (set out y b)
+byte-put {w} {h} {gray} {out₀} {y} {out} fits narrow before l b e =
+    let one : rowBytes w ≡ 1 = omega (arith, fits .wide) in
+    let f : h * 1 ≡ h = omega arith in
+    let g : h * rowBytes w ≡ h = ap (λ (n : ℕ). h * n) one ∙ f in
+    let p : (y + 1) * 1 ≡ suc y = omega arith in
+    let m : (y + 1) * rowBytes w ≡ suc y = ap (λ (n : ℕ). (y + 1) * n) one ∙ p in
+    let o : y ≡ y * 1 = omega arith in
+    let k : y ≡ y * rowBytes w = o ∙ ap (λ (n : ℕ). y * n) (sym one) in
     let a = fits .room in
     let n = before .long in
-    let m : (y + 1) * rowBytes 1 ≡ suc y = omega arith in
-    let k : y ≡ y * rowBytes 1 = omega arith in
     record {
       rows =
           ap (λ (i : ℕ). take i (set out y b)) m
           ∙ take-suc-set out y b (omega arith)
           ∙ ap (λ (i : ℕ). take i out ++ (b ∷ [])) k
           ∙ ap (λ (r : List ℕ). r ++ (b ∷ [])) (before .rows)
-          ∙ ap (λ (r : List ℕ). plane 1 y (ditherBit 1 gray) ++ r) e
-          ∙ sym (rows-more 1 (ditherBit 1 gray) y)
-          ∙ ap (λ (i : ℕ). plane 1 i (ditherBit 1 gray)) (sym (add-one y));
-      behind = drop-set-lt (h * rowBytes 1) out y b (omega arith) ∙ before .behind;
+          ∙ ap (λ (r : List ℕ). plane w y (ditherBit w gray) ++ r) e
+          ∙ sym (rows-more w (ditherBit w gray) y)
+          ∙ ap (λ (i : ℕ). plane w i (ditherBit w gray)) (sym (add-one y));
+      behind = drop-set-lt (h * rowBytes w) out y b (omega arith) ∙ before .behind;
       long = length-set out y b ∙ n;
     }
 

@@ -4,7 +4,7 @@ use Prim.Native.Nat.{ℕ, zero, suc, _+_, _*_, _/_, _%_, _≤_, _<_}
 use mathlib.Core.Path.{_≡_, refl, sym, ap, _∙_}
 use mathlib.Core.Logic.{⊎-elim}
 use native.Mathlib.Omega.{arith}
-use native.Mathlib.Nat.{add-mul, mul-assoc, one-mul, mul-le-mul-left}
+use native.Mathlib.Nat.{add-mul, mul-assoc, one-mul, mul-le-mul-left, mul-le-mul-right}
 use borrow.Author.Tests.{lt-ltb, le-ltb, le-leb, lt-leb}
 use lib.Dec.{leb}
 use lib.IntN.{ℤ, pos, subℕ, _+ℤ_, +ℤ-assoc}
@@ -29,6 +29,9 @@ part-of-128 k = omega arith
 pub part-small : (k b : ℕ) → b ≤ 256 → partOf k b ≤ 16 * k
 unfolding partOf
 part-small k b h = omega (arith, product-split k b, mul-le-mul-left k h)
+
+pub product-small : (k b : ℕ) → k ≤ 7 → b ≤ 256 → (128 * k + 1) * b ≤ 229632
+product-small k b l h = omega (arith, product-split k b, mul-le-mul-left k h, mul-le-mul-right 256 l)
 
 pub rest-small : (v : ℕ) → v < 512 → restOf v ≤ 256
 unfolding restOf
@@ -125,7 +128,7 @@ module _ (w : ℕ) (gray sums : ℕ → ℕ) (level : Level w sums) (plain : (i 
       let p = plain x (omega arith) in
       rw (level x (omega arith), handedRight-level x (omega arith), rest-none (gray x) (p .0) (p .1)) (part-of-128 7)
 
-  valueBy-level : (x : ℕ) → x < w → valueBy gray sums x ≡ gray x + 72 + 56
+  pub valueBy-level : (x : ℕ) → x < w → valueBy gray sums x ≡ gray x + 72 + 56
   unfolding valueBy
   valueBy-level x k = rw (level x k, handedRight-level x (omega arith))
 

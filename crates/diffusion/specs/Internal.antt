@@ -3,3 +3,4 @@ pub mod Sums
 pub mod Rows
 pub mod RowByRow
 pub mod Flow
+pub mod Pairs

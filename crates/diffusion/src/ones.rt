@@ -1,17 +1,7 @@
 // Rows of one sample: 5 sixteenths of a dot's residual go down, and the other parts off the edges.
-ghost use mathlib.Core.Path.{_≡_};
-ghost use Prim.Native.Nat.{_≤_};
+use crate::parts::part;
 ghost use lib.ListN.{length};
-ghost use Rattle.diffusion.specs.Internal.Sums.{partOf};
 ghost use Rattle.diffusion.specs.Internal.RowByRow.{PlaneLent, RowsWritten};
-
-// 5 sixteenths of the residual that is held as b.
-fn five(b: u32) -> u32
-    requires { ⌜ b ≤ 256 ⌝ }
-    ensures { λ r. ⌜ r ≡ partOf 5 b ⌝ }
-{
-    (641 * b + 896) / 2048
-}
 
 pub(crate) fn dither_ones(height: usize, gray: &[u8], out: &mut [u8])
     requires { ⌜ PlaneLent 1 height (length (now gray)) (length (now out)) ⌝ }
@@ -20,7 +10,7 @@ pub(crate) fn dither_ones(height: usize, gray: &[u8], out: &mut [u8])
     let mut rest: u32 = 128;
     let mut y: usize = 0;
     while y < height {
-        let value = gray[y] as u32 + five(rest) + 88;
+        let value = gray[y] as u32 + part(5, rest) + 88;
         let dot = value / 256;
         out[y] = (128 * dot) as u8;
         rest = value % 256 + dot;

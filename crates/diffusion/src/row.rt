@@ -20,6 +20,15 @@ struct Flow {
     digits: u32,
 }
 
+// What a dot without residual hands down: 24, 40 and 8, as digits to the base 256.
+const NONE_DOWN: u32 = 534552;
+
+// `down` before a row's first dot: 0, 0 and 8. The 8 is the part of a dot on its left that is not there.
+const FIRST_DOWN: u32 = 524288;
+
+// `down` after eight dots without residual: 72, 48 and 8.
+const LEVEL_DOWN: u32 = 536648;
+
 // The flow after one dot more. Gray and sum are added first, in 16 bits: otherwise the compiler adds the sum last,
 // and the next dot waits for it.
 fn dot(rights: &[u8; 512], downs: &[u32; 512], f: Flow, gray: u8, sum: i16) -> Flow
@@ -33,7 +42,7 @@ fn dot(rights: &[u8; 512], downs: &[u32; 512], f: Flow, gray: u8, sum: i16) -> F
     Flow {
         right: rights[i] as u32,
         down: f.down / 256 + e,
-        stirred: f.stirred | (e ^ 534552),
+        stirred: f.stirred | (e ^ NONE_DOWN),
         digits: f.digits * 2 + v / 256,
     }
 }
@@ -71,7 +80,7 @@ fn dots(
 }
 
 // The dots of eight columns from x on, which is not the first: without a test the compiler unrolls the loop.
-fn eight(
+fn eight_dots(
     rights: &[u8; 512],
     downs: &[u32; 512],
     f: Flow,
@@ -101,7 +110,7 @@ fn eight(
 }
 
 // Whether nothing was added to the sums of eight columns from x on. The loop runs to its end, so that the compiler can take all at once.
-fn level_eight(work: &[i16], x: usize) -> bool
+fn eight_are_level(work: &[i16], x: usize) -> bool
     requires { ⌜ x + 8 ≤ length (now work) ⌝ }
     ensures { λ r. ⌜ (r ≡ true → LevelFrom (now (work .entry)) x 8) ⌝ }
 {
@@ -125,7 +134,7 @@ fn level_byte(right: u32, gray: &[u8], x: usize, work: &[i16]) -> u32
     if right != 56 {
         return 256;
     }
-    if !level_eight(work, x) {
+    if !eight_are_level(work, x) {
         return 256;
     }
     let mut byte = [0u8; 1];
@@ -135,8 +144,8 @@ fn level_byte(right: u32, gray: &[u8], x: usize, work: &[i16]) -> u32
     byte[0] as u32
 }
 
-// As `eight`. Dots that are level hand on nothing: they alter only the sum on the left of column x, which lacks their part.
-fn eight_or_level(
+// As `eight_dots`. Dots that are level hand on nothing: they alter only the sum on the left of column x, which lacks their part.
+fn eight_dots_or_level(
     rights: &[u8; 512],
     downs: &[u32; 512],
     f: Flow,
@@ -150,14 +159,14 @@ fn eight_or_level(
 {
     let byte = level_byte(f.right, gray, x, work);
     if byte == 256 {
-        return eight(rights, downs, f, gray, x, work);
+        return eight_dots(rights, downs, f, gray, x, work);
     }
     let k = x - 1;
     let begun = f.down / 256 % 256;
     work[k] = (begun + 24) as i16;
     Flow {
         right: 56,
-        down: 536648,
+        down: LEVEL_DOWN,
         stirred: f.stirred,
         digits: byte,
     }
@@ -178,7 +187,7 @@ fn bytes(
     let last = (gray.len() - 1) / 8;
     let mut f = Flow {
         right: 56,
-        down: 524288,
+        down: FIRST_DOWN,
         stirred: 0,
         digits: 0,
     };
@@ -189,7 +198,7 @@ fn bytes(
     out[0] = f.digits as u8;
     let mut j: usize = 1;
     while j < last {
-        f = eight_or_level(rights, downs, f, gray, 8 * j, work);
+        f = eight_dots_or_level(rights, downs, f, gray, 8 * j, work);
         out[j] = f.digits as u8;
         j += 1;
     }

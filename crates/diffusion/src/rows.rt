@@ -7,7 +7,8 @@ ghost use mathlib.Core.Path.{_≡_};
 ghost use Prim.Native.Nat.{_≤_};
 ghost use lib.ListN.{length, drop};
 ghost use Rattle.diffusion.specs.Internal.Rows.{RightTable, DownTable};
-ghost use Rattle.diffusion.specs.Internal.RowByRow.{AllNone, RowGiven, RowBegun, RowNext, PlaneLent, RowsWritten, RowsLeft, PlainRows};
+ghost use Rattle.diffusion.specs.Internal.RowByRow.{AllNone, RowGiven, RowBegun, RowNext};
+ghost use Rattle.diffusion.specs.Internal.RowByRow.{PlaneLent, RowsWritten, RowsLeft, PlainRows};
 
 // The sums that nothing was added to.
 fn level_sums(sums: &mut [i16])

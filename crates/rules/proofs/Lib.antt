@@ -10,6 +10,7 @@ pub mod StoredBytes
 pub mod Words
 pub mod WordCompared
 pub mod WordGathered
+pub mod WordBackwards
 pub mod RuleAsked
 pub mod UptoOverlaid
 pub mod PlaneBytes

@@ -4,7 +4,8 @@ use Prim.Native.Nat.{ℕ, suc, _+_, _-_, _*_, _/_, _%_, _^_, _≤_, _<_}
 use mathlib.Core.Path.{_≡_, refl, sym, ap, ap₂, _∙_, subst}
 use mathlib.Core.Bool.{true, false, _&&_}
 use mathlib.Core.List.{List}
-use native.Mathlib.Nat.{mul-comm, mul-assoc, add-assoc, add-mul, mul-le-mul-right, zero-add, mod-lt, mod-eq-of-lt, lt-of-lt-of-le, div-add-mod'}
+use native.Mathlib.Nat.{mul-comm, mul-assoc, add-assoc, add-mul, mul-le-mul-right, zero-add}
+use native.Mathlib.Nat.{mod-lt, mod-eq-of-lt, lt-of-lt-of-le, div-add-mod'}
 use native.Mathlib.Omega.{arith}
 use lib.Bits.{bitAnd}
 use lib.Dec.{leb}
@@ -213,7 +214,8 @@ module _ {t w h : ℕ} {gray out₀ : List ℕ} (fits : PlaneFits w h (length gr
             ∙ ap (λ (m : ℕ). overlaid m f out₀) n);
       }
 
-  single-more : (v : ℕ) → 0 < w → w < 8 → y < h → v ≡ endingByte t gray at w → RowsTo t w h gray out₀ (set out to v) (at + w) (to + 1) (y + 1)
+  single-more : (v : ℕ) → 0 < w → w < 8 → y < h → v ≡ endingByte t gray at w
+      → RowsTo t w h gray out₀ (set out to v) (at + w) (to + 1) (y + 1)
   single-more v some narrow l e =
       let p : to + (w / 8 + 1) ≡ to + 1 = omega arith in
       subst (λ (n : ℕ). RowsTo t w h gray out₀ (set out to v) (at + w) n (y + 1)) p

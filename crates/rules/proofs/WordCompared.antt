@@ -3,7 +3,7 @@
 use Prim.Native.Nat.{ℕ, zero, suc, _+_, _-_, _*_, _/_, _%_, _≤_, _<_}
 use mathlib.Core.Path.{_≡_, refl, sym, ap, ap₂, _∙_}
 use mathlib.Core.Logic.{⊎-elim}
-use native.Mathlib.Nat.{mul-div-cancel, lt-of-le-of-lt}
+use native.Mathlib.Nat.{lt-of-le-of-lt}
 use native.Mathlib.Omega.{arith}
 use lib.Bits.{bitAnd, bitOr, and-shr, or-shr, and-high, and-le-l, or-lt, or-block, or-comm, or-zero-r, or-add-and}
 use lib.Dec.{leb}
@@ -118,19 +118,21 @@ module _ (t : ℕ) (f : ℕ → ℕ) (small : Below 256 f) where
       let c = ones-are (t % 128) in
       omega arith
 
-  -- the dots, from the highest bits
-  lowered : (g : ℕ → ℕ) → Below 256 g → ((i : ℕ) → bitAnd (g i) 128 ≡ dots i * 128) → bitAnd (bytes g 8) tops / 128 ≡ bytes dots 8
-  lowered g h e =
-      ap (λ (n : ℕ). n / 128)
-      (ap (bitAnd (bytes g 8)) tops-are ∙ bytes-and g (λ i. 128) 8 h tops-small ∙ bytes-ext (λ i. bitAnd (g i) 128) (λ i. dots i * 128) 8 (λ i l. e i) ∙ bytes-times 128 dots 8)
-      ∙ mul-div-cancel (bytes dots 8) (omega arith)
+  -- the dots, as the highest bits
+  raised-dots : (g : ℕ → ℕ) → Below 256 g → ((i : ℕ) → bitAnd (g i) 128 ≡ dots i * 128) → bitAnd (bytes g 8) tops ≡ bytes dots 8 * 128
+  raised-dots g h e =
+      ap (bitAnd (bytes g 8)) tops-are
+      ∙ bytes-and g (λ i. 128) 8 h tops-small
+      ∙ bytes-ext (λ i. bitAnd (g i) 128) (λ i. dots i * 128) 8 (λ i l. e i)
+      ∙ bytes-times 128 dots 8
 
-  pub dots-below : t < 128 → bitAnd (bitOr (bytes f 8) (bitOr (bytes f 8) tops - t % 128 * ones)) tops / 128 ≡ bytes dots 8
+  pub dots-below : t < 128 → bitAnd (bitOr (bytes f 8) (bitOr (bytes f 8) tops - t % 128 * ones)) tops ≡ bytes dots 8 * 128
   dots-below h =
-      ap (λ (n : ℕ). bitAnd n tops / 128) (ap (bitOr (bytes f 8)) lows-are ∙ bytes-or f lows 8 small lows-small)
-      ∙ lowered (λ i. bitOr (f i) (lows i)) (λ i. or-lt 8 (f i) (lows i) (small i) (lows-small i)) (λ i. or-dot t (f i) (small i) h)
+      ap (λ (n : ℕ). bitAnd n tops) (ap (bitOr (bytes f 8)) lows-are ∙ bytes-or f lows 8 small lows-small)
+      ∙ raised-dots (λ i. bitOr (f i) (lows i)) (λ i. or-lt 8 (f i) (lows i) (small i) (lows-small i)) (λ i. or-dot t (f i) (small i) h)
 
-  pub dots-above : 128 ≤ t → t < 256 → bitAnd (bitAnd (bytes f 8) (bitOr (bytes f 8) tops - t % 128 * ones)) tops / 128 ≡ bytes dots 8
+  pub dots-above : 128 ≤ t → t < 256 → bitAnd (bitAnd (bytes f 8) (bitOr (bytes f 8) tops - t % 128 * ones)) tops ≡ bytes dots 8 * 128
   dots-above h g =
-      ap (λ (n : ℕ). bitAnd n tops / 128) (ap (bitAnd (bytes f 8)) lows-are ∙ bytes-and f lows 8 small lows-small)
-      ∙ lowered (λ i. bitAnd (f i) (lows i)) (λ i. lt-of-le-of-lt (and-le-l (f i) (lows i)) (small i)) (λ i. and-dot t (f i) (small i) h g)
+      ap (λ (n : ℕ). bitAnd n tops) (ap (bitAnd (bytes f 8)) lows-are ∙ bytes-and f lows 8 small lows-small)
+      ∙ raised-dots (λ i. bitAnd (f i) (lows i)) (λ i. lt-of-le-of-lt (and-le-l (f i) (lows i)) (small i))
+      (λ i. and-dot t (f i) (small i) h g)

@@ -87,12 +87,13 @@ module _ (f : ℕ → ℕ) (small : Below 256 f) where
       ∙ ap (λ (m : ℕ). m + f n * 2 ^ k) up
       ∙ sym (add-mul (bytes f n * 256) (f n) (2 ^ k))
 
-  -- eight bytes, x the first, each shifted to its place
-  pub joined : (x : ℕ) → x ≡ f 0
-      → bitOr (bitOr (bitOr (bitOr (bitOr (bitOr (bitOr (x * 2 ^ 56 % 2 ^ 64) (f 1 * 2 ^ 48 % 2 ^ 64)) (f 2 * 2 ^ 40 % 2 ^ 64)) (f 3 * 2 ^ 32 % 2 ^ 64)) (f 4 * 2 ^ 24 % 2 ^ 64)) (f 5 * 2 ^ 16 % 2 ^ 64)) (f 6 * 2 ^ 8 % 2 ^ 64)) (f 7)
+  -- eight bytes, x the first and y the last, each shifted to its place
+  pub joined : (x y : ℕ) → x ≡ f 0 → y ≡ f 7
+      → bitOr (bitOr (bitOr (bitOr (bitOr (bitOr (bitOr (x * 2 ^ 56 % 2 ^ 64) (f 1 * 2 ^ 48 % 2 ^ 64)) (f 2 * 2 ^ 40 % 2 ^ 64))
+      (f 3 * 2 ^ 32 % 2 ^ 64)) (f 4 * 2 ^ 24 % 2 ^ 64)) (f 5 * 2 ^ 16 % 2 ^ 64)) (f 6 * 2 ^ 8 % 2 ^ 64)) y
       ≡ bytes f 8
   unfolding bytes
-  joined x e =
+  joined x y e l =
       let s = small 0 in
       let a1 : x * 2 ^ 56 % 2 ^ 64 ≡ bytes f 1 * 2 ^ 56 = omega arith in
       let a2 = next _ 1 48 (omega arith) a1 in
@@ -101,7 +102,7 @@ module _ (f : ℕ → ℕ) (small : Below 256 f) where
       let a5 = next _ 4 24 (omega arith) a4 in
       let a6 = next _ 5 16 (omega arith) a5 in
       let a7 = next _ 6 8 (omega arith) a6 in
-      ap (λ (n : ℕ). bitOr n (f 7)) a7 ∙ or-shifted (bytes f 7) 8 (f 7) (small 7)
+      ap₂ bitOr a7 l ∙ or-shifted (bytes f 7) 8 (f 7) (small 7)
 
 -- ---- bytes one by one
 

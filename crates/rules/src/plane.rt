@@ -98,7 +98,8 @@ fn narrow_rows(
     gray: &[u8],
     out: &mut [u8],
 ) -> usize
-    requires { ⌜ PlaneFits width height (length (now gray)) (length (now out)) × ((2 < width) × (width < 5) × (mask ≡ paddingMask width)) ⌝ }
+    requires { ⌜ PlaneFits width height (length (now gray)) (length (now out))
+        × ((2 < width) × (width < 5) × (mask ≡ paddingMask width)) ⌝ }
     ensures { λ r. ⌜ (r ≤ height) × (now (out .exit) ≡ planeOnto width r (thresholdBit bound (now (gray .entry))) (now (out .entry))) ⌝ }
 {
     let mut at: usize = 0;
@@ -117,7 +118,8 @@ fn narrow_rows(
 // Rows that end inside a byte, one at a time, likewise: the last byte is cut from the dots of eight samples, which reach into the next two
 // rows.
 fn wide_rows(bound: u8, width: usize, height: usize, mask: u8, gray: &[u8], out: &mut [u8]) -> usize
-    requires { ⌜ PlaneFits width height (length (now gray)) (length (now out)) × ((2 < width) × (0 < width % 8) × (mask ≡ paddingMask width)) ⌝ }
+    requires { ⌜ PlaneFits width height (length (now gray)) (length (now out))
+        × ((2 < width) × (0 < width % 8) × (mask ≡ paddingMask width)) ⌝ }
     ensures { λ r. ⌜ (r ≤ height) × (now (out .exit) ≡ planeOnto width r (thresholdBit bound (now (gray .entry))) (now (out .entry))) ⌝ }
 {
     let count = width / 8;
@@ -142,7 +144,8 @@ fn front_rows(
     gray: &[u8],
     out: &mut [u8],
 ) -> usize
-    requires { ⌜ PlaneFits width height (length (now gray)) (length (now out)) × ((2 < width) × (0 < width % 8) × (mask ≡ paddingMask width)) ⌝ }
+    requires { ⌜ PlaneFits width height (length (now gray)) (length (now out))
+        × ((2 < width) × (0 < width % 8) × (mask ≡ paddingMask width)) ⌝ }
     ensures { λ r. ⌜ (r ≤ height) × (now (out .exit) ≡ planeOnto width r (thresholdBit bound (now (gray .entry))) (now (out .entry))) ⌝ }
 {
     if width < 5 {
@@ -153,7 +156,8 @@ fn front_rows(
 
 // Rows that end inside a byte. The last dots of the last two rows are made one by one, as too few samples follow them.
 fn threshold_rows(bound: u8, width: usize, height: usize, mask: u8, gray: &[u8], out: &mut [u8])
-    requires { ⌜ PlaneFits width height (length (now gray)) (length (now out)) × ((2 < width) × (0 < width % 8) × (mask ≡ paddingMask width)) ⌝ }
+    requires { ⌜ PlaneFits width height (length (now gray)) (length (now out))
+        × ((2 < width) × (0 < width % 8) × (mask ≡ paddingMask width)) ⌝ }
     ensures { λ r. ⌜ now (out .exit) ≡ planeOnto width height (thresholdBit bound (now (gray .entry))) (now (out .entry)) ⌝ }
 {
     let count = width / 8;
@@ -170,7 +174,8 @@ fn threshold_rows(bound: u8, width: usize, height: usize, mask: u8, gray: &[u8],
 
 // The plane of a frame's samples, white from `bound` on, at the front of the output; nothing where samples or room are missing.
 pub fn threshold_plane(bound: u8, width: u32, height: u32, gray: &[u8], out: &mut [u8])
-    ensures { λ r. ⌜ now (out .exit) ≡ planeWhere width height (thresholdBit bound (now (gray .entry))) (length (now (gray .entry))) (now (out .entry)) ⌝ }
+    ensures { λ r. ⌜ now (out .exit) ≡ planeWhere width height (thresholdBit bound (now (gray .entry))) (length (now (gray .entry)))
+        (now (out .entry)) ⌝ }
 {
     let layout = PlaneLayout::new(width, height);
     let columns = width as usize;

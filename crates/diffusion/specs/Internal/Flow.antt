@@ -16,6 +16,10 @@ use Rattle.diffusion.specs.Internal.Rows.{grayOf, dotBy}
 abbrev pub partsOf : ℕ → ℕ
 partsOf b = partOf 3 b + 256 * partOf 5 b + 65536 * partOf 1 b
 
+-- those of no residual: 24, 40 and 8
+abbrev pub noneDown : ℕ
+noneDown = 534552
+
 -- a sum of the work buffer, and a flow that a dot can follow
 pub record DotLent (f : Flow) (sum : ℤ) : Type 0 where
   pub rightSmall : f .right ≤ 112
@@ -27,7 +31,7 @@ pub record DotLent (f : Flow) (sum : ℤ) : Type 0 where
 pub record DotPassed (f : Flow) (v : ℕ) (r : Flow) : Type 0 where
   pub rightIs : r .right ≡ partOf 7 (restOf v)
   pub downIs : r .down ≡ f .down / 256 + partsOf (restOf v)
-  pub calm : r .stirred ≡ 0 → (f .stirred ≡ 0) × (partsOf (restOf v) ≡ 534552)
+  pub unstirred : r .stirred ≡ 0 → (f .stirred ≡ 0) × (partsOf (restOf v) ≡ noneDown)
   pub digitsIs : r .digits ≡ f .digits * 2 + v / 256
 
 -- of the sum for the column on the left of x below: the parts of the dots before x

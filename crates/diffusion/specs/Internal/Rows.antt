@@ -54,6 +54,7 @@ served w h samples out work = leb (w * h) samples && (leb (h * rowBytes w) out &
 -- the plane at the output's front where it is served, and otherwise the output as it was; of the work buffer the first w
 -- numbers are free then
 pub record DitherPlane (w h : ℕ) (gray out : List ℕ) (work : List ℤ) (out′ : List ℕ) (work′ : List ℤ) : Type 0 where
-  pub written : out′ ≡ if (served w h (length gray) (length out) (length work)) (plane w h (ditherBit w gray) ++ drop (h * rowBytes w) out) out
+  pub written : out′ ≡ if (served w h (length gray) (length out) (length work))
+      (plane w h (ditherBit w gray) ++ drop (h * rowBytes w) out) out
   pub beyond : drop w work′ ≡ drop w work
   pub unserved : served w h (length gray) (length out) (length work) ≡ false → work′ ≡ work

@@ -53,7 +53,8 @@ abbrev pub Handed : ℕ → Scan → ℕ → (ℕ → ℕ) → Type 0
 Handed w scan y sums =
     (x : ℕ) → x < w
     → subℕ (sums x) none
-    ≡ part 1 (before toRight w (above rightwards w scan y) x) +ℤ part 5 (above rightwards w scan y x) +ℤ part 3 (after toRight w (above rightwards w scan y) x)
+    ≡ part 1 (before toRight w (above rightwards w scan y) x) +ℤ part 5 (above rightwards w scan y x)
+    +ℤ part 3 (after toRight w (above rightwards w scan y) x)
 
 -- the sums that a work buffer holds
 abbrev pub sumsOf : List ℤ → ℕ → ℕ

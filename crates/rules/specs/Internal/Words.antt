@@ -1,5 +1,5 @@
 -- Eight samples, or eight dots, as one number with a byte for each.
-use Prim.Native.Nat.{ℕ, zero, suc, _+_, _*_, _%_, _<_}
+use Prim.Native.Nat.{ℕ, zero, suc, _+_, _-_, _*_, _%_, _<_}
 use mathlib.Core.Path.{_≡_}
 use mathlib.Core.Bool.{Bool, true}
 use mathlib.Core.List.{List}
@@ -20,13 +20,21 @@ Below b f = (i : ℕ) → f i < b
 abbrev pub samplesFrom : List ℕ → ℕ → ℕ → ℕ
 samplesFrom gray at i = getD gray (at + i) 0
 
--- where w's eight bytes are f's values, those of r are their dots
+-- eight values, the last one first
+abbrev pub backwards : (ℕ → ℕ) → ℕ → ℕ
+backwards f i = f (7 - i)
+
+-- where w's eight bytes are f's values, the highest bits of r's are their dots, and its other bits are 0
 abbrev pub Compares : ℕ → ℕ → ℕ → Type 0
-Compares t w r = (f : ℕ → ℕ) → Below 256 f → w ≡ bytes f 8 → r ≡ bytes (λ i. bit (leb t (f i))) 8
+Compares t w r = (f : ℕ → ℕ) → Below 256 f → w ≡ bytes f 8 → r ≡ bytes (λ i. bit (leb t (f i))) 8 * 128
 
 -- where z's eight bytes are f's values, each a dot, they are r's binary digits
 abbrev pub Gathers : ℕ → ℕ → Type 0
 Gathers z r = (f : ℕ → ℕ) → Below 2 f → z ≡ bytes f 8 → r ≡ digits f 8
+
+-- where the highest bits of z's eight bytes are f's values, the last one first, and its other bits are 0, they are r's binary digits
+abbrev pub GathersBackwards : ℕ → ℕ → Type 0
+GathersBackwards z r = (f : ℕ → ℕ) → Below 2 f → z ≡ bytes (backwards f) 8 * 128 → r ≡ digits f 8
 
 -- where w's eight bytes are f's values, r says whether each is 0 or 255
 abbrev pub TellsPlain : ℕ → Bool → Type 0

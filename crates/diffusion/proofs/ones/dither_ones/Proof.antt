@@ -18,9 +18,9 @@ start c = c .before .before .before .before
 bytes : (c : tie.In-loop Inv-loop μ-loop) (n : ℕ) → getD (now (start c .args .gray)) n 0 < 256
 bytes c n = let f = c .before .before .before .shared-slice-known .given n in omega arith
 
-small : (c : tie.After-five Inv-loop μ-loop)
-    → getD (now (start (c .before .before) .args .gray)) (c .before .before .before .loop .y) 0 + c .five .result + 88 < 512
-small c = ones-small (bytes (c .before .before)) (c .before .before .before .loop .inv) (c .five .result) (c .five .ensures)
+small : (c : tie.After-part Inv-loop μ-loop)
+    → getD (now (start (c .before .before) .args .gray)) (c .before .before .before .loop .y) 0 + c .part .result + 88 < 512
+small c = ones-small (bytes (c .before .before)) (c .before .before .before .loop .inv) (c .part .result) (c .part .ensures .0)
 
 loop-holds : tie.Need-loop-holds Inv-loop μ-loop
 loop-holds c =
@@ -33,8 +33,8 @@ shared-slice-read-value c = omega (arith, start (c .before) .pre .there, c .befo
 cast-value : tie.Need-cast-value Inv-loop μ-loop
 cast-value c = omega (arith, c .shared-slice-known2 .given (c .before .before .loop .y))
 
-five-requires : tie.Need-five-requires Inv-loop μ-loop
-five-requires c κs = c .before .before .loop .inv .small
+part-requires : tie.Need-part-requires Inv-loop μ-loop
+part-requires c κs = (omega arith, c .before .before .loop .inv .small)
 
 add-value : tie.Need-add-value Inv-loop μ-loop
 add-value c = omega (arith, small c)
@@ -67,7 +67,7 @@ loop-less c = omega (arith, c .before .before .loop-test .taken)
 loop-again : tie.Need-loop-again Inv-loop μ-loop
 loop-again c =
     let q = c .before .before in
-    ones-next (bytes q) (q .before .loop .inv) (c .five .result) (c .five .ensures) (q .loop-test .taken) (start q .pre)
+    ones-next (bytes q) (q .before .loop .inv) (c .part .result) (c .part .ensures .0) (q .loop-test .taken) (start q .pre)
 
 same-length : tie.Need-same-length Inv-loop μ-loop
 same-length c = c .before .loop .inv .written .long
@@ -84,7 +84,7 @@ dither-ones-spec =
     loop-holds
     shared-slice-read-value
     cast-value
-    five-requires
+    part-requires
     add-value
     add-value-2
     mul-out

@@ -80,11 +80,11 @@ there : (l : tie.At-loop Inv-loop μ-loop) →
     l .loop .j < (w - 1) / 8 → 8 * l .loop .j + 8 ≤ w
 there l h = omega arith
 
-mul-eight-or-level : tie.Need-mul-eight-or-level Inv-loop μ-loop
-mul-eight-or-level c = let l = c .before in omega (arith, there l (c .loop-test .taken), start l .good)
+mul-eight-dots-or-level : tie.Need-mul-eight-dots-or-level Inv-loop μ-loop
+mul-eight-dots-or-level c = let l = c .before in omega (arith, there l (c .loop-test .taken), start l .good)
 
-eight-or-level-requires : tie.Need-eight-or-level-requires Inv-loop μ-loop
-eight-or-level-requires c κs =
+eight-dots-or-level-requires : tie.Need-eight-dots-or-level-requires Inv-loop μ-loop
+eight-dots-or-level-requires c κs =
     let l = c .before .before in
     let s = start l in
     let q = byte-lent _ _ _ _ _ _ _ (made l) (s .pre .1 .1 .kept) (there l (c .before .loop-test .taken)) in
@@ -94,7 +94,7 @@ cast-out-2 : tie.Need-cast-out-2 Inv-loop μ-loop
 cast-out-2 c =
     let d = c .before .before in
     let l = d .before .before .before in
-    omega (arith, digits-byte _ _ _ _ _ _ _ (made l) _ _ (d .eight-or-level .ensures _ (made l .at)))
+    omega (arith, digits-byte _ _ _ _ _ _ _ (made l) _ _ (d .eight-dots-or-level .ensures _ (made l .at)))
 
 -- there is room for a byte more
 fits : (l : tie.At-loop Inv-loop μ-loop) → l .loop .j < (length (now (start l .args .gray)) - 1) / 8 → l .loop .j < length (l .loop .out)
@@ -130,7 +130,7 @@ loop-again c =
       to = omega (arith, t);
       passed = λ old room p.
           let q = v .passed old room p in
-          bytes-more _ _ _ _ _ _ _ q _ _ (d .eight-or-level .ensures old (q .at)) (there l t) (omega (arith, fits l t, q .outLong));
+          bytes-more _ _ _ _ _ _ _ q _ _ (d .eight-dots-or-level .ensures old (q .at)) (there l t) (omega (arith, fits l t, q .outLong));
     }
 
 same-length : tie.Need-same-length Inv-loop μ-loop
@@ -160,8 +160,8 @@ bytes-spec =
     cast-out
     slice-write-out
     loop-holds
-    mul-eight-or-level
-    eight-or-level-requires
+    mul-eight-dots-or-level
+    eight-dots-or-level-requires
     cast-out-2
     slice-write-out-2
     add-j

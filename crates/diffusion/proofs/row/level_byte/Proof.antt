@@ -19,8 +19,8 @@ small c =
 returns : tie.Need-returns
 returns c = (λ h. let z : ⊥ = omega arith in absurd z, omega arith)
 
-level-eight-requires : tie.Need-level-eight-requires
-level-eight-requires c κs = search needs
+eight-are-level-requires : tie.Need-eight-are-level-requires
+eight-are-level-requires c κs = search needs
 
 returns-2 : tie.Need-returns-2
 returns-2 c = (λ h. let z : ⊥ = omega arith in absurd z, omega arith)
@@ -55,8 +55,8 @@ returns-4 c =
     let l = r .before .before .before in
     let s = l .before .before .before .before in
     let a = s .args in (
-      λ h. level-told (now (a .gray)) (a .x) _ _ _ (r .plain-row .ensures) (not-false _ (c .if3 .left)) (s .pre .0) (a .right) (now (a .work))
-          (l .before .before .if1 .left) (l .before .level-eight .ensures (not-false _ (l .if2 .left))),
+      λ h. level-told (now (a .gray)) (a .x) _ _ _ (r .plain-row .ensures) (not-false _ (c .if3 .left)) (s .pre .0) (a .right)
+          (now (a .work)) (l .before .before .if1 .left) (l .before .eight-are-level .ensures (not-false _ (l .if2 .left))),
       omega (arith, small c),
     )
 
@@ -65,7 +65,7 @@ level-byte-spec =
     tie.close
     (tie.spec
     returns
-    level-eight-requires
+    eight-are-level-requires
     returns-2
     sub-plain-row
     part-plain-row-start

@@ -74,8 +74,8 @@ loop-again : tie.Need-loop-again Inv-loop μ-loop
 loop-again c =
     let l = c .before .before in
     let s = start l in
-    two-more (s .pre .0) (l .loop .inv) (s .pre .1 .0) (narrow l) (omega (arith, c .before .loop-test .taken)) (c .byte .result) (s .args .mask)
-    (s .pre .1 .2) (c .byte .ensures)
+    two-more (s .pre .0) (l .loop .inv) (s .pre .1 .0) (narrow l) (omega (arith, c .before .loop-test .taken)) (c .byte .result)
+    (s .args .mask) (s .pre .1 .2) (c .byte .ensures)
 
 same-length : tie.Need-same-length Inv-loop μ-loop
 same-length c = let s = start (c .before) in rows-length (s .pre .0) (c .before .loop .inv)

@@ -1,5 +1,5 @@
 use Prim.Native.Nat.{ℕ, _+_}
-use mathlib.Core.Path.{ap, sym}
+use mathlib.Core.Path.{refl, ap, sym}
 use native.Mathlib.Nat.{add-zero}
 use native.Mathlib.Omega.{arith}
 use denote.Ref.{now}
@@ -90,7 +90,7 @@ returns c =
     let a = c .before .before .before .before .before .before .before .before .args in
     let f = samplesFrom (now (a .gray)) (a .at) in
     let small : Below 256 f = λ i. omega (arith, c .shared-slice-known8 .given (a .at + i)) in
-    (joined f small (getD (now (a .gray)) (a .at) 0) (ap (λ (i : ℕ). getD (now (a .gray)) i 0) (sym (add-zero (a .at)))), small)
+    (joined f small (getD (now (a .gray)) (a .at) 0) (f 7) (ap (λ (i : ℕ). getD (now (a .gray)) i 0) (sym (add-zero (a .at)))) refl, small)
 
 pub word-spec : {M : Type 1} → statement M
 word-spec =

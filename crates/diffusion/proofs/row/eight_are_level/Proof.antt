@@ -1,4 +1,4 @@
--- `diffusion::row::level_eight` meets its contract.
+-- `diffusion::row::eight_are_level` meets its contract.
 -- Assumes nothing.
 use Prim.Native.Nat.{ℕ, _+_, _-_, _≤_, _<_}
 use mathlib.Core.Path.{_≡_, sym, ap, _∙_}
@@ -12,8 +12,8 @@ use mir.Syntax.{w16}
 use mir.Val.{toZ}
 use mir.ValLaws.{toZ-ofZ}
 use Rattle.rules.proofs.BelowGrows.{one-further}
-use Rattle.diffusion.proofs.row.level_eight.Statement.{statement}
-use Rattle.diffusion.proofs.row.level_eight.Tie as tie
+use Rattle.diffusion.proofs.row.eight_are_level.Statement.{statement}
+use Rattle.diffusion.proofs.row.eight_are_level.Tie as tie
 
 abbrev Inv-loop : tie.InvT-loop
 Inv-loop work x others₀ i₀ others i = (i ≤ 8) × (others ≡ 0 → (j : ℕ) → j < i → getD work (x + j) (pos 0) ≡ pos 72)
@@ -53,8 +53,8 @@ loop-again c =
 returns : tie.Need-returns Inv-loop μ-loop
 returns c = λ e i h. c .before .loop .inv .1 (eqb-true (c .before .loop .others) 0 e) i (omega (arith, c .loop-test .left))
 
-pub level-eight-spec : {M : Type 1} → statement M
-level-eight-spec =
+pub eight-are-level-spec : {M : Type 1} → statement M
+eight-are-level-spec =
     tie.close
     (tie.spec
     Inv-loop

@@ -1,4 +1,4 @@
--- `diffusion::row::eight_or_level` meets its contract.
+-- `diffusion::row::eight_dots_or_level` meets its contract.
 -- Assumes nothing.
 use native.Mathlib.Omega.{arith}
 use borrow.Author.Needs.{needs}
@@ -6,14 +6,14 @@ use denote.Ref.{now}
 use mir.Syntax.{w16}
 use mir.ValLaws.{toZ-pos}
 use Rattle.diffusion.proofs.LevelDots.{level-dots}
-use Rattle.diffusion.proofs.row.eight_or_level.Statement.{statement}
-use Rattle.diffusion.proofs.row.eight_or_level.Tie as tie
+use Rattle.diffusion.proofs.row.eight_dots_or_level.Statement.{statement}
+use Rattle.diffusion.proofs.row.eight_dots_or_level.Tie as tie
 
 level-byte-requires : tie.Need-level-byte-requires
 level-byte-requires c κs = search needs
 
-eight-requires : tie.Need-eight-requires
-eight-requires c κs = search needs
+eight-dots-requires : tie.Need-eight-dots-requires
+eight-dots-requires c κs = search needs
 
 same-length : tie.Need-same-length
 same-length c = search needs
@@ -46,14 +46,15 @@ returns-2 c =
     let a = s .args in
     let p = s .pre .1 .1 in
     let l = e .level-byte .ensures .0 (omega (arith, e .level-byte .ensures .1, c .before .if1 .left)) in
-    λ old t. level-dots (now (a .gray)) old (a .x) (a .f) (now (a .work)) _ l t (p .1) (p .0 .inRow) (p .0 .kept) _ (toZ-pos w16 _ (omega arith))
+    λ old t. level-dots (now (a .gray)) old (a .x) (a .f) (now (a .work)) _ l t (p .1) (p .0 .inRow) (p .0 .kept) _
+    (toZ-pos w16 _ (omega arith))
 
-pub eight-or-level-spec : {M : Type 1} → statement M
-eight-or-level-spec =
+pub eight-dots-or-level-spec : {M : Type 1} → statement M
+eight-dots-or-level-spec =
     tie.close
     (tie.spec
     level-byte-requires
-    eight-requires
+    eight-dots-requires
     same-length
     returns
     sub-k

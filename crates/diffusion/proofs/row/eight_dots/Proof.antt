@@ -1,4 +1,4 @@
--- `diffusion::row::eight` meets its contract.
+-- `diffusion::row::eight_dots` meets its contract.
 -- Assumes nothing.
 use Prim.Native.Nat.{_+_, _-_, _<_}
 use mathlib.Core.Path.{_≡_, refl}
@@ -11,8 +11,8 @@ use mir.Syntax.{w16}
 use mir.Val.{toZ, ofZ}
 use mir.ValLaws.{toZ-ofZ, toZ-pos}
 use Rattle.diffusion.proofs.RowGrows.{DotsRun, byte-begins, run-start, run-at, run-long, run-lent, run-more, run-end, sum-left}
-use Rattle.diffusion.proofs.row.eight.Statement.{statement}
-use Rattle.diffusion.proofs.row.eight.Tie as tie
+use Rattle.diffusion.proofs.row.eight_dots.Statement.{statement}
+use Rattle.diffusion.proofs.row.eight_dots.Tie as tie
 
 abbrev Inv-loop : tie.InvT-loop
 Inv-loop rights downs gray x work₀ s₀ i₀ work s i = DotsRun gray x (x + 8) s₀ work₀ (x + i) s work
@@ -112,8 +112,8 @@ same-length c = long (c .before)
 returns : tie.Need-returns Inv-loop μ-loop
 returns c = λ old a. run-end _ _ _ _ _ _ _ _ (c .before .loop .inv) (omega (arith, c .loop-test .left)) old (byte-begins _ _ _ _ _ a)
 
-pub eight-spec : {M : Type 1} → statement M
-eight-spec =
+pub eight-dots-spec : {M : Type 1} → statement M
+eight-dots-spec =
     tie.close
     (tie.spec
     Inv-loop
