@@ -1,4 +1,5 @@
 // A turn of the engine: whole bytes at once, then the samples of one byte.
+use laws::least;
 use options::Quantize;
 use ordered::ordered_row_dots;
 use rules::RowDots;
@@ -36,12 +37,6 @@ pub struct Advanced {
     pub place: Place,
     pub byte: u8,
     pub whole: bool,
-}
-
-fn least(a: usize, b: usize) -> usize
-    ensures { λ r. ⌜ (r ≤ a) × (r ≤ b) ⌝ }
-{
-    if a < b { a } else { b }
 }
 
 // How many whole bytes of a row, but its last, so many samples give and so much room takes.
