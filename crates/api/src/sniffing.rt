@@ -2,6 +2,7 @@
 use crate::Sniffed;
 use crate::front::Front;
 use crate::front::read_front;
+use decoder::MAX_READ_FRAMES;
 use image::PlaneLayout;
 ghost use mathlib.Core.Path.{_≡_};
 ghost use Prim.Native.Nat.{_<_, _≤_, _+_, _*_, _/_, _^_};
@@ -64,7 +65,7 @@ fn sniff_length(plane: usize, size: usize) -> Sniffed
     if size < plane {
         return Sniffed::Truncated;
     }
-    if 16 * plane < size {
+    if MAX_READ_FRAMES * plane < size {
         return Sniffed::Neither;
     }
     if size % plane != 0 {

@@ -8,6 +8,7 @@ use lib.IntN.{ℤ}
 use lib.ListN.{length}
 use Rattle.error.specs.Choice.{if}
 use Rattle.error.specs.Answer.{Answer, gives, refuses, codeOf}
+use Rattle.ext.specs.Kinds.{longestFields}
 use Rattle.header.specs.declared.ExtPresence.the-variants.{Absent}
 use Rattle.image.specs.declared.PixelFormat.{PixelFormat}
 use Rattle.image.specs.declared.PixelFormat.the-variants.{MonoBlack, MonoWhite}
@@ -51,7 +52,7 @@ rule dithered = record { quantize = ruleOf dithered; ext = Absent; strict = fals
 
 -- the machine at the start: closed where the extension buffer is too short
 abbrev pub readingFrom : Bool → ℕ → Reading.Model
-readingFrom inverted ext = let m = Reading.opened (asked inverted) in if (leb 4118 ext) m (Reading.shut m)
+readingFrom inverted ext = let m = Reading.opened (asked inverted) in if (leb longestFields ext) m (Reading.shut m)
 
 -- so many calls are made, with their replies in every lent byte
 pub record ReadsList (inverted : Bool) (numbers file out ext answers : List ℕ) (r : ℕ) (out′ ext′ answers′ : List ℕ) : Type 0 where

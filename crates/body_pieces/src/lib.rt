@@ -2,9 +2,8 @@
 use crate::convert::convert;
 use image::PixelFormat;
 use image::PlaneLayout;
+use laws::least;
 ghost use mathlib.Core.Path.{_≡_};
-ghost use mathlib.Core.Logic.{_⊎_};
-ghost use Prim.Native.Nat.{_≤_};
 ghost use Rattle.body_pieces.specs.Internal.Body.{Advances, Bodies};
 
 mod convert;
@@ -26,12 +25,6 @@ fn fed(taken: usize, written: usize, whole: usize, begun: usize) -> BodyFed
         whole,
         begun,
     }
-}
-
-pub fn least(a: usize, b: usize) -> usize
-    ensures { λ r. ⌜ (r ≤ a) × ((r ≤ b) × ((r ≡ a) ⊎ (r ≡ b))) ⌝ }
-{
-    if a < b { a } else { b }
 }
 
 // How far the body goes where so many bytes are given and there is room for so many. 16 planes can pass 64 bits, so no total is kept.

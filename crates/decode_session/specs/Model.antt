@@ -8,6 +8,7 @@ use lib.ListN.{length, take, drop}
 use lib.Seq.{sets}
 use Rattle.error.specs.Choice.{if}
 use Rattle.error.specs.Answer.{Answer, gives, refuses, bind, map, isEnd}
+use Rattle.ext.specs.Kinds.{longestFields}
 use Rattle.header.specs.Read.{Outline}
 use Rattle.options.specs.Limits.{Decoding, settled, ceilingOf}
 use Rattle.decoder.specs.Image.{imageSettings, readImage}
@@ -32,7 +33,7 @@ opened d = record { options = d; live = true; bytes = []; met = nothing }
 
 -- the settings are tested, which refuses none, and then "Opening a reading gives 28", where the extension buffer is below 4,118
 abbrev pub opening : Decoding → ℕ → Answer (Unit {0})
-opening d extension = bind (settled d) (λ _. if (leb 4118 extension) (gives tt) (refuses 28 0))
+opening d extension = bind (settled d) (λ _. if (leb longestFields extension) (gives tt) (refuses 28 0))
 
 -- a call with what it is lent: a piece of the file, and the output and the extension buffer as they are before the call; closing is lent
 -- none
@@ -111,7 +112,7 @@ unaltered m code place out ext = record { reply = record { answer = refuses code
 -- "Each session call tests 30, then a refusal met by an earlier call, then 28 for a buffer lent to it"
 abbrev pub afterMet : Model → List ℕ → List ℕ → List ℕ → Met → Outcome
 afterMet m piece out ext nothing =
-    if (leb 4118 (length ext)) (fedBy m piece out ext (meets m piece)) (unaltered m 28 0 out ext)
+    if (leb longestFields (length ext)) (fedBy m piece out ext (meets m piece)) (unaltered m 28 0 out ext)
 afterMet m piece out ext (metAt code place) = unaltered m code place out ext
 
 -- "Closing gives the frame count, without an unfinished extra frame, or 1, 6, 9, 13 or 20. A refused session repeats its refusal"

@@ -1,10 +1,10 @@
 // Closing a session.
 use crate::DecodeClose;
 use crate::Stage;
-use body_pieces::least;
 use decoder::MAX_READ_FRAMES;
 use error::PLANE_TOO_SHORT;
 use error::WbmpError;
+use laws::least;
 ghost use Rattle.decode_session.specs.Internal.Stages.{Finishes};
 
 // What closing answers: the refusal met, that of a file which ends in its header or its first plane, or how many planes are whole.

@@ -21,6 +21,7 @@ ghost use mathlib.Core.Path.{_≡_};
 ghost use mathlib.Core.Bool.{true};
 ghost use Prim.Native.Nat.{_≤_};
 ghost use lib.ListN.{length};
+ghost use Rattle.ext.specs.Kinds.{longestFields};
 ghost use Rattle.decode_session.specs.Session.{Feeds};
 ghost use Rattle.decode_session.specs.Internal.Stages.{takenIn, metIn, Planes, Begins};
 
@@ -140,7 +141,7 @@ pub(crate) fn feed_head(
     out: &mut [u8],
     ext: &mut [u8],
 ) -> DecodeFed
-    requires { ⌜ 4118 ≤ length (now ext) ⌝ }
+    requires { ⌜ longestFields ≤ length (now ext) ⌝ }
     ensures { λ r. ⌜ Feeds (record { options = options; stage = Stage.Header reader at kept; live = true }) (now (piece .entry))
         (now (out .entry)) (now (ext .entry)) r (now (out .exit)) (now (ext .exit)) ⌝ }
 {

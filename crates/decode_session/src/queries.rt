@@ -1,9 +1,9 @@
 // What a caller can ask of a session, open or closed.
 use crate::DecodeSession;
 use crate::Stage;
-use body_pieces::least;
 use decoder::MAX_READ_FRAMES;
 use header_reader::FieldsSeen;
+use laws::least;
 ghost use Rattle.decode_session.specs.Session.{TellsClosed, TellsFrames, SeesFields};
 
 impl DecodeSession {

@@ -33,6 +33,10 @@ fieldsFollow b = leb 128 b
 abbrev pub kindBits : ℕ → ℕ
 kindBits b = b / 32 % 4
 
+-- "A pair may start at 4,095; the fields are at most 4,118 bytes": such a pair ends them with a header byte and 7 and 15 bytes
+abbrev pub longestFields : ℕ
+longestFields = 4118
+
 -- Where fields stand in an input: their kind's number, their first byte's offset, how many bytes they are, and how many pairs.
 pub data Span : Type 0 where
   absent : Span

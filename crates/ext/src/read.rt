@@ -21,7 +21,7 @@ ghost use Rattle.ext.specs.Internal.Pairwise.{pairMeaning, pairStep, pai
 fn refused(code: u8, offset: usize) -> ExtRead
     ensures { λ r. ⌜ meaning r ≡ refuses code offset ⌝ }
 {
-    ExtRead::Refused(WbmpError { code, offset })
+    ExtRead::Refused(WbmpError::new(code, offset))
 }
 
 fn found(ext_type: ExtFieldType, start: usize, end: usize, pairs: usize) -> ExtRead
@@ -39,7 +39,7 @@ fn found(ext_type: ExtFieldType, start: usize, end: usize, pairs: usize) -> ExtR
 fn pair_refused(code: u8, offset: usize) -> PairRead
     ensures { λ r. ⌜ pairMeaning r ≡ refuses code offset ⌝ }
 {
-    PairRead::Refused(WbmpError { code, offset })
+    PairRead::Refused(WbmpError::new(code, offset))
 }
 
 // The pair behind its header byte, where the identifier starts at an offset.

@@ -14,8 +14,10 @@ use Rattle.error.specs.Choice.{if}
 use Rattle.error.specs.Answer.{Answer, codeOf}
 use Rattle.laws.proofs.Lists.{drop-at, length-part}
 use Rattle.laws.proofs.Tests.{if-true, if-false}
+use Rattle.ext.specs.Kinds.{Pair}
 use Rattle.ext_write.specs.Write.{checkPair, pairBytes}
-use Rattle.ext_write.specs.Internal.Steps.{lentPair, startAfter, checkStep, checkPairs, canPut, putStep, putOutput, putPairs}
+use Rattle.ext_write.specs.Internal.Steps.{lentPair, startAfter, firstCode, checkStep, checkPairs, canPut, putStep}
+use Rattle.ext_write.specs.Internal.Steps.{putOutput, putPairs}
 use Rattle.ext_write.specs.declared.PairsCheck.{PairsCheck}
 use Rattle.ext_write.specs.declared.PairsPut.{PairsPut}
 
@@ -129,6 +131,14 @@ module _ (text : List ℕ) (at len : ℕ) (old : List ℕ) (to : ℕ) where
         let n : len - i ≡ 0 = omega arith in
         sym (c .rest ∙ rw n refl)
 
+-- the number of the first refusal: one that came before, or this pair's
+module _ (strict : Bool) (code : ℕ) (p : Pair) where
+  pub first-kept : (code ≡ 0 → ⊥) → code ≡ firstCode strict code p
+  first-kept n = sym (if-false _ _ _ (ne-eqb _ _ n))
+
+  pub first-new : code ≡ 0 → (a : Answer (Unit {0})) → a ≡ checkPair strict p → codeOf a ≡ firstCode strict code p
+  first-new z a e = ap codeOf e ∙ sym (if-true _ _ _ (eq-eqb _ _ z))
+
 -- one step of a check
 module _ (strict : Bool) (text : List ℕ) (s : PairsCheck) (i v : ℕ) where
   pub step-past : length text < s .at + i + v → record { at = s .at; start = s .start; code = 31 } ≡ checkStep strict text s i v
@@ -140,20 +150,12 @@ module _ (strict : Bool) (text : List ℕ) (s : PairsCheck) (i v : ℕ) where
     abbrev next : ℕ → PairsCheck
     next code = record { at = s .at + i + v; start = startAfter (s .start) i v; code = code }
 
-    pub step-kept : (start : ℕ) → start ≡ startAfter (s .start) i v → (s .code ≡ 0 → ⊥)
-        → record { at = s .at + i + v; start = start; code = s .code } ≡ checkStep strict text s i v
+    pub step-within : (start code : ℕ) → start ≡ startAfter (s .start) i v
+        → code ≡ firstCode strict (s .code) (lentPair text (s .at) i v)
+        → record { at = s .at + i + v; start = start; code = code } ≡ checkStep strict text s i v
     unfolding checkStep
-    step-kept start f n =
-        ap (λ (m : ℕ). record { at = s .at + i + v; start = m; code = s .code }) f
-        ∙ sym (if-true _ _ _ (le-leb _ _ h) ∙ ap next (if-false _ _ _ (ne-eqb _ _ n)))
-
-    pub step-new : (start : ℕ) → start ≡ startAfter (s .start) i v → (a : Answer (Unit {0})) → s .code ≡ 0
-        → a ≡ checkPair strict (lentPair text (s .at) i v)
-        → record { at = s .at + i + v; start = start; code = codeOf a } ≡ checkStep strict text s i v
-    unfolding checkStep
-    step-new start f a z e =
-        ap (λ (m : ℕ). record { at = s .at + i + v; start = m; code = codeOf a }) f
-        ∙ sym (if-true _ _ _ (le-leb _ _ h) ∙ ap next (if-true _ _ _ (eq-eqb _ _ z) ∙ ap codeOf (sym e)))
+    step-within start code f g =
+        ap (λ (m : ℕ). record { at = s .at + i + v; start = m; code = code }) f ∙ ap next g ∙ sym (if-true _ _ _ (le-leb _ _ h))
 
 -- one step of a put
 module _ (text out : List ℕ) (s : PairsPut) (i v : ℕ) where
@@ -200,11 +202,11 @@ lent-bytes text at i v more h =
     rw (e, f, take-add i v (drop at text), drop-drop i at text) refl
 
 -- the pair that two parts of the text make, as the code cuts them
-pub parts-pair : (strict : Bool) (text : List ℕ) (at i v : ℕ)
-    → checkPair strict
+pub parts-pair : (strict : Bool) (code : ℕ) (text : List ℕ) (at i v : ℕ)
+    → firstCode strict code
     (record { identifier = take (at + i - at) (drop at text); value = take (at + i + v - (at + i)) (drop (at + i) text) })
-    ≡ checkPair strict (lentPair text at i v)
-parts-pair strict text at i v =
+    ≡ firstCode strict code (lentPair text at i v)
+parts-pair strict code text at i v =
     let e : at + i - at ≡ i = omega arith in
     let f : at + i + v - (at + i) ≡ v = omega arith in
     rw (e, f) refl

@@ -11,7 +11,7 @@ ghost use mathlib.Core.Path.{_≡_};
 ghost use lib.ListN.{length, take, drop, getD};
 ghost use lib.Seq.{sets};
 ghost use Rattle.error.specs.Choice.{if};
-ghost use Rattle.ext_write.specs.Internal.Steps.{checkStart, startAfter, checkStep, checkPairs, pairsLength};
+ghost use Rattle.ext_write.specs.Internal.Steps.{checkStart, startAfter, firstCode, checkStep, checkPairs, pairsLength};
 ghost use Rattle.ext_write.specs.Internal.Steps.{putStart, putStep, putOutput, putPairs};
 
 pub(crate) fn check_start() -> PairsCheck
@@ -36,6 +36,19 @@ fn start_after(start: usize, identifier_len: usize, value_len: usize) -> usize
     }
 }
 
+// The number of the first refusal, 0 for none: of one that came before, or of this pair.
+fn first_code(code: u8, identifier: &[u8], value: &[u8], strict: bool) -> u8
+    ensures { λ r. ⌜ r ≡ firstCode strict code (record { identifier = now (identifier .entry); value = now (value .entry) }) ⌝ }
+{
+    if code != 0 {
+        return code;
+    }
+    match check_parameter(identifier, value, strict) {
+        Checked::Accepted => 0,
+        Checked::Refused(e) => e.code,
+    }
+}
+
 pub(crate) fn check_pair(
     text: &[u8],
     s: PairsCheck,
@@ -46,11 +59,9 @@ pub(crate) fn check_pair(
     ensures { λ r. ⌜ r ≡ checkStep strict (now (text .entry)) s «identifier_len» «value_len» ⌝ }
 {
     let at = s.at;
-    let start = s.start;
-    let code = s.code;
     let past = PairsCheck {
         at,
-        start,
+        start: s.start,
         code: error::PAIR_LENGTHS,
     };
     if text.len() < at {
@@ -64,25 +75,12 @@ pub(crate) fn check_pair(
         return past;
     }
     let end = value + value_len;
-    let start = start_after(start, identifier_len, value_len);
-    if code != 0 {
-        return PairsCheck {
-            at: end,
-            start,
-            code,
-        };
-    }
-    match check_parameter(&text[at..value], &text[value..end], strict) {
-        Checked::Accepted => PairsCheck {
-            at: end,
-            start,
-            code: 0,
-        },
-        Checked::Refused(e) => PairsCheck {
-            at: end,
-            start,
-            code: e.code,
-        },
+    let start = start_after(s.start, identifier_len, value_len);
+    let code = first_code(s.code, &text[at..value], &text[value..end], strict);
+    PairsCheck {
+        at: end,
+        start,
+        code,
     }
 }
 
@@ -134,7 +132,7 @@ pub(crate) fn pairs_length(size: usize, number: usize, s: PairsCheck) -> FieldsC
 pub(crate) fn refused(code: u8) -> FieldsCheck
     ensures { λ r. ⌜ r ≡ FieldsCheck.Refused (record { code = code; offset = 0 }) ⌝ }
 {
-    FieldsCheck::Refused(WbmpError { code, offset: 0 })
+    FieldsCheck::Refused(WbmpError::new(code, 0))
 }
 
 fn pair_header(identifier_len: usize, value_len: usize, more: bool) -> u8

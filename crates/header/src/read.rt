@@ -48,7 +48,7 @@ impl HeaderMode {
 fn refused(code: u8, offset: usize) -> HeaderRead
     ensures { λ r. ⌜ r ≡ HeaderRead.Refused (record { code = code; offset = offset }) ⌝ }
 {
-    HeaderRead::Refused(WbmpError { code, offset })
+    HeaderRead::Refused(WbmpError::new(code, offset))
 }
 
 fn read_integer(bytes: &[u8], offset: usize, shortest: bool) -> MbiRead

@@ -1,6 +1,7 @@
 // Headers read from pieces of a file: the bytes go to the header's reader, one by one or in runs, and those of extension fields to a lent
 // buffer too.
 use error::WbmpError;
+use ext::MAX_EXT_FIELD_BYTES;
 use header::ParsedHeader;
 use header_reader::HeaderReader;
 use header_reader::HeaderStep;
@@ -10,8 +11,9 @@ ghost use lib.ListN.{length};
 ghost use Rattle.header_pieces.specs.Internal.Head.{isKept, Keeps, Heads};
 ghost use Rattle.header_pieces.specs.Internal.HeadRun.{KeepsRun, RunsOn};
 
-// The least length of an extension buffer: no fields are longer.
-pub const EXTENSION_BYTES: usize = 4118;
+// The least length of an extension buffer, 4,118: no fields are longer, since the last pair starts at 4,095 at most and has a header byte
+// and 7 and 15 bytes.
+pub const EXTENSION_BYTES: usize = MAX_EXT_FIELD_BYTES - 1 + (1 + 7 + 15);
 
 // How the header's part of a piece ends: the header goes on, it ended, or it is refused.
 pub enum HeadEnd {

@@ -4,10 +4,10 @@ use crate::phase::PairChain;
 use ext::MAX_EXT_FIELD_BYTES;
 use ext::PairHeader;
 use header::HeaderMode;
+use laws::least;
 ghost use mathlib.Core.Path.{_≡_};
 ghost use mathlib.Core.Bool.{false};
 ghost use mathlib.Core.Logic.{_⊎_};
-ghost use Prim.Native.Nat.{_≤_};
 ghost use Rattle.header.specs.Settings.{Settings, settings};
 ghost use Rattle.header_reader.specs.Internal.Machine.{inOctets};
 ghost use Rattle.header_reader.specs.Internal.Represents.{fieldsState};
@@ -25,12 +25,6 @@ pub struct FieldsRun {
 pub struct PairsRun {
     pub taken: usize,
     pub pairs: usize,
-}
-
-fn least(a: usize, b: usize) -> usize
-    ensures { λ r. ⌜ (r ≤ a) × (r ≤ b) ⌝ }
-{
-    if a < b { a } else { b }
 }
 
 // The octets at the front of a piece behind which others come, `most` of them at most.

@@ -199,7 +199,7 @@ impl DecodeOptions {
 fn over(code: u8, offset: usize) -> Checked
     ensures { λ r. ⌜ checked r ≡ refuses code offset ⌝ }
 {
-    Checked::Refused(WbmpError { code, offset })
+    Checked::Refused(WbmpError::new(code, offset))
 }
 
 // The rule by which gray becomes black or white.

@@ -2,6 +2,7 @@
 use dither::RowDots;
 use dither::dither_row_bytes;
 use dither::dither_row_dots;
+use laws::least;
 use options::Quantize;
 use ordered::ordered_row_dots;
 use rules::threshold_row_bytes;
@@ -36,12 +37,6 @@ pub struct Advanced {
     pub place: Place,
     pub byte: u8,
     pub whole: bool,
-}
-
-fn least(a: usize, b: usize) -> usize
-    ensures { λ r. ⌜ (r ≤ a) × (r ≤ b) ⌝ }
-{
-    if a < b { a } else { b }
 }
 
 // How many whole bytes of a row, but its last, so many samples give and so much room takes.

@@ -31,6 +31,10 @@ lentPair text at i v = record { identifier = take i (drop at text); value = take
 abbrev pub startAfter : ℕ → ℕ → ℕ → ℕ
 startAfter start i v = if (ltb start 4096) (start + 1 + i + v) start
 
+-- the number of the first refusal, 0 for none: of one that came before, or of this pair
+abbrev pub firstCode : Bool → ℕ → Pair → ℕ
+firstCode strict code p = if (eqb code 0) (codeOf (checkPair strict p)) code
+
 -- One pair more: 31 where it runs past the text, whatever was refused before; else the first refusal stays.
 unfoldable pub checkStep : Bool → List ℕ → PairsCheck → ℕ → ℕ → PairsCheck
 checkStep strict text s i v =
@@ -38,7 +42,7 @@ checkStep strict text s i v =
     (record {
       at = s .at + i + v;
       start = startAfter (s .start) i v;
-      code = if (eqb (s .code) 0) (codeOf (checkPair strict (lentPair text (s .at) i v))) (s .code);
+      code = firstCode strict (s .code) (lentPair text (s .at) i v);
     })
     (record { at = s .at; start = s .start; code = 31 })
 

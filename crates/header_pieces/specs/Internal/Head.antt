@@ -7,6 +7,7 @@ use lib.Dec.{ltb}
 use lib.ListN.{length, drop, set}
 use lib.Seq.{sets}
 use Rattle.error.specs.Answer.{gives, refuses, map, isEnd}
+use Rattle.ext.specs.Kinds.{longestFields}
 use Rattle.header.specs.Settings.{Settings}
 use Rattle.header.specs.Read.{outline, parsed, readHeader}
 use Rattle.header_reader.specs.Internal.Machine.{State, start, more, steps}
@@ -37,9 +38,9 @@ Ends o bytes piece at r (HeadEnd.Refused e) =
 -- short of them nothing is done
 pub record Heads (r₀ : HeaderReader) (at kept : ℕ) (piece ext : List ℕ) (r : HeadFed) (ext′ : List ℕ) : Type 0 where
   pub within : r .taken ≤ length piece
-  pub short : length ext < 4118 → (r ≡ record { taken = 0; kept = kept; end = HeadEnd.More r₀ }) × (ext′ ≡ ext)
-  pub does : 4118 ≤ length ext → (o : Settings) (bytes : List ℕ) → Reached o bytes r₀ at kept → Ends o bytes piece at r (r .end)
-  pub stores : 4118 ≤ length ext → (o : Settings) (bytes : List ℕ) → Reached o bytes r₀ at kept
+  pub short : length ext < longestFields → (r ≡ record { taken = 0; kept = kept; end = HeadEnd.More r₀ }) × (ext′ ≡ ext)
+  pub does : longestFields ≤ length ext → (o : Settings) (bytes : List ℕ) → Reached o bytes r₀ at kept → Ends o bytes piece at r (r .end)
+  pub stores : longestFields ≤ length ext → (o : Settings) (bytes : List ℕ) → Reached o bytes r₀ at kept
       → ext′ ≡ sets ext kept (drop kept (fieldBytes o (bytes ++ piece)))
 
 -- whether a byte at an offset is stored: one of the fields, and before the place of its refusal

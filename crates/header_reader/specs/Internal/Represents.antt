@@ -5,6 +5,7 @@ use mathlib.Core.Bool.{false}
 use mathlib.Core.List.{[]}
 use Rattle.error.specs.Answer.{isEnd, refusal}
 use Rattle.error.specs.declared.WbmpError.{WbmpError}
+use Rattle.ext.specs.Kinds.{longestFields}
 use Rattle.header.specs.Settings.{Settings, settings}
 use Rattle.header.specs.Read.{extSpan, parsed}
 use Rattle.header_reader.specs.Internal.Machine.{State, inType, atFix, inOctets, atOctet, atPair, inIdentifier, inValue, inWidth}
@@ -36,11 +37,11 @@ Reachable (inType at v n) = (at ≤ n) × (n ≤ 7)
 Reachable (atFix at) = at ≤ 8
 Reachable (inOctets fix start at) = (start ≤ 9) × (at ≤ start + 4096) × (start ≤ at)
 Reachable (atOctet fix at) = at ≤ 9
-Reachable (atPair fix start at pairs) = (start ≤ 9) × (at ≤ start + 4118) × (pairs ≤ at) × (start ≤ at)
+Reachable (atPair fix start at pairs) = (start ≤ 9) × (at ≤ start + longestFields) × (pairs ≤ at) × (start ≤ at)
 Reachable (inIdentifier fix start at pairs begun left size again fault) =
-    (start ≤ 9) × (at + left + size ≤ start + 4118) × (pairs < at) × (1 ≤ left) × (1 ≤ size) × (start ≤ at) × (isEnd fault ≡ false)
+    (start ≤ 9) × (at + left + size ≤ start + longestFields) × (pairs < at) × (1 ≤ left) × (1 ≤ size) × (start ≤ at) × (isEnd fault ≡ false)
 Reachable (inValue fix start at pairs begun left again fault) =
-    (start ≤ 9) × (at + left ≤ start + 4118) × (pairs < at) × (1 ≤ left) × (start ≤ at) × (isEnd fault ≡ false)
+    (start ≤ 9) × (at + left ≤ start + longestFields) × (pairs < at) × (1 ≤ left) × (start ≤ at) × (isEnd fault ≡ false)
 Reachable (inWidth fix f at v n) = (at ≤ 4128 + n) × (n ≤ 7)
 Reachable (inHeight fix f w at v n) = (at ≤ 4136 + n) × (n ≤ 7)
 

@@ -1,8 +1,7 @@
 use native.Mathlib.Omega.{arith}
-use Rattle.ext_write.proofs.PairSteps.{step-past, step-kept, step-new, parts-pair}
-use mathlib.Core.Path.{_∙_, sym, ap}
-use Rattle.error.specs.Answer.{gives, checked}
+use mathlib.Core.Path.{_∙_}
 use denote.Ref.{now}
+use Rattle.ext_write.proofs.PairSteps.{step-past, step-within, parts-pair}
 use borrow.Author.Needs.{needs}
 use Rattle.ext_write.proofs.pairs.check_pair.Statement.{statement}
 use Rattle.ext_write.proofs.pairs.check_pair.Tie as tie
@@ -31,53 +30,33 @@ add-end c = search needs
 start-after-requires : tie.Need-start-after-requires
 start-after-requires c κs = search needs
 
+sub-first-code : tie.Need-sub-first-code
+sub-first-code c = search needs
+
+part-first-code-start : tie.Need-part-first-code-start
+part-first-code-start c = search needs
+
+part-first-code-end : tie.Need-part-first-code-end
+part-first-code-end c = search needs
+
+sub-first-code-2 : tie.Need-sub-first-code-2
+sub-first-code-2 c = search needs
+
+part-first-code-start-2 : tie.Need-part-first-code-start-2
+part-first-code-start-2 c = search needs
+
+part-first-code-end-2 : tie.Need-part-first-code-end-2
+part-first-code-end-2 c = search needs
+
+first-code-requires : tie.Need-first-code-requires
+first-code-requires c κs = search needs
+
 returns-4 : tie.Need-returns-4
-returns-4 c = step-kept _ _ _ _ _ (omega arith) _ (c .before .start-after .ensures) (c .if4 .taken)
-
-sub-check-parameter : tie.Need-sub-check-parameter
-sub-check-parameter c = search needs
-
-part-check-parameter-start : tie.Need-part-check-parameter-start
-part-check-parameter-start c = search needs
-
-part-check-parameter-end : tie.Need-part-check-parameter-end
-part-check-parameter-end c = search needs
-
-sub-check-parameter-2 : tie.Need-sub-check-parameter-2
-sub-check-parameter-2 c = search needs
-
-part-check-parameter-start-2 : tie.Need-part-check-parameter-start-2
-part-check-parameter-start-2 c = search needs
-
-part-check-parameter-end-2 : tie.Need-part-check-parameter-end-2
-part-check-parameter-end-2 c = search needs
-
-check-parameter-requires : tie.Need-check-parameter-requires
-check-parameter-requires c κs = search needs
-
-enum-told : tie.Need-enum-told
-enum-told c = search needs
-
-enum-known-e : tie.Need-enum-known-e
-enum-known-e c = search needs
-
-returns-5 : tie.Need-returns-5
-returns-5 c =
-    let k = c .before .before in
-    let a = k .before .before .before in
-    let r = a .before .before .before .before .before .before .args in
-    step-new _ _ _ _ _ (omega arith) _ (a .before .start-after .ensures) (gives tt) (a .if4 .left)
-    (ap checked (sym (c .enum-told .given .1)) ∙ k .check-parameter .ensures ∙ parts-pair _ (now (r .text)) (r .s .at) (r .identifier-len)
-    (r .value-len))
-
-returns-6 : tie.Need-returns-6
-returns-6 c =
+returns-4 c =
     let k = c .before .before .before in
-    let a = k .before .before .before in
-    let r = a .before .before .before .before .before .before .args in
-    step-new _ _ _ _ _ (omega arith) _ (a .before .start-after .ensures) _ (a .if4 .left)
-    (ap checked (sym (c .before .e .given .1)) ∙ k .check-parameter .ensures ∙ parts-pair _ (now (r .text)) (r .s .at) (r .identifier-len)
-    (r .value-len))
+    let a = k .before .before .before .before .before .args in
+    step-within _ _ _ _ _ (omega arith) _ _ (k .start-after .ensures)
+    (c .first-code .ensures ∙ parts-pair (a .strict) (a .s .code) (now (a .text)) (a .s .at) (a .identifier-len) (a .value-len))
 
 pub check-pair-spec : {M : Type 1} → statement M
 check-pair-spec =
@@ -91,15 +70,11 @@ check-pair-spec =
     returns-3
     add-end
     start-after-requires
-    returns-4
-    sub-check-parameter
-    part-check-parameter-start
-    part-check-parameter-end
-    sub-check-parameter-2
-    part-check-parameter-start-2
-    part-check-parameter-end-2
-    check-parameter-requires
-    enum-told
-    enum-known-e
-    returns-5
-    returns-6)
+    sub-first-code
+    part-first-code-start
+    part-first-code-end
+    sub-first-code-2
+    part-first-code-start-2
+    part-first-code-end-2
+    first-code-requires
+    returns-4)
