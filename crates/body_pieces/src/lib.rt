@@ -4,7 +4,9 @@ use image::PixelFormat;
 use image::PlaneLayout;
 use laws::least;
 ghost use mathlib.Core.Path.{_≡_};
-ghost use Rattle.body_pieces.specs.Internal.Body.{Advances, Bodies};
+ghost use mathlib.Core.Logic.{_⊎_};
+ghost use Prim.Native.Nat.{_≤_};
+ghost use Rattle.body_pieces.specs.Internal.Body.{advanced, Bodies};
 
 mod convert;
 
@@ -36,7 +38,7 @@ fn advance(
     given: usize,
     room: usize,
 ) -> BodyFed
-    ensures { λ r. ⌜ Advances ceiling plane whole begun given room r ⌝ }
+    ensures { λ r. ⌜ r ≡ advanced ceiling plane whole begun given room ⌝ }
 {
     if plane <= begun {
         return fed(0, 0, whole, begun);

@@ -13,17 +13,16 @@ use Rattle.error.specs.Answer.{gives, refuses}
 use Rattle.error.specs.declared.WbmpError.{WbmpError}
 use Rattle.laws.proofs.Tests.{zero-one}
 use Rattle.header.specs.Read.{Outline, parsed}
-use Rattle.header_reader.specs.Known.{Knows}
 use Rattle.header_reader.specs.declared.FieldsSeen.{FieldsSeen}
 use Rattle.header.specs.declared.ParsedHeader.{ParsedHeader}
-use Rattle.header_reader.specs.declared.reader.HeaderReader.{HeaderReader}
+use Rattle.header_pieces.specs.declared.HeadReading.{HeadReading}
 use Rattle.header_reader.proofs.EndRefusal.{endCode, endOffset}
-use Rattle.header_reader.proofs.KnownFields.{known-so, known-header}
+use Rattle.header_reader.proofs.KnownFields.{known-header}
 use Rattle.options.specs.Limits.{ceilingOf}
 use Rattle.decoder.specs.Body.{planeOf}
 use Rattle.decoder.specs.Image.{imageSettings}
 use Rattle.decoder.proofs.Headed.{image-by}
-use Rattle.header_pieces.specs.Internal.Head.{Reached}
+use Rattle.header_pieces.specs.Internal.Head.{HasRead, TellsFields}
 use Rattle.decode_session.specs.Model.{Model, frames, closing}
 use Rattle.decode_session.specs.Session.{wholeIn, framesDone, InBody, BeforeHeader, StageOf, Stands, TellsClosed, TellsFrames}
 use Rattle.decode_session.specs.Session.{SeesFields}
@@ -34,21 +33,15 @@ use Rattle.decode_session.proofs.StageFacts.{staged, in-body}
 use Rattle.decode_session.proofs.CloseAnswers.{closes-by, none-whole, all-whole, at-most}
 
 -- no frame is done while a header is read
-none-done : (m : Model) (r : HeaderReader) (at kept : ℕ) → Reached (imageSettings (m .options .mode)) (m .bytes) r at kept
-    → framesDone m ≡ 0
-none-done m r at kept h =
+none-done : (m : Model) (r : HeadReading) → HasRead (imageSettings (m .options .mode)) (m .bytes) r → framesDone m ≡ 0
+none-done m r h =
     ap (wholeIn (ceilingOf (m .options)) (length (m .bytes)))
     (unread-end (imageSettings (m .options .mode)) (m .bytes) (h .state) (h .reached))
 
--- and the reader knows what the bytes tell of the fields
-pub unread-so : (m : Model) (r : HeaderReader) (at kept : ℕ) (f : FieldsSeen)
-    → Reached (imageSettings (m .options .mode)) (m .bytes) r at kept → Knows r f → BeforeHeader m f
-unread-so m r at kept f h k =
-    let o = imageSettings (m .options .mode) in
-    record {
-      none = none-done m r at kept h;
-      fields = k .does o (h .state) (h .represents) ∙ sym (known-so o (m .bytes) (h .state) (h .reached));
-    }
+-- and the reading tells what the bytes do of the fields
+pub unread-so : (m : Model) (r : HeadReading) (f : FieldsSeen) → HasRead (imageSettings (m .options .mode)) (m .bytes) r → TellsFields r f
+    → BeforeHeader m f
+unread-so m r f h k = record { none = none-done m r h; fields = k (imageSettings (m .options .mode)) (m .bytes) h }
 
 -- a count up to a ceiling
 capped : (n ceiling whole : ℕ) → whole ≤ ceiling → (n ≡ whole) ⊎ ((whole ≡ ceiling) × (whole ≤ n)) → if (leb n ceiling) n ceiling ≡ whole
@@ -85,12 +78,12 @@ module _ (s : DecodeSession) where
   pub closed-is : TellsClosed s (not (s .live))
   closed-is = record { is = refl; does = λ m st. ap not (st .live) }
 
-  module _ (r : HeaderReader) (at kept : ℕ) (g : s .stage ≡ Stage.Header r at kept) where
+  module _ (r : HeadReading) (g : s .stage ≡ Stage.Header r) where
     pub header-frames : TellsFrames s 0
-    header-frames = record { does = λ m st. sym (none-done m r at kept (staged m g (st .stage) .1)) }
+    header-frames = record { does = λ m st. sym (none-done m r (staged m g (st .stage) .1)) }
 
-    pub header-fields : (f : FieldsSeen) → Knows r f → SeesFields s f
-    header-fields f k = record { does = λ m st. unread-so m r at kept f (staged m g (st .stage) .1) k .fields }
+    pub header-fields : (f : FieldsSeen) → TellsFields r f → SeesFields s f
+    header-fields f k = record { does = λ m st. unread-so m r f (staged m g (st .stage) .1) k .fields }
 
   module _ (p : ParsedHeader) (whole begun : ℕ) (g : s .stage ≡ Stage.Body p whole begun) where
     pub body-frames : (n : ℕ) → (n ≡ whole) ⊎ (n ≡ 16) → n ≤ whole → TellsFrames s n
@@ -133,7 +126,7 @@ counted s m n st e = go (s .stage) (st .stage)
         done-in b ∙ same
 
     go : (x : Stage) → StageOf x m → framesDone m ≡ n
-    go (Stage.Header r at kept) u =
+    go (Stage.Header r) u =
         let h = unread-end (imageSettings (m .options .mode)) (m .bytes) (u .1 .state) (u .1 .reached) in
         let q = closes-by m (refuses (endCode (u .1 .state)) (endOffset (u .1 .state))) (u .0) (image-by (m .options) (m .bytes) _ h) in
         zero-one (cc)

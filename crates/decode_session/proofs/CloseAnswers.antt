@@ -12,13 +12,13 @@ use Rattle.error.specs.Answer.{Answer, gives, refuses, map}
 use Rattle.error.specs.declared.WbmpError.{WbmpError}
 use Rattle.laws.proofs.Tests.{if-true, if-false}
 use Rattle.header.specs.Read.{Outline}
-use Rattle.header_reader.specs.Internal.Represents.{ReaderEnded}
 use Rattle.header_reader.specs.declared.FieldsSeen.{FieldsSeen}
 use Rattle.header.specs.declared.ParsedHeader.{ParsedHeader}
-use Rattle.header_reader.specs.declared.reader.HeaderReader.{HeaderReader}
+use Rattle.header_pieces.specs.declared.HeadReading.{HeadReading}
 use Rattle.options.specs.Limits.{ceilingOf}
 use Rattle.decoder.specs.Body.{extraFrames, planeOf, framesIn}
 use Rattle.decoder.specs.Image.{imageSettings, readImage}
+use Rattle.header_pieces.specs.Internal.Head.{TellsEnd}
 use Rattle.decoder.proofs.Headed.{image-by, image-limited}
 use Rattle.decoder.proofs.Counted.{few, many}
 use Rattle.decode_session.specs.Model.{nothing, Model, Told, frames, closing}
@@ -26,7 +26,6 @@ use Rattle.decode_session.specs.Session.{InBody, Settled}
 use Rattle.decode_session.specs.Internal.Stages.{Finishes}
 use Rattle.decode_session.specs.declared.Stage.{Stage}
 use Rattle.decode_session.specs.declared.DecodeClose.{DecodeClose}
-use Rattle.decode_session.proofs.Headers.{unread}
 use Rattle.decode_session.proofs.StageFacts.{staged, in-body, ceiling-some, ceiling-few}
 
 -- closing by the image's answer
@@ -93,9 +92,9 @@ module _ {m : Model} {h : Outline} {whole begun : ℕ} (b : InBody m h whole beg
   at-most = ⊎-elim (λ v. omega (arith, v .0, ceiling-few settles)) (λ v. omega (arith, v .0, ceiling-few settles)) (b .place)
 
 module _ (s : Stage) where
-  pub finish-header : (r : HeaderReader) (at kept : ℕ) (e : WbmpError) → s ≡ Stage.Header r at kept → ReaderEnded r e
+  pub finish-header : (r : HeadReading) (e : WbmpError) → s ≡ Stage.Header r → TellsEnd r e
       → Finishes s (DecodeClose.Refused e)
-  finish-header r at kept e g d =
+  finish-header r e g d =
       record {
         does =
             λ m c st.
@@ -103,7 +102,7 @@ module _ (s : Stage) where
             let o = imageSettings (m .options .mode) in
             sym (closes-by m (refuses (e .code) (e .offset)) (u .0)
             (image-by (m .options) (m .bytes) (refuses (e .code) (e .offset))
-            (unread o (m .bytes) (u .1 .state) (u .1 .reached) ∙ sym (d .does o (u .1 .state) (u .1 .represents)))));
+            (sym (d o (m .bytes) (u .1)))));
       }
 
   module _ (p : ParsedHeader) (whole begun : ℕ) (g : s ≡ Stage.Body p whole begun) where

@@ -37,7 +37,7 @@ module _ (s : DecodeSession) where
 
   -- closed, a session stands for the same bytes
   still : (x : Stage) (m : Model) → StageOf x m → StageOf x (shut m)
-  still (Stage.Header r at kept) m h = h
+  still (Stage.Header r) m h = h
   still (Stage.Body p whole begun) m b =
       record {
         nothingMet = b .nothingMet;

@@ -8,7 +8,7 @@ use Rattle.error.specs.declared.WbmpError.{WbmpError}
 use Rattle.header.specs.Read.{Outline, parsed}
 use Rattle.header_reader.specs.declared.FieldsSeen.{FieldsSeen}
 use Rattle.header.specs.declared.ParsedHeader.{ParsedHeader}
-use Rattle.header_reader.specs.declared.reader.HeaderReader.{HeaderReader}
+use Rattle.header_pieces.specs.declared.HeadReading.{HeadReading}
 use Rattle.decoder.specs.Image.{imageSettings}
 use Rattle.decode_session.specs.Model.{Met, nothing, Model, feed, stored, fedBy, unaltered, outcome}
 use Rattle.decode_session.specs.Session.{InBody, Stands, Feeds}
@@ -61,9 +61,9 @@ module _ (s : DecodeSession) (piece out ext : List ℕ) (d : DecodeFed) (e : Wbm
             ∙ ap (λ (e : WbmpError). unaltered m (e .code) (e .offset) out ext) (sym n)) is;
       }
 
-  pub short-in-header : s .live ≡ true → (r : HeaderReader) (at kept : ℕ) → s .stage ≡ Stage.Header r at kept
+  pub short-in-header : s .live ≡ true → (r : HeadReading) → s .stage ≡ Stage.Header r
       → e ≡ record { code = 28; offset = 0 } → length ext < 4118 → Feeds s piece out ext d out ext
-  short-in-header l r at kept g n h = feed-short l n h (λ m st. staged m g (st .stage) .0)
+  short-in-header l r g n h = feed-short l n h (λ m st. staged m g (st .stage) .0)
 
   pub short-in-body : s .live ≡ true → (p : ParsedHeader) (whole begun : ℕ) → s .stage ≡ Stage.Body p whole begun
       → e ≡ record { code = 28; offset = 0 } → length ext < 4118 → Feeds s piece out ext d out ext

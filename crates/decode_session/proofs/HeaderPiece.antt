@@ -1,9 +1,8 @@
 -- A piece for a session in the header.
-use Prim.Native.Nat.{ℕ, _+_, _%_, _^_, _≤_}
+use Prim.Native.Nat.{ℕ, _≤_}
 use mathlib.Core.Path.{_≡_, refl, sym, ap, subst, _∙_}
 use mathlib.Core.Bool.{true}
 use mathlib.Core.List.{List, [], _++_}
-use native.Mathlib.Nat.{mod-eq-of-lt}
 use native.Mathlib.Omega.{arith}
 use lib.ListN.{length, take, drop}
 use lib.Seq.{sets, take-length, drop-nil}
@@ -11,10 +10,8 @@ use Rattle.error.specs.declared.WbmpError.{WbmpError}
 use Rattle.laws.proofs.Lists.{length-append-take, append-take-drop}
 use Rattle.header.specs.Settings.{Settings}
 use Rattle.header.specs.Read.{parsed}
-use Rattle.header_reader.specs.Known.{Knows}
 use Rattle.header_reader.specs.declared.FieldsSeen.{FieldsSeen}
 use Rattle.header.specs.declared.ParsedHeader.{ParsedHeader}
-use Rattle.header_reader.specs.declared.reader.HeaderReader.{HeaderReader}
 use Rattle.header_reader.proofs.EndRefusal.{endCode, endOffset, end-code}
 use Rattle.options.specs.declared.DecodeOptions.{DecodeOptions}
 use Rattle.options.specs.Limits.{ceilingOf}
@@ -22,15 +19,15 @@ use Rattle.decoder.specs.Image.{imageSettings, headerOf}
 use Rattle.decode_session.specs.Sequence.{sequenceOf, sequence}
 use Rattle.header_pieces.specs.Extension.{fieldBytes}
 use Rattle.decode_session.specs.Model.{Met, nothing, Model, meets, takes, grown, written, stored, fedBy}
-use Rattle.header_pieces.specs.Internal.Head.{Reached, Ends, Heads}
+use Rattle.header_pieces.specs.Internal.Head.{HasRead, TellsFields, Ends, Heads}
 use Rattle.decode_session.specs.Session.{Stands, Feeds}
 use Rattle.decode_session.specs.Internal.Stages.{takenIn, metIn, Agrees, Ended, Begins}
 use Rattle.decode_session.specs.declared.Stage.{Stage}
 use Rattle.decode_session.specs.declared.DecodeSession.{DecodeSession}
 use Rattle.decode_session.specs.declared.DecodeFed.{DecodeFed}
+use Rattle.header_pieces.specs.declared.HeadReading.{HeadReading}
 use Rattle.header_pieces.specs.declared.HeadFed.{HeadFed}
-use Rattle.header_pieces.specs.declared.HeadEnd.{HeadEnd}
-use Rattle.decode_session.proofs.Headers.{header-cut, unread-end, reached-bound}
+use Rattle.decode_session.proofs.Headers.{header-cut, unread-end}
 use Rattle.decode_session.proofs.MostTaken.{most-is}
 use Rattle.decode_session.proofs.RefusalsMet.{header-refused, header-short}
 use Rattle.decode_session.proofs.Replies.{replied, stored-as, reading, agreed}
@@ -38,17 +35,17 @@ use Rattle.decode_session.proofs.BodyBegun.{refused-agrees}
 use Rattle.decode_session.proofs.Asked.{unread-so}
 
 -- a file whose header goes on shows nothing
-pub nothing-shown : (m : Model) (s : List ℕ) (r : HeaderReader) (at kept : ℕ) → Reached (imageSettings (m .options .mode)) s r at kept
+pub nothing-shown : (m : Model) (s : List ℕ) (r : HeadReading) → HasRead (imageSettings (m .options .mode)) s r
     → sequence (ceilingOf (m .options)) (m .options) s ≡ []
 unfolding sequence
-nothing-shown m s r at kept h =
+nothing-shown m s r h =
     ap (sequenceOf (ceilingOf (m .options)) (m .options .format) s)
     (unread-end (imageSettings (m .options .mode)) s (h .state) (h .reached))
 
-module _ (o : DecodeOptions) (reader : HeaderReader) (at kept : ℕ) (piece out ext ext′ : List ℕ) (f : HeadFed)
-    (heads : Heads reader at kept piece ext f ext′) (long : 4118 ≤ length ext) where
+module _ (o : DecodeOptions) (head : HeadReading) (piece out ext ext′ : List ℕ) (f : HeadFed)
+    (heads : Heads head piece ext f ext′) (long : 4118 ≤ length ext) where
   abbrev session : DecodeSession
-  session = record { options = o; stage = Stage.Header reader at kept; live = true }
+  session = record { options = o; stage = Stage.Header head; live = true }
 
   module _ (m : Model) (st : Stands session m) where
     abbrev settings : Settings
@@ -57,11 +54,11 @@ module _ (o : DecodeOptions) (reader : HeaderReader) (at kept : ℕ) (piece out 
     abbrev file : List ℕ
     file = m .bytes ++ piece
 
-    reached : Reached settings (m .bytes) reader at kept
+    reached : HasRead settings (m .bytes) head
     reached = st .stage .1
 
-    ends : (x : HeadEnd) → f .end ≡ x → Ends settings (m .bytes) piece at f x
-    ends x e = subst (Ends settings (m .bytes) piece at f) e (heads .does long settings (m .bytes) reached)
+    ends : (x : HeadFed) → f ≡ x → Ends settings (m .bytes) piece x
+    ends x e = subst (Ends settings (m .bytes) piece) e (heads .does long settings (m .bytes) reached)
 
     stored-is : stored m file ext ≡ ext′
     stored-is =
@@ -70,9 +67,9 @@ module _ (o : DecodeOptions) (reader : HeaderReader) (at kept : ℕ) (piece out 
         ∙ ap (λ (k : ℕ). sets ext k (drop k (fieldBytes settings file))) (reached .keptIs))
 
     -- all of the piece is the header's
-    module _ (next : HeaderReader) (now : ℕ) (e : f .end ≡ HeadEnd.More next) where
-      later : Reached settings file next (at + f .taken) (f .kept)
-      later = ends (HeadEnd.More next) e .1
+    module _ (next : HeadReading) (e : f ≡ HeadFed.More next) where
+      later : HasRead settings file next
+      later = ends (HeadFed.More next) e
 
       unmet : meets m piece ≡ nothing
       unmet =
@@ -84,7 +81,7 @@ module _ (o : DecodeOptions) (reader : HeaderReader) (at kept : ℕ) (piece out 
       all = ap (λ (l : List ℕ). m .bytes ++ l) (take-length piece)
 
       none : sequence (ceilingOf (m .options)) (m .options) (m .bytes ++ take (length piece) piece) ≡ []
-      none = ap (sequence (ceilingOf (m .options)) (m .options)) all ∙ nothing-shown m file next (at + f .taken) (f .kept) later
+      none = ap (sequence (ceilingOf (m .options)) (m .options)) all ∙ nothing-shown m file next later
 
       takes-all : takes m piece (length out) ≡ length piece
       takes-all =
@@ -103,18 +100,13 @@ module _ (o : DecodeOptions) (reader : HeaderReader) (at kept : ℕ) (piece out 
           ∙ ap (drop (length (sequence (ceilingOf (m .options)) (m .options) (m .bytes)))) none
           ∙ drop-nil (length (sequence (ceilingOf (m .options)) (m .options) (m .bytes)))
 
-      goes-on : now ≡ (at + f .taken) % 2 ^ 64
-          → Agrees (takenIn o (Stage.Header next now (f .kept)) (f .taken) 0) out ext′
-          (fedBy m piece out ext (meets m piece))
-      goes-on n =
+      goes-on : Agrees (takenIn o (Stage.Header next) (length piece) 0) out ext′ (fedBy m piece out ext (meets m piece))
+      goes-on =
           let count = takes-all in
           let w = writes-none in
-          let t = ends (HeadEnd.More next) e .0 in
           let size = ap length w in
-          let b = reached-bound settings file next (at + f .taken) (f .kept) later in
-          let same : now ≡ at + f .taken = n ∙ mod-eq-of-lt (omega arith) in
           subst
-          (λ (x : Met). Agrees (takenIn o (Stage.Header next now (f .kept)) (f .taken) 0) out ext′ (fedBy m piece out ext x))
+          (λ (x : Met). Agrees (takenIn o (Stage.Header next) (length piece) 0) out ext′ (fedBy m piece out ext x))
           (sym unmet)
           (record {
             reply =
@@ -125,57 +117,51 @@ module _ (o : DecodeOptions) (reader : HeaderReader) (at kept : ℕ) (piece out 
                   tested = st .tested;
                   options = st .options;
                   live = refl;
-                  stage = (
-                    refl,
-                    subst (λ (l : List ℕ). Reached settings l next now (f .kept)) (sym grows)
-                        (subst (λ (k : ℕ). Reached settings file next k (f .kept)) (sym same) later),
-                  );
+                  stage = (refl, subst (λ (l : List ℕ). HasRead settings l next) (sym grows) later);
                 };
           })
 
     -- the header ends in the piece
-    ended : (h : ParsedHeader) → f .end ≡ HeadEnd.Done h → Ended m piece (f .taken) (parsed h)
-    ended h e =
-        let d = ends (HeadEnd.Done h) e in
-        let n = length-append-take (m .bytes) piece (f .taken) (heads .within) in
-        let b : h .«data_offset» ≡ length (m .bytes) + f .taken = omega (arith, d .1, reached .atIs) in
+    ended : (h : ParsedHeader) (from : ℕ) → f ≡ HeadFed.Done h from → Ended m piece from (parsed h)
+    ended h from e =
+        let d = ends (HeadFed.Done h from) e in
+        let n = length-append-take (m .bytes) piece from (heads .within h from e) in
         record {
-          within = heads .within;
+          within = heads .within h from e;
           header =
-              header-cut settings (m .bytes ++ take (f .taken) piece) (drop (f .taken) piece) (parsed h)
-              (ap (headerOf (m .options .mode)) (append-take-drop (m .bytes) piece (f .taken)) ∙ d .0) (b ∙ sym n);
-          body = b;
-          none = ap length (nothing-shown m (m .bytes) reader at kept reached);
+              header-cut settings (m .bytes ++ take from piece) (drop from piece) (parsed h)
+              (ap (headerOf (m .options .mode)) (append-take-drop (m .bytes) piece from) ∙ d .0) (d .1 ∙ sym n);
+          body = d .1;
+          none = ap length (nothing-shown m (m .bytes) head reached);
         }
 
-  pub more : (next : HeaderReader) (now : ℕ) (d : DecodeFed) → f .end ≡ HeadEnd.More next → now ≡ (at + f .taken) % 2 ^ 64
-      → d ≡ takenIn o (Stage.Header next now (f .kept)) (f .taken) 0
+  pub more : (next : HeadReading) (d : DecodeFed) → f ≡ HeadFed.More next → d ≡ takenIn o (Stage.Header next) (length piece) 0
       → Feeds session piece out ext d out ext′
-  more next now d e n s =
+  more next d e s =
       record {
         does =
             λ m st. agreed m piece out ext d out ext′ ext′ _ (reading m piece out ext (sym (st .live)) (st .stage .0) long) refl
-            (subst (λ (d : DecodeFed). Agrees d out ext′ (fedBy m piece out ext (meets m piece))) (sym s) (goes-on m st next now e n));
+            (subst (λ (d : DecodeFed). Agrees d out ext′ (fedBy m piece out ext (meets m piece))) (sym s) (goes-on m st next e));
       }
 
-  pub whole : (k : FieldsSeen) (h : ParsedHeader) (d : DecodeFed) (out′ : List ℕ) → Knows reader k → f .end ≡ HeadEnd.Done h
-      → Begins o k h (f .taken) piece out d out′ → Feeds session piece out ext d out′ ext′
-  whole k h d out′ u e b =
+  pub whole : (k : FieldsSeen) (h : ParsedHeader) (from : ℕ) (d : DecodeFed) (out′ : List ℕ) → TellsFields head k
+      → f ≡ HeadFed.Done h from → Begins o k h from piece out d out′ → Feeds session piece out ext d out′ ext′
+  whole k h from d out′ u e b =
       record {
         does =
             λ m st. agreed m piece out ext d out′ ext′ _ _ (reading m piece out ext (sym (st .live)) (st .stage .0) long) (stored-is m st)
-            (b .does m ext (st .tested) (st .options) (unread-so m reader at kept k (st .stage .1) u) (ended m st h e));
+            (b .does m ext (st .tested) (st .options) (unread-so m head k (st .stage .1) u) (ended m st h from e));
       }
 
-  pub refused : (k : FieldsSeen) (e : WbmpError) (d : DecodeFed) → Knows reader k → f .end ≡ HeadEnd.Refused e → d ≡ metIn o e k
+  pub refused : (k : FieldsSeen) (e : WbmpError) (d : DecodeFed) → TellsFields head k → f ≡ HeadFed.Refused e → d ≡ metIn o e k
       → Feeds session piece out ext d out ext′
   refused k e d u q s =
       record {
         does =
             λ m st.
-            let r = ends m st (HeadEnd.Refused e) q in
+            let r = ends m st (HeadFed.Refused e) q in
             agreed m piece out ext d out ext′ _ _ (reading m piece out ext (sym (st .live)) (st .stage .0) long) (stored-is m st)
             (subst (λ (d : DecodeFed). Agrees d out (stored m (m .bytes ++ piece) ext) (fedBy m piece out ext (meets m piece))) (sym s)
-            (refused-agrees o m piece out ext e k (st .tested) (st .options) (unread-so m reader at kept k (st .stage .1) u)
+            (refused-agrees o m piece out ext e k (st .tested) (st .options) (unread-so m head k (st .stage .1) u)
             (header-refused m piece (e .code) (e .offset) (r .0) (r .1))));
       }

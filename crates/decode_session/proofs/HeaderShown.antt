@@ -6,7 +6,7 @@ use Rattle.error.specs.declared.WbmpError.{WbmpError}
 use Rattle.header.specs.Read.{Outline}
 use Rattle.header_reader.specs.declared.FieldsSeen.{FieldsSeen}
 use Rattle.header.specs.declared.ParsedHeader.{ParsedHeader}
-use Rattle.header_reader.specs.declared.reader.HeaderReader.{HeaderReader}
+use Rattle.header_pieces.specs.declared.HeadReading.{HeadReading}
 use Rattle.decoder.specs.Image.{imageSettings, headerOf}
 use Rattle.decode_session.specs.Model.{Met, nothing, metAt}
 use Rattle.decode_session.specs.Session.{unread, seenOf, Sees}
@@ -17,8 +17,8 @@ use Rattle.decode_session.proofs.Headers.{unread-end}
 use Rattle.decode_session.proofs.StageFacts.{staged, in-body}
 
 module _ (s : DecodeSession) where
-  pub sees-none : (r : HeaderReader) (at kept : ℕ) → s .stage ≡ Stage.Header r at kept → Sees s HeaderSeen.Unread
-  sees-none r at kept g =
+  pub sees-none : (r : HeadReading) → s .stage ≡ Stage.Header r → Sees s HeaderSeen.Unread
+  sees-none r g =
       record {
         does =
             λ m st.

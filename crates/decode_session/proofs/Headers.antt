@@ -8,17 +8,14 @@ use Rattle.error.specs.Answer.{gives, refuses, map}
 use Rattle.laws.proofs.Tests.{zero-one}
 use Rattle.header.specs.Settings.{Settings}
 use Rattle.header.specs.Read.{Outline, outline, readHeader}
-use Rattle.header_reader.specs.Internal.Machine.{State, inType, atFix, inOctets, atOctet, atPair, inIdentifier, inValue, inWidth}
-use Rattle.header_reader.specs.Internal.Machine.{inHeight, Step, more, done, refused, start, steps, stepOf, resume, after}
+use Rattle.header_reader.specs.Internal.Machine.{State, Step, more, done, refused, start, steps, stepOf, after}
 use Rattle.header_reader.specs.Internal.Pieces.{onward}
-use Rattle.header_reader.specs.Internal.Represents.{Reachable}
-use Rattle.header_reader.specs.declared.reader.HeaderReader.{HeaderReader}
 use Rattle.header_reader.proofs.Machine.{steps-cons, steps-law, steps-all}
 use Rattle.header_reader.proofs.Direct.{direct}
 use Rattle.header_reader.proofs.RefusalMet.{finds, found}
 use Rattle.header_reader.proofs.EndRefusal.{endCode, endOffset, end-is}
 use Rattle.header_reader.proofs.BytesTaken.{taken, Moves, moves-step, taken-steps}
-use Rattle.header_pieces.specs.Internal.Head.{Reached}
+use Rattle.header_pieces.proofs.Readings.{unread}
 
 module _ (o : Settings) where
   -- a header that is done has its body behind the bytes taken before
@@ -53,26 +50,5 @@ module _ (o : Settings) where
         go (refused code offset) p q = q
 
     -- a reading that goes on has no header yet
-    pub unread : (st : State) → steps o start s ≡ more st → map outline (readHeader o s) ≡ resume o st []
-    unread st e = direct o s ∙ steps-all o s start ∙ ap (λ (x : Step). after o x []) e
-
     pub unread-end : (st : State) → steps o start s ≡ more st → map outline (readHeader o s) ≡ refuses (endCode st) (endOffset st)
-    unread-end st e = unread st e ∙ end-is o st
-
-  -- where it stands
-  taken-bound : (st : State) → Reachable st → taken st < 8192
-  taken-bound (inType at v n) h = omega arith
-  taken-bound (atFix at) h = omega arith
-  taken-bound (inOctets fix from at) h = omega arith
-  taken-bound (atOctet fix at) h = omega arith
-  taken-bound (atPair fix from at pairs) h = omega arith
-  taken-bound (inIdentifier fix from at pairs begun left size again fault) h = omega arith
-  taken-bound (inValue fix from at pairs begun left again fault) h = omega arith
-  taken-bound (inWidth fix f at v n) h = omega arith
-  taken-bound (inHeight fix f w at v n) h = omega arith
-
-  pub reached-bound : (bytes : List ℕ) (r : HeaderReader) (at kept : ℕ) → Reached o bytes r at kept → at < 8192
-  reached-bound bytes r at kept h =
-      let a = taken-steps o bytes start (h .state) (h .reached) in
-      let b = taken-bound (h .state) (h .represents .reachable) in
-      omega (arith, h .atIs)
+    unread-end st e = unread o s st e ∙ end-is o st

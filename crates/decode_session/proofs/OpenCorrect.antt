@@ -11,39 +11,30 @@ use Rattle.error.specs.declared.Checked.{Checked}
 use Rattle.error.specs.declared.Checked.the-variants.{Accepted}
 use Rattle.error.specs.declared.WbmpError.{WbmpError}
 use Rattle.laws.proofs.Tests.{if-true, if-false, zero-one}
-use Rattle.mbi.specs.Read.{readRest}
 use Rattle.header.specs.Settings.{Settings}
-use Rattle.header_reader.specs.Internal.Machine.{start, steps}
-use Rattle.header_reader.specs.Internal.Represents.{Represents}
-use Rattle.header_reader.specs.declared.reader.HeaderReader.{HeaderReader}
+use Rattle.header_pieces.specs.declared.HeadReading.{HeadReading}
 use Rattle.options.specs.Limits.{Decoding, modeOf, decoding}
 use Rattle.options.specs.declared.DecodeOptions.{DecodeOptions}
 use Rattle.options.proofs.Ceilings.{passes}
 use Rattle.decoder.specs.Image.{imageSettings}
-use Rattle.header_pieces.specs.Extension.{fieldBytes}
 use Rattle.decode_session.specs.Model.{opened, opening}
-use Rattle.header_pieces.specs.Internal.Head.{Reached}
+use Rattle.header_pieces.specs.Internal.Head.{HasRead}
 use Rattle.decode_session.specs.Session.{StageOf, Opens}
 use Rattle.decode_session.specs.declared.Stage.{Stage}
-
--- nothing is taken yet
-reached-none : (o : Settings) (r : HeaderReader) → Represents r o start → Reached o [] r 0 0
-unfolding steps fieldBytes readRest
-reached-none o r h = record { state = start; represents = h; reached = refl; atIs = refl; keptIs = refl }
 
 -- the settings pass their test, so the buffer's decides
 pub opening-is : (d : Decoding) (n : ℕ) → opening d n ≡ if (leb 4118 n) (gives tt) (refuses 28 0)
 opening-is d n = ap (λ (a : Answer Decoding). bind a (λ _. if (leb 4118 n) (gives tt) (refuses 28 0))) (passes d)
 
-module _ (o : DecodeOptions) (r : HeaderReader) (n : ℕ) (s : Settings) (p : Represents r s start)
+module _ (o : DecodeOptions) (r : HeadReading) (n : ℕ) (s : Settings) (p : HasRead s [] r)
     (q : s ≡ imageSettings (modeOf (o .mode))) where
   -- before the first byte
-  begun : StageOf (Stage.Header r 0 0) (opened (decoding o))
-  begun = (refl, reached-none (imageSettings (modeOf (o .mode))) r (subst (λ (s : Settings). Represents r s start) q p))
+  begun : StageOf (Stage.Header r) (opened (decoding o))
+  begun = (refl, subst (λ (s : Settings). HasRead s [] r) q p)
 
   pub opens : 4118 ≤ n
       → Opens (opening (decoding o) n)
-      (record { session = record { options = o; stage = Stage.Header r 0 0; live = true }; answer = Accepted }) (opened (decoding o))
+      (record { session = record { options = o; stage = Stage.Header r; live = true }; answer = Accepted }) (opened (decoding o))
   opens h =
       let e = opening-is (decoding o) n ∙ if-true (leb 4118 n) (gives tt) (refuses 28 0) (le-leb 4118 n h) in
       record {
@@ -60,7 +51,7 @@ module _ (o : DecodeOptions) (r : HeaderReader) (n : ℕ) (s : Settings) (p : Re
 
   pub opens-not : n < 4118 → (e : WbmpError) → e ≡ record { code = 28; offset = 0 }
       → Opens (opening (decoding o) n)
-      (record { session = record { options = o; stage = Stage.Header r 0 0; live = false }; answer = Checked.Refused e })
+      (record { session = record { options = o; stage = Stage.Header r; live = false }; answer = Checked.Refused e })
       (opened (decoding o))
   opens-not h e z =
       let k = opening-is (decoding o) n ∙ if-false (leb 4118 n) (gives tt) (refuses 28 0) (lt-leb 4118 n h) in

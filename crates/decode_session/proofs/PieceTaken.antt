@@ -12,23 +12,23 @@ use Rattle.options.specs.Limits.{ceilingOf}
 use Rattle.decoder.specs.Body.{planeOf}
 use Rattle.body_pieces.specs.InFormat.{bodyFrom}
 use Rattle.decode_session.specs.Sequence.{sequence}
-use Rattle.body_pieces.specs.Internal.Body.{Advanced, Advances}
 use Rattle.decode_session.specs.Model.{Model, takes, grown, written}
 use Rattle.decode_session.specs.Internal.Stages.{Enters}
 use Rattle.body_pieces.specs.declared.BodyFed.{BodyFed}
 use Rattle.body_pieces.proofs.BodyBytes.{body-length}
+use Rattle.body_pieces.proofs.BodyCounts.{Advanced, Placed}
 use Rattle.decode_session.proofs.MostTaken.{shownWith, most-is}
 use Rattle.decode_session.proofs.BodyShown.{shownBytes, allBytes, shown-length, shown-grows}
 
 module _ {m : Model} {piece : List ℕ} {from room : ℕ} {h : Outline} {whole begun most : ℕ} {r : BodyFed}
     (ceiling : ceilingOf (m .options) ≡ most) (within : from ≤ length piece) (en : Enters m piece from h whole begun)
-    (a : Advances most (planeOf h) whole begun (length (drop from piece)) room r) where
+    (a : Placed most (planeOf h) whole begun → Advanced most (planeOf h) whole begun (length (drop from piece)) room r) where
   abbrev rest : List ℕ
   rest = drop from piece
 
   pub advanced : Advanced most (planeOf h) whole begun (length rest) room r
   advanced =
-      a .does
+      a
       (en .inBody .below, ⊎-elim (λ w. inl (omega (arith, w .0))) (λ w. inr (w .0 ∙ ceiling, w .1 .0)) (en .inBody .place))
 
   -- what of more bytes is the planes'
@@ -75,14 +75,14 @@ module _ {m : Model} {piece : List ℕ} {from room : ℕ} {h : Outline} {whole b
   pub takes-is : takes m piece room ≡ from + r .taken
   takes-is =
       most-is (ceilingOf (m .options)) (m .options) (m .bytes) piece room (from + r .taken) (length piece)
-      (omega (arith, length-drop from piece, a .takes)) low high
+      (omega (arith, length-drop from piece, advanced .takes)) low high
     where
       low : shownWith (ceilingOf (m .options)) (m .options) (m .bytes) piece room (from + r .taken) ≤ length
           (sequence (ceilingOf (m .options)) (m .options) (m .bytes)) + room
       low =
           let n : length (take left (take (r .taken) rest)) ≡ r .written =
-          ap length new-is ∙ length-take-le (r .written) rest (omega (arith, a .takes, a .writes)) in
-          omega (arith, shown (r .taken) (a .takes), a .fits, en .earlier)
+          ap length new-is ∙ length-take-le (r .written) rest (omega (arith, advanced .takes, advanced .writes)) in
+          omega (arith, shown (r .taken) (advanced .takes), advanced .fits, en .earlier)
 
       high : (j : ℕ) → from + r .taken < j → j ≤ length piece
           → length (sequence (ceilingOf (m .options)) (m .options) (m .bytes)) + room < shownWith (ceilingOf (m .options)) (m .options)
@@ -123,4 +123,4 @@ module _ {m : Model} {piece : List ℕ} {from room : ℕ} {h : Outline} {whole b
   pub written-length : length (written m piece room) ≡ r .written
   written-length =
       ap length written-is ∙ body-length (m .options .format) (h .width) (take (r .written) rest) begun
-      ∙ length-take-le (r .written) rest (omega (arith, a .takes, a .writes))
+      ∙ length-take-le (r .written) rest (omega (arith, advanced .takes, advanced .writes))

@@ -14,7 +14,7 @@ use Rattle.options.specs.declared.DecodeOptions.{DecodeOptions}
 use Rattle.decoder.specs.Body.{planeOf}
 use Rattle.decoder.specs.Image.{imageSettings}
 use Rattle.body_pieces.specs.InFormat.{bodyFrom}
-use Rattle.body_pieces.specs.Internal.Body.{Advanced, Bodies}
+use Rattle.body_pieces.specs.Internal.Body.{Bodies}
 use Rattle.header_pieces.specs.Extension.{fieldBytes}
 use Rattle.decode_session.specs.Model.{Model, nothing, grown, written, stored, fedBy}
 use Rattle.decode_session.specs.Session.{InBody, Settled}
@@ -22,6 +22,7 @@ use Rattle.decode_session.specs.Internal.Stages.{takenIn, Agrees, having
 use Rattle.decode_session.specs.declared.Stage.{Stage}
 use Rattle.decode_session.specs.declared.DecodeFed.{DecodeFed}
 use Rattle.body_pieces.specs.declared.BodyFed.{BodyFed}
+use Rattle.body_pieces.proofs.BodyCounts.{Advanced, Placed, from-place}
 use Rattle.decode_session.proofs.Headers.{header-later}
 use Rattle.decode_session.proofs.FieldBytes.{fields-kept}
 use Rattle.decode_session.proofs.Replies.{replied, stored-as}
@@ -41,11 +42,14 @@ module _ (o : DecodeOptions) (p : ParsedHeader) (most whole begun from : ℕ) (p
     abbrev rest : List ℕ
     rest = drop from piece
 
+    advances : Placed most plane whole begun → Advanced most plane whole begun (length rest) (length out) r
+    advances = from-place _ _ _ _ _ _ _ (b .advances)
+
     ends : Advanced most plane whole begun (length rest) (length out) r
-    ends = advanced full within en (b .advances)
+    ends = advanced full within en advances
 
     next-length : length (bytes ++ take (r .taken) rest) ≡ length bytes + r .taken
-    next-length = length-append-take bytes rest (r .taken) (b .advances .takes)
+    next-length = length-append-take bytes rest (r .taken) (ends .takes)
 
     next-place : ((r .whole < ceilingOf (m .options))
         × (p .«data_offset» + (r .whole * plane + r .begun) ≡ length (bytes ++ take (r .taken) rest)))
@@ -56,7 +60,7 @@ module _ (o : DecodeOptions) (p : ParsedHeader) (most whole begun from : ℕ) (p
         (λ w. ⊎-elim (λ v. inl (omega (arith, full, w .0), omega (arith, next-length, ends .sum, v .1, w .1 .0)))
         (λ v.
         let a : whole * plane ≡ ceilingOf (m .options) * plane = ap (λ (k : ℕ). k * plane) (v .0) in
-        let l = below-left full within en (b .advances) (w .0) in
+        let l = below-left full within en advances (w .0) in
         let z : ⊥ = omega (arith, v .1 .0) in
         absurd z)
         (en .inBody .place))
@@ -64,7 +68,7 @@ module _ (o : DecodeOptions) (p : ParsedHeader) (most whole begun from : ℕ) (p
           w .0 ∙ sym full,
           (
             w .1 .0,
-            ⊎-elim (λ v. omega (arith, next-length, ends .sum, b .advances .writes, v .1))
+            ⊎-elim (λ v. omega (arith, next-length, ends .sum, ends .writes, v .1))
                 (λ v. let a : r .whole * plane ≡ whole * plane =
                 ap (λ (k : ℕ). k * plane) (w .0 ∙ sym full ∙ sym (v .0)) in omega (arith, next-length, v .1 .1))
                 (en .inBody .place),
@@ -87,10 +91,10 @@ module _ (o : DecodeOptions) (p : ParsedHeader) (most whole begun from : ℕ) (p
         → Agrees (takenIn o (Stage.Body p (r .whole) (r .begun)) (from + r .taken) (r .written))
         out′ (stored m (m .bytes ++ piece) ext) (fedBy m piece out ext nothing)
     planed ext =
-        let count = takes-is full within en (b .advances) in
-        let all = grown-is full within en (b .advances) in
-        let new = written-is full within en (b .advances) in
-        let size = written-length full within en (b .advances) in
+        let count = takes-is full within en advances in
+        let all = grown-is full within en advances in
+        let new = written-is full within en advances in
+        let size = written-length full within en advances in
         let f : o .format ≡ m .options .format = ap (λ (d : Decoding). d .format) options in
         record {
           reply =

@@ -15,7 +15,7 @@ use Rattle.header_reader.specs.declared.FieldsSeen.{FieldsSeen}
 use Rattle.options.specs.Limits.{Decoding, settled, ceilingOf, decoding, checkLimits}
 use Rattle.decoder.specs.Body.{planeOf}
 use Rattle.decoder.specs.Image.{imageSettings, headerOf}
-use Rattle.header_pieces.specs.Internal.Head.{Reached}
+use Rattle.header_pieces.specs.Internal.Head.{HasRead}
 use Rattle.decode_session.specs.Model.{Met, nothing, metAt, Model, feed, close, Told, took, frames, shut, outcome}
 use Rattle.decode_session.specs.declared.Stage.{Stage}
 use Rattle.decode_session.specs.declared.DecodeSession.{DecodeSession}
@@ -82,7 +82,7 @@ pub record BeforeHeader (m : Model) (f : FieldsSeen) : Type 0 where
   pub fields : knownMeaning f ≡ fieldsSeen m
 
 abbrev pub StageOf : Stage → Model → Type 0
-StageOf (Stage.Header r at kept) m = (m .met ≡ nothing) × Reached (imageSettings (m .options .mode)) (m .bytes) r at kept
+StageOf (Stage.Header h) m = (m .met ≡ nothing) × HasRead (imageSettings (m .options .mode)) (m .bytes) h
 StageOf (Stage.Body h whole begun) m = InBody m (parsed h) whole begun
 StageOf (Stage.Refused e f) m = (m .met ≡ metAt (e .code) (e .offset)) × BeforeHeader m f
 

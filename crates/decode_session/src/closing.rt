@@ -12,7 +12,7 @@ pub(crate) fn finish(stage: Stage) -> DecodeClose
     ensures { λ r. ⌜ Finishes stage r ⌝ }
 {
     match stage {
-        Stage::Header(reader, _, _) => DecodeClose::Refused(reader.ended()),
+        Stage::Header(reading) => DecodeClose::Refused(reading.ended()),
         Stage::Body(h, whole, _) => {
             if whole == 0 {
                 return DecodeClose::Refused(WbmpError::new(PLANE_TOO_SHORT, h.data_offset));

@@ -11,10 +11,10 @@ use error::WbmpError;
 use ext::ExtFields;
 use header::HeaderFields;
 use header::ParsedHeader;
-use header_pieces::HeadEnd;
+use header_pieces::HeadFed;
+use header_pieces::HeadReading;
 use header_pieces::feed_header;
 use header_reader::FieldsSeen;
-use header_reader::HeaderReader;
 use image::PlaneLayout;
 use options::DecodeOptions;
 ghost use mathlib.Core.Path.{_≡_};
@@ -134,28 +134,22 @@ fn feed_first(
 // A piece for a session in the header.
 pub(crate) fn feed_head(
     options: DecodeOptions,
-    reader: HeaderReader,
-    at: usize,
-    kept: usize,
+    reading: HeadReading,
     piece: &[u8],
     out: &mut [u8],
     ext: &mut [u8],
 ) -> DecodeFed
     requires { ⌜ longestFields ≤ length (now ext) ⌝ }
-    ensures { λ r. ⌜ Feeds (record { options = options; stage = Stage.Header reader at kept; live = true }) (now (piece .entry))
+    ensures { λ r. ⌜ Feeds (record { options = options; stage = Stage.Header reading; live = true }) (now (piece .entry))
         (now (out .entry)) (now (ext .entry)) r (now (out .exit)) (now (ext .exit)) ⌝ }
 {
-    let known = reader.fields();
-    let fed = feed_header(reader, at, kept, piece, ext);
-    let taken = fed.taken;
-    let end = fed.end;
-    match end {
-        HeadEnd::More(next) => {
-            let now = std::num::wrapping_add_usize(at, taken);
-            let stage = Stage::Header(next, now, fed.kept);
-            took(options, stage, taken, 0)
+    let known = reading.fields();
+    match feed_header(reading, piece, ext) {
+        HeadFed::More(next) => {
+            let stage = Stage::Header(next);
+            took(options, stage, piece.len(), 0)
         }
-        HeadEnd::Done(h) => feed_first(options, known, h, taken, piece, out),
-        HeadEnd::Refused(e) => met(options, e, known),
+        HeadFed::Done(h, taken) => feed_first(options, known, h, taken, piece, out),
+        HeadFed::Refused(e) => met(options, e, known),
     }
 }

@@ -7,8 +7,8 @@ use error::Checked;
 use error::SESSION_CLOSED;
 use error::WbmpError;
 use header::ParsedHeader;
+use header_pieces::HeadReading;
 use header_reader::FieldsSeen;
-use header_reader::HeaderReader;
 use options::DecodeOptions;
 ghost use mathlib.Core.Path.{_≡_};
 ghost use lib.ListN.{length};
@@ -25,8 +25,8 @@ pub const EXTENSION_BYTES: usize = header_pieces::EXTENSION_BYTES;
 
 // Where a reading stands; named in public so that structs of other crates can hold a session.
 pub enum Stage {
-    // In the header: bytes taken, and extension bytes among them.
-    Header(HeaderReader, usize, usize),
+    // In the header.
+    Header(HeadReading),
     // In the body: whole frames, and bytes of the begun one.
     Body(ParsedHeader, usize, usize),
     // A refusal that a call has met, and the fields that were known before it.
@@ -87,8 +87,8 @@ impl DecodeSession {
         ensures { λ r. ⌜ Opens (opening (decoding options) (length (now (ext .entry)))) r (opened (decoding options)) ⌝ }
     {
         let mode = options.mode;
-        let reader = HeaderReader::new(decoder::image_mode(mode));
-        let stage = Stage::Header(reader, 0, 0);
+        let reading = HeadReading::new(decoder::image_mode(mode));
+        let stage = Stage::Header(reading);
         if ext.len() < EXTENSION_BYTES {
             let session = DecodeSession {
                 options,
@@ -117,11 +117,11 @@ impl DecodeSession {
             return unaltered(self, WbmpError::new(SESSION_CLOSED, 0));
         }
         match stage {
-            Stage::Header(reader, at, kept) => {
+            Stage::Header(reading) => {
                 if ext.len() < EXTENSION_BYTES {
                     return unaltered(self, WbmpError::new(BUFFER_TOO_SHORT, 0));
                 }
-                feed_head(options, reader, at, kept, piece, out, ext)
+                feed_head(options, reading, piece, out, ext)
             }
             Stage::Body(h, whole, begun) => {
                 if ext.len() < EXTENSION_BYTES {
@@ -161,7 +161,7 @@ impl DecodeSession {
     {
         let stage = self.stage;
         match stage {
-            Stage::Header(_, _, _) => HeaderSeen::Unread,
+            Stage::Header(_) => HeaderSeen::Unread,
             Stage::Body(h, _, _) => HeaderSeen::Header(h),
             Stage::Refused(_, _) => HeaderSeen::Unread,
         }

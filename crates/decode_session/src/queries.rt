@@ -19,7 +19,7 @@ impl DecodeSession {
     {
         let stage = self.stage;
         match stage {
-            Stage::Header(_, _, _) => 0,
+            Stage::Header(_) => 0,
             Stage::Body(_, whole, _) => least(whole, MAX_READ_FRAMES) as u32,
             Stage::Refused(_, _) => 0,
         }
@@ -31,7 +31,7 @@ impl DecodeSession {
     {
         let stage = self.stage;
         match stage {
-            Stage::Header(reader, _, _) => reader.fields(),
+            Stage::Header(reading) => reading.fields(),
             Stage::Body(h, _, _) => {
                 let fields = h.ext_fields;
                 FieldsSeen::Seen(fields)

@@ -1,8 +1,9 @@
 -- A piece that is fed: what holds before each of its bytes, and what one byte more comes to.
-use Prim.Native.Nat.{ℕ, _+_, _<_, _≤_}
+use Prim.Native.Nat.{ℕ, _+_, _%_, _^_, _<_, _≤_}
 use mathlib.Core.Path.{_≡_, _∙_, refl, sym, ap, subst, subst⁻¹}
 use mathlib.Core.Bool.{Bool, _&&_}
 use mathlib.Core.List.{List, [], _∷_, _++_, append-nil, append-assoc}
+use native.Mathlib.Nat.{mod-eq-of-lt}
 use native.Mathlib.Numerals.{add-one}
 use native.Mathlib.Omega.{arith}
 use lib.Dec.{ltb}
@@ -10,6 +11,8 @@ use lib.ListN.{length, take, drop, getD, length-append}
 use lib.Seq.{sets, take-suc, take-all, split-at, drop-length}
 use Rattle.error.specs.Answer.{gives, map}
 use Rattle.error.specs.declared.WbmpError.{WbmpError}
+use Rattle.laws.proofs.Lists.{length-append-take}
+use Rattle.laws.proofs.Tests.{zero-one}
 use Rattle.header.specs.Settings.{Settings}
 use Rattle.header.specs.Read.{Outline, outline, readHeader}
 use Rattle.header_reader.specs.Internal.Machine.{State, start, inFields, Step, more, done, refused, stepOf, steps, after, resume}
@@ -23,9 +26,10 @@ use Rattle.header_reader.proofs.Direct.{direct}
 use Rattle.header_reader.proofs.StepReachable.{ReachableStep, reachable-step}
 use Rattle.header_reader.proofs.BytesTaken.{Moves, taken, moves-step}
 use Rattle.header_pieces.specs.Extension.{fieldBytes}
-use Rattle.header_pieces.specs.Internal.Head.{Reached, Ends, Heads, isKept, Keeps}
+use Rattle.header_pieces.specs.Internal.Head.{Reached, HasRead, Ends, Heads, isKept, Keeps}
+use Rattle.header_pieces.specs.declared.HeadReading.{HeadReading}
 use Rattle.header_pieces.specs.declared.HeadFed.{HeadFed}
-use Rattle.header_pieces.specs.declared.HeadEnd.{HeadEnd}
+use Rattle.header_pieces.proofs.Readings.{reached-bound}
 use Rattle.header_pieces.proofs.FieldsGrown.{stores, Follow, grown, taken-so}
 use Rattle.header_pieces.proofs.FieldsStored.{Stored, stored-more}
 
@@ -47,9 +51,9 @@ pub record Turn (piece : List ℕ) (at i : ℕ) (r : HeaderReader) (count : ℕ)
   pub keeps : Keeps count (getD piece i 0) wanted ext count′ ext′
 
 -- what `Heads` promises of one reading
-abbrev pub Headed : Settings → List ℕ → List ℕ → List ℕ → ℕ → ℕ → HeadFed → List ℕ → Type 0
-Headed o bytes piece ext at kept r ext′ =
-    Ends o bytes piece at r (r .end) × (ext′ ≡ sets ext kept (drop kept (fieldBytes o (bytes ++ piece))))
+abbrev pub Headed : Settings → List ℕ → List ℕ → List ℕ → ℕ → HeadFed → List ℕ → Type 0
+Headed o bytes piece ext kept r ext′ =
+    Ends o bytes piece r × (ext′ ≡ sets ext kept (drop kept (fieldBytes o (bytes ++ piece))))
 
 -- the code's test and the law's agree
 kept-as : (o : Settings) (st : State) (at : ℕ) (x : HeaderStep) (y : Step) → Answers o x y → isKept (inFields st) at x ≡ stores st at y
@@ -131,28 +135,29 @@ module _ (o : Settings) (bytes piece ext₀ : List ℕ) (at kept i : ℕ) (r : H
 
   -- it has ended with the header
   pub turn-done : (h : ParsedHeader) → x ≡ HeaderStep.Done h
-      → Headed o bytes piece ext₀ at kept (record { taken = i + 1; kept = count′; end = HeadEnd.Done h }) ext′
+      → Headed o bytes piece ext₀ kept (HeadFed.Done h (i + 1)) ext′
   turn-done h e = go (stepOf o st b) refl (subst (λ (k : HeaderStep). Answers o k (stepOf o st b)) e answers) (moves-step o st b)
     where
       go : (y : Step) → stepOf o st b ≡ y → Answers o (HeaderStep.Done h) y → Moves (taken st) y
-          → Headed o bytes piece ext₀ at kept (record { taken = i + 1; kept = count′; end = HeadEnd.Done h }) ext′
+          → Headed o bytes piece ext₀ kept (HeadFed.Done h (i + 1)) ext′
       go (more s) q a m = absurd a
       go (done y) q a m =
-          let body : h .«data_offset» ≡ y .body = ap (λ (k : Outline). k .body) a in (
-            (reads (done y) q ∙ ap gives (sym a), omega (arith, body, m, taken-so o σ st (g .reached .reached), g .reached .atIs)),
+          let body : h .«data_offset» ≡ y .body = ap (λ (k : Outline). k .body) a in
+          let size = length-append-take bytes piece i (omega (arith, t .within)) in (
+            (reads (done y) q ∙ ap gives (sym a), omega (arith, body, m, taken-so o σ st (g .reached .reached))),
             rw whole-list (behind (drop (i + 1) piece) (done y) q (subst⁻¹ (λ (k : HeaderStep). Answers o k (done y)) e a) tt .buffer),
           )
       go (refused code place) q a m = absurd a
 
   -- it is refused
   pub turn-refused : (f : WbmpError) → x ≡ HeaderStep.Refused f
-      → Headed o bytes piece ext₀ at kept (record { taken = i + 1; kept = count′; end = HeadEnd.Refused f }) ext′
+      → Headed o bytes piece ext₀ kept (HeadFed.Refused f) ext′
   turn-refused f e =
       go (stepOf o st b) refl (subst (λ (k : HeaderStep). Answers o k (stepOf o st b)) e answers)
       (reachable-step o st b (g .reached .represents .reachable))
     where
       go : (y : Step) → stepOf o st b ≡ y → Answers o (HeaderStep.Refused f) y → ReachableStep y
-          → Headed o bytes piece ext₀ at kept (record { taken = i + 1; kept = count′; end = HeadEnd.Refused f }) ext′
+          → Headed o bytes piece ext₀ kept (HeadFed.Refused f) ext′
       go (more s) q a m = absurd a
       go (done y) q a m = absurd a
       go (refused code place) q a m = (
@@ -175,25 +180,32 @@ going-first o bytes piece ext at kept r h =
     }
 
 -- behind the last byte
-pub going-last : (o : Settings) (bytes piece ext₀ : List ℕ) (at kept i : ℕ) (r : HeaderReader) (count : ℕ) (ext : List ℕ)
-    → Going o bytes piece ext₀ at kept i r count ext → i ≤ length piece → length piece ≤ i
-    → Headed o bytes piece ext₀ at kept (record { taken = i; kept = count; end = HeadEnd.More r }) ext
-going-last o bytes piece ext₀ at kept i r count ext g h l =
-    let e : take i piece ≡ piece = take-all i piece l in (
-      (omega arith, subst (λ (p : List ℕ). Reached o (bytes ++ p) r (at + i) count) e (g .reached)),
+pub going-last : (o : Settings) (bytes piece ext₀ : List ℕ) (at kept i : ℕ) (r : HeaderReader) (count : ℕ) (ext : List ℕ) (now : ℕ)
+    → Going o bytes piece ext₀ at kept i r count ext → length piece ≤ i → now ≡ (at + i) % 2 ^ 64
+    → Headed o bytes piece ext₀ kept (HeadFed.More (record { reader = r; at = now; kept = count })) ext
+going-last o bytes piece ext₀ at kept i r count ext now g l n =
+    let e : take i piece ≡ piece = take-all i piece l in
+    let b = reached-bound o (bytes ++ take i piece) r (at + i) count (g .reached) in
+    let same : at + i ≡ now = sym (n ∙ mod-eq-of-lt (omega arith)) in (
+      subst (λ (p : List ℕ). Reached o (bytes ++ p) r now count) e
+          (subst (λ (k : ℕ). Reached o (bytes ++ take i piece) r k count) same (g .reached)),
       subst (λ (p : List ℕ). ext ≡ sets ext₀ kept (drop kept (fieldBytes o (bytes ++ p)))) e (g .stored .buffer),
     )
 
 -- for every reading
-pub ends : {r₀ : HeaderReader} {at kept : ℕ} {piece ext : List ℕ} {r : HeadFed} {ext′ : List ℕ}
-    → 4118 ≤ length ext → r .taken ≤ length piece
-    → ((o : Settings) (bytes : List ℕ) → Reached o bytes r₀ at kept → Headed o bytes piece ext at kept r ext′)
-    → Heads r₀ at kept piece ext r ext′
+pub ends : {h₀ : HeadReading} {piece ext : List ℕ} {r : HeadFed} {ext′ : List ℕ}
+    → 4118 ≤ length ext → ((h : ParsedHeader) (taken : ℕ) → r ≡ HeadFed.Done h taken → taken ≤ length piece)
+    → ((o : Settings) (bytes : List ℕ) → HasRead o bytes h₀ → Headed o bytes piece ext (h₀ .kept) r ext′)
+    → Heads h₀ piece ext r ext′
 ends big n h =
     record { within = n; short = λ l. absurd (omega arith); does = λ b o bytes p. h o bytes p .0; stores = λ b o bytes p. h o bytes p .1 }
 
 -- over a short buffer
-pub untaken : (r₀ : HeaderReader) (at kept : ℕ) (piece ext : List ℕ) → length ext < 4118
-    → Heads r₀ at kept piece ext (record { taken = 0; kept = kept; end = HeadEnd.More r₀ }) ext
-untaken r₀ at kept piece ext l =
-    record { within = omega arith; short = λ h. (refl, refl); does = λ b. absurd (omega arith); stores = λ b. absurd (omega arith) }
+pub untaken : (h₀ : HeadReading) (piece ext : List ℕ) → length ext < 4118 → Heads h₀ piece ext (HeadFed.More h₀) ext
+untaken h₀ piece ext l =
+    record {
+      within = λ h n e. zero-one (cc);
+      short = λ h. (refl, refl);
+      does = λ b. absurd (omega arith);
+      stores = λ b. absurd (omega arith);
+    }

@@ -2,31 +2,65 @@
 // buffer too.
 use error::WbmpError;
 use ext::MAX_EXT_FIELD_BYTES;
+use header::HeaderMode;
 use header::ParsedHeader;
+use header_reader::FieldsSeen;
 use header_reader::HeaderReader;
 use header_reader::HeaderStep;
 ghost use Prim.Native.Nat.{_+_, _≤_};
 ghost use mathlib.Core.Path.{_≡_};
+ghost use mathlib.Core.List.{[]};
 ghost use lib.ListN.{length};
-ghost use Rattle.header_pieces.specs.Internal.Head.{isKept, Keeps, Heads};
+ghost use Rattle.header.specs.Settings.{settings};
+ghost use Rattle.header_pieces.specs.Internal.Head.{HasRead, TellsFields, TellsEnd, Heads, isKept, Keeps};
 ghost use Rattle.header_pieces.specs.Internal.HeadRun.{KeepsRun, RunsOn};
 
 // The least length of an extension buffer, 4,118: no fields are longer, since the last pair starts at 4,095 at most and has a header byte
 // and 7 and 15 bytes.
 pub const EXTENSION_BYTES: usize = MAX_EXT_FIELD_BYTES - 1 + (1 + 7 + 15);
 
-// How the header's part of a piece ends: the header goes on, it ended, or it is refused.
-pub enum HeadEnd {
-    More(HeaderReader),
-    Done(ParsedHeader),
+// A header whose last byte is still to come: its reader, how many bytes were taken, and how many extension bytes among them. Only `new` and
+// `feed_header` make one.
+pub struct HeadReading {
+    reader: HeaderReader,
+    at: usize,
+    kept: usize,
+}
+
+// What a piece does: the header goes on behind it, ended with so many of its bytes, or is refused.
+pub enum HeadFed {
+    More(HeadReading),
+    Done(ParsedHeader, usize),
     Refused(WbmpError),
 }
 
-// How many bytes of the piece are the header's, and how many extension bytes are kept by now.
-pub struct HeadFed {
-    pub taken: usize,
-    pub kept: usize,
-    pub end: HeadEnd,
+impl HeadReading {
+    pub fn new(mode: HeaderMode) -> HeadReading
+        ensures { λ r. ⌜ HasRead (settings mode) [] r ⌝ }
+    {
+        let reader = HeaderReader::new(mode);
+        HeadReading {
+            reader,
+            at: 0,
+            kept: 0,
+        }
+    }
+
+    // The extension fields, once their last byte was taken.
+    pub fn fields(self) -> FieldsSeen
+        ensures { λ r. ⌜ TellsFields self r ⌝ }
+    {
+        let reader = self.reader;
+        reader.fields()
+    }
+
+    // The input ends before the header does.
+    pub fn ended(self) -> WbmpError
+        ensures { λ r. ⌜ TellsEnd self r ⌝ }
+    {
+        let reader = self.reader;
+        reader.ended()
+    }
 }
 
 // Whether a byte at the offset `at + i` is to be kept: one of the fields, and before the place of its refusal.
@@ -107,27 +141,16 @@ fn run_on(reader: HeaderReader, kept: usize, from: usize, piece: &[u8], ext: &mu
     }
 }
 
-// Feeds a piece to the header's reader, up to the header's last byte or a refusal. `at` bytes came before the piece, and `kept` extension
-// bytes among them. Over a shorter extension buffer none is taken.
-pub fn feed_header(
-    reader: HeaderReader,
-    at: usize,
-    kept: usize,
-    piece: &[u8],
-    ext: &mut [u8],
-) -> HeadFed
-    ensures { λ r. ⌜ Heads reader at kept (now (piece .entry)) (now (ext .entry)) r (now (ext .exit)) ⌝ }
+// Feeds a piece, up to the header's last byte or a refusal. Over a shorter extension buffer none of it is taken.
+pub fn feed_header(reading: HeadReading, piece: &[u8], ext: &mut [u8]) -> HeadFed
+    ensures { λ r. ⌜ Heads reading (now (piece .entry)) (now (ext .entry)) r (now (ext .exit)) ⌝ }
 {
     if ext.len() < EXTENSION_BYTES {
-        let end = HeadEnd::More(reader);
-        return HeadFed {
-            taken: 0,
-            kept,
-            end,
-        };
+        return HeadFed::More(reading);
     }
-    let mut reader = reader;
-    let mut kept = kept;
+    let at = reading.at;
+    let mut reader = reading.reader;
+    let mut kept = reading.kept;
     let mut taken = 0;
     while taken < piece.len() {
         let byte = piece[taken];
@@ -144,15 +167,13 @@ pub fn feed_header(
                 taken = run.taken;
             }
             HeaderStep::Done(header) => {
-                let end = HeadEnd::Done(header);
-                return HeadFed { taken, kept, end };
+                return HeadFed::Done(header, taken);
             }
             HeaderStep::Refused(e) => {
-                let end = HeadEnd::Refused(e);
-                return HeadFed { taken, kept, end };
+                return HeadFed::Refused(e);
             }
         }
     }
-    let end = HeadEnd::More(reader);
-    HeadFed { taken, kept, end }
+    let at = std::num::wrapping_add_usize(at, taken);
+    HeadFed::More(HeadReading { reader, at, kept })
 }

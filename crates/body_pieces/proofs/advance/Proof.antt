@@ -1,7 +1,8 @@
 use Prim.Native.Nat.{_+_, _-_, _*_, _≤_}
+use mathlib.Core.Path.{_∙_}
 use native.Mathlib.Omega.{arith}
 use borrow.Author.Needs.{needs}
-use Rattle.body_pieces.proofs.BodyCounts.{stuck, full, inside, all-there, reaches, goes-on, built}
+use Rattle.body_pieces.proofs.BodyCounts.{stuck, full, inside, all-there, reaches, goes-on}
 use Rattle.body_pieces.proofs.advance.Statement.{statement}
 use Rattle.body_pieces.proofs.advance.Tie as tie
 
@@ -9,13 +10,13 @@ fed-requires : tie.Need-fed-requires
 fed-requires c κs = search needs
 
 returns : tie.Need-returns
-returns c = built (c .fed .ensures) (stuck _ _ _ _ _ _ (c .before .if1 .taken))
+returns c = c .fed .ensures ∙ stuck _ _ _ _ _ _ (c .before .if1 .taken)
 
 fed-requires-2 : tie.Need-fed-requires-2
 fed-requires-2 c κs = search needs
 
 returns-2 : tie.Need-returns-2
-returns-2 c = built (c .fed2 .ensures) (full _ _ _ _ _ _ (c .before .if2 .taken) (c .before .before .if1 .left))
+returns-2 c = c .fed2 .ensures ∙ full _ _ _ _ _ _ (c .before .before .if1 .left) (c .before .if2 .taken)
 
 least-requires : tie.Need-least-requires
 least-requires c κs = search needs
@@ -33,8 +34,8 @@ returns-3 : tie.Need-returns-3
 returns-3 c =
     let l = c .before .before in
     let e = l .least .ensures in
-    built (c .fed3 .ensures) (inside _ _ _ _ _ _ _ (e .0) (e .1 .0) (e .1 .1) (l .before .before .if1 .left) (l .before .if2 .left)
-    (c .before .if3 .taken))
+    c .fed3 .ensures
+    ∙ inside _ _ _ _ _ _ (l .before .before .if1 .left) _ (e .0) (e .1 .0) (e .1 .1) (l .before .if2 .left) (c .before .if3 .taken)
 
 div-further : tie.Need-div-further
 div-further c = search needs
@@ -52,7 +53,7 @@ there : (c : tie.Then4)
 there c =
     let l = c .before .before in
     let e = l .least .ensures in
-    all-there _ _ _ _ _ _ _ (e .0) (e .1 .0) (e .1 .1) (l .before .before .if1 .left) (l .before .if2 .left) (c .before .if3 .left)
+    all-there _ _ _ _ _ _ (l .before .before .if1 .left) _ (e .0) (e .1 .0) (e .1 .1) (l .before .if2 .left) (c .before .if3 .left)
     (c .if4 .taken)
 
 mul-fed : tie.Need-mul-fed
@@ -68,9 +69,9 @@ returns-4 : tie.Need-returns-4
 returns-4 c =
     let l = c .before .before .before in
     let e = l .least .ensures in
-    built (c .fed4 .ensures)
-    (reaches _ _ _ _ _ _ _ (e .0) (e .1 .0) (e .1 .1) (l .before .before .if1 .left) (l .before .if2 .left) (c .before .before .if3 .left)
-    (c .before .if4 .taken))
+    c .fed4 .ensures
+    ∙ reaches _ _ _ _ _ _ (l .before .before .if1 .left) _ (e .0) (e .1 .0) (e .1 .1) (l .before .if2 .left)
+    (c .before .before .if3 .left) (c .before .if4 .taken)
 
 add-fed-3 : tie.Need-add-fed-3
 add-fed-3 c = search needs
@@ -88,9 +89,9 @@ returns-5 : tie.Need-returns-5
 returns-5 c =
     let l = c .before .before .before in
     let e = l .least .ensures in
-    built (c .fed5 .ensures)
-    (goes-on _ _ _ _ _ _ _ (e .0) (e .1 .0) (e .1 .1) (l .before .before .if1 .left) (l .before .if2 .left) (c .before .before .if3 .left)
-    (c .before .if4 .left))
+    c .fed5 .ensures
+    ∙ goes-on _ _ _ _ _ _ (l .before .before .if1 .left) _ (e .0) (e .1 .0) (e .1 .1) (l .before .if2 .left)
+    (c .before .before .if3 .left) (c .before .if4 .left)
 
 pub advance-spec : {M : Type 1} → statement M
 advance-spec =

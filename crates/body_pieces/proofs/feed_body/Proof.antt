@@ -7,7 +7,8 @@ use lib.ListN.{length, drop}
 use lib.Seq.{length-take-le}
 use Rattle.image.specs.Geometry.{planeBytes}
 use Rattle.image.specs.declared.PlaneLayout.{PlaneLayout}
-use Rattle.body_pieces.specs.Internal.Body.{Advances}
+use Rattle.body_pieces.specs.Internal.Body.{advanced}
+use Rattle.body_pieces.proofs.BodyCounts.{in-bounds}
 use borrow.Author.Needs.{needs}
 use Rattle.body_pieces.proofs.feed_body.Statement.{statement}
 use Rattle.body_pieces.proofs.feed_body.Tie as tie
@@ -21,20 +22,23 @@ advance-requires c κs = search needs
 -- what is written is given and has room
 module _ (c : tie.After-advance) where
   given : c .advance .result .written ≤ length (now (c .before .before .before .before .args .piece))
-  given = omega (arith, c .advance .ensures .takes, c .advance .ensures .writes)
+  given = let b = in-bounds _ _ _ _ _ _ _ (c .advance .ensures) in omega (arith, b .0, b .1 .0)
+
+  room : c .advance .result .written ≤ length (now (c .before .before .before .before .args .out))
+  room = in-bounds _ _ _ _ _ _ _ (c .advance .ensures) .1 .1
 
 slice-aggregate-convert : tie.Need-slice-aggregate-convert
 slice-aggregate-convert c = sym (length-take-le _ _ (given (c .before)))
 
 slice-relend-prefix-convert : tie.Need-slice-relend-prefix-convert
-slice-relend-prefix-convert c = search needs
+slice-relend-prefix-convert c = room (c .before)
 
 slice-aggregate-convert-2 : tie.Need-slice-aggregate-convert-2
-slice-aggregate-convert-2 c = sym (length-take-le _ _ (c .before .before .advance .ensures .fits))
+slice-aggregate-convert-2 c = sym (length-take-le _ _ (room (c .before .before)))
 
 convert-requires : tie.Need-convert-requires
 convert-requires c κs =
-    length-take-le _ _ (given (c .before .before)) ∙ sym (length-take-le _ _ (c .before .before .advance .ensures .fits))
+    length-take-le _ _ (given (c .before .before)) ∙ sym (length-take-le _ _ (room (c .before .before)))
 
 same-length : tie.Need-same-length
 same-length c = search needs
@@ -48,8 +52,8 @@ returns c =
     ap (λ (l : PlaneLayout). l .«total_bytes») (d .before .new .ensures) in
     record {
       advances =
-          subst (λ n. Advances (a .ceiling) n (a .place .whole) (a .place .begun) (length (now (a .piece))) (length (now (a .out)))
-          (d .advance .result)) plane (d .advance .ensures);
+          subst (λ n. d .advance .result ≡ advanced (a .ceiling) n (a .place .whole) (a .place .begun) (length (now (a .piece)))
+          (length (now (a .out)))) plane (d .advance .ensures);
       output = ap (λ (l : List _). l ++ drop (d .advance .result .written) (now (a .out))) (v .convert .ensures);
     }
 

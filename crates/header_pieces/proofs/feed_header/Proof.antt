@@ -1,10 +1,11 @@
-use Prim.Native.Nat.{ℕ, _-_, _≤_}
+use Prim.Native.Nat.{ℕ, _+_, _-_, _≤_}
 use mathlib.Core.Path.{_≡_, _∙_, refl}
 use mathlib.Core.List.{List}
 use native.Mathlib.Omega.{arith}
 use borrow.Author.Needs.{needs}
 use lib.ListN.{length}
 use denote.Ref.{now}
+use Rattle.laws.proofs.Tests.{zero-one}
 use Rattle.header.specs.Settings.{Settings}
 use Rattle.header_pieces.specs.Internal.Head.{Reached}
 use Rattle.header_pieces.proofs.HeaderLoop.{Going, Turn, turn-more, turn-done, turn-refused, going-first, going-last, ends, untaken}
@@ -13,19 +14,19 @@ use Rattle.header_pieces.proofs.feed_header.Statement.{statement}
 use Rattle.header_pieces.proofs.feed_header.Tie as tie
 
 abbrev Inv-loop : tie.InvT-loop
-Inv-loop at kept₀ piece ext₀ reader₀ first zero ext reader kept taken =
+Inv-loop piece ext₀ at reader₀ kept₀ first ext reader kept taken =
     (taken ≤ length piece) × (length ext ≡ length ext₀)
     × ((o : Settings) (bytes : List ℕ) → Reached o bytes reader₀ at kept₀ → Going o bytes piece ext₀ at kept₀ taken reader kept ext)
     × (4118 ≤ length ext₀)
 
 abbrev μ-loop : tie.MeasureT-loop
-μ-loop at kept₀ piece ext₀ reader₀ first zero ext reader kept taken = length piece - taken
+μ-loop piece ext₀ at reader₀ kept₀ first ext reader kept taken = length piece - taken
 
 -- what the code has done with a byte, before it looks at the step
 turn : (k : tie.After-keep Inv-loop μ-loop)
     → let l = k .before .before .before .before .before .before .before .loop in
-    let a = k .before .before .before .before .before .before .before .before .before .before .before .args in
-    Turn (now (a .piece)) (a .at) (l .taken) (l .reader) (l .kept) (l .ext) (k .before .before .before .step .result) (k .keep .result)
+    let a = k .before .before .before .before .before .before .before .before .before .before .before .before .args in
+    Turn (now (a .piece)) (a .reading .at) (l .taken) (l .reader) (l .kept) (l .ext) (k .before .before .before .step .result) (k .keep .result)
     (k .keep .last .0)
 turn k =
     let s = k .before .before .before in
@@ -42,7 +43,7 @@ turn k =
     }
 
 returns : tie.Need-returns Inv-loop μ-loop
-returns c = untaken _ _ _ _ _ (c .if1 .taken)
+returns c = untaken _ _ _ (c .if1 .taken)
 
 loop-holds : tie.Need-loop-holds Inv-loop μ-loop
 loop-holds c = (omega arith, refl, λ o bytes h. going-first o bytes _ _ _ _ _ h, omega arith)
@@ -100,7 +101,7 @@ returns-2 : tie.Need-returns-2 Inv-loop μ-loop
 returns-2 c =
     let k = c .before .before .before .before .before in
     let l = k .before .before .before .before .before .before .before .loop in
-    ends (l .inv .3) (omega (arith, turn k .within))
+    ends (l .inv .3) (λ h n e. let same : l .taken + 1 ≡ n = cc in omega (arith, turn k .within))
     (λ o bytes h. turn-done o bytes _ _ _ _ _ _ _ _ _ _ _ (l .inv .2 o bytes h) (turn k) _ (c .before .step3 .given .1))
 
 enum-known-step-3 : tie.Need-enum-known-step-3 Inv-loop μ-loop
@@ -115,16 +116,21 @@ returns-3 : tie.Need-returns-3 Inv-loop μ-loop
 returns-3 c =
     let k = c .before .before .before .before .before in
     let l = k .before .before .before .before .before .before .before .loop in
-    ends (l .inv .3) (omega (arith, turn k .within))
+    ends (l .inv .3) (λ h n e. zero-one (cc))
     (λ o bytes h. turn-refused o bytes _ _ _ _ _ _ _ _ _ _ _ (l .inv .2 o bytes h) (turn k) _ (c .before .step4 .given .1))
 
+wrapping-add-usize-requires : tie.Need-wrapping-add-usize-requires Inv-loop μ-loop
+wrapping-add-usize-requires c κs = search needs
+
 same-length-3 : tie.Need-same-length-3 Inv-loop μ-loop
-same-length-3 c = c .before .loop .inv .1
+same-length-3 c = c .before .before .loop .inv .1
 
 returns-4 : tie.Need-returns-4 Inv-loop μ-loop
 returns-4 c =
-    let l = c .before .loop in
-    ends (l .inv .3) (l .inv .0) (λ o bytes h. going-last o bytes _ _ _ _ _ _ _ _ (l .inv .2 o bytes h) (l .inv .0) (c .loop-test .left))
+    let l = c .before .before .loop in
+    ends (l .inv .3) (λ h n e. zero-one (cc))
+    (λ o bytes h. going-last o bytes _ _ _ _ _ _ _ _ _ (l .inv .2 o bytes h) (c .before .loop-test .left)
+    (c .wrapping-add-usize .ensures))
 
 pub feed-header-spec : {M : Type 1} → statement M
 feed-header-spec =
@@ -150,5 +156,6 @@ feed-header-spec =
     enum-known-step-3
     same-length-2
     returns-3
+    wrapping-add-usize-requires
     same-length-3
     returns-4)

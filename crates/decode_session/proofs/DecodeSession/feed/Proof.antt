@@ -25,7 +25,7 @@ unaltered-requires-2 c κs = search needs
 returns-2 : tie.Need-returns-2
 returns-2 c =
     let t = c .before .before .before .before in
-    short-in-header _ _ _ _ _ _ (c .unaltered2 .ensures) (not-false _ (t .before .before .if1 .left)) _ _ _ (t .stage .given .1)
+    short-in-header _ _ _ _ _ _ (c .unaltered2 .ensures) (not-false _ (t .before .before .if1 .left)) _ (t .stage .given .1)
     (c .before .new2 .ensures)
     (c .before .before .if2 .taken)
 

@@ -16,7 +16,7 @@ enum-known-stage-3 : tie.Need-enum-known-stage-3
 enum-known-stage-3 c = search needs
 
 returns : tie.Need-returns
-returns c = header-fields _ _ _ _ (c .before .before .stage .given .1) _ (c .fields .ensures)
+returns c = header-fields _ _ (c .before .before .stage .given .1) _ (c .fields .ensures)
 
 returns-2 : tie.Need-returns-2
 returns-2 c = body-fields _ _ _ _ (c .before .stage2 .given .1)

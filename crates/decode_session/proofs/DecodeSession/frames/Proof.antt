@@ -19,7 +19,7 @@ enum-told-2 : tie.Need-enum-told-2
 enum-told-2 c = search needs
 
 returns : tie.Need-returns
-returns c = header-frames _ _ _ _ (c .enum-told .given .1)
+returns c = header-frames _ _ (c .enum-told .given .1)
 
 returns-2 : tie.Need-returns-2
 returns-2 c =

@@ -13,7 +13,7 @@ enum-told-2 : tie.Need-enum-told-2
 enum-told-2 c = search needs
 
 returns : tie.Need-returns
-returns c = sees-none _ _ _ _ (c .enum-told .given .1)
+returns c = sees-none _ _ (c .enum-told .given .1)
 
 returns-2 : tie.Need-returns-2
 returns-2 c = sees-it _ _ _ _ (c .before .stage .given .1)

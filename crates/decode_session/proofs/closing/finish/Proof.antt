@@ -30,7 +30,7 @@ enum-known-stage-3 : tie.Need-enum-known-stage-3
 enum-known-stage-3 c = search needs
 
 returns-2 : tie.Need-returns-2
-returns-2 c = finish-header _ _ _ _ _ (c .before .before .stage .given .1) (c .ended .ensures)
+returns-2 c = finish-header _ _ _ (c .before .before .stage .given .1) (c .ended .ensures)
 
 returns-3 : tie.Need-returns-3
 returns-3 c =

@@ -10,23 +10,22 @@ fields-requires c κs = search needs
 feed-header-requires : tie.Need-feed-header-requires
 feed-header-requires c κs = search needs
 
-enum-known-end : tie.Need-enum-known-end
-enum-known-end c = search needs
-
-wrapping-add-usize-requires : tie.Need-wrapping-add-usize-requires
-wrapping-add-usize-requires c κs = search needs
+enum-known-next : tie.Need-enum-known-next
+enum-known-next c = search needs
 
 took-requires : tie.Need-took-requires
 took-requires c κs = search needs
 
-enum-known-end-2 : tie.Need-enum-known-end-2
-enum-known-end-2 c = search needs
+enum-known-h : tie.Need-enum-known-h
+enum-known-h c = search needs
 
 feed-first-requires : tie.Need-feed-first-requires
-feed-first-requires c κs = search needs
+feed-first-requires c κs =
+    let t = c .before .before in
+    t .before .before .before .before .feed-header .ensures .within _ _ (t .h .given .1)
 
-enum-known-end-3 : tie.Need-enum-known-end-3
-enum-known-end-3 c = search needs
+enum-known-e : tie.Need-enum-known-e
+enum-known-e c = search needs
 
 met-requires : tie.Need-met-requires
 met-requires c κs = search needs
@@ -36,14 +35,13 @@ same-length c = search needs
 
 returns : tie.Need-returns
 returns c =
-    let t = c .before .before .before in
+    let t = c .before .before in
     let v = t .before .before .before .before in
     let k = v .before .before in
     let s = k .before .before .before .before in
     let a = s .args in
-    more (a .options) (a .reader) (a .at) (a .kept) (now (a .piece)) (now (a .out)) (now (a .ext)) _
-    (v .feed-header .result) (v .feed-header .ensures) (s .pre) _ _ _ (t .end .given .1)
-    (c .before .wrapping-add-usize .ensures) (c .took .ensures)
+    more (a .options) (a .reading) (now (a .piece)) (now (a .out)) (now (a .ext)) _
+    (v .feed-header .result) (v .feed-header .ensures) (s .pre) _ _ (t .next .given .1) (c .took .ensures)
 
 same-length-2 : tie.Need-same-length-2
 same-length-2 c = search needs
@@ -59,8 +57,8 @@ returns-2 c =
     let k = v .before .before in
     let s = k .before .before .before .before in
     let a = s .args in
-    whole (a .options) (a .reader) (a .at) (a .kept) (now (a .piece)) (now (a .out)) (now (a .ext)) _
-    (v .feed-header .result) (v .feed-header .ensures) (s .pre) _ _ _ _ (k .fields .ensures) (t .end2 .given .1)
+    whole (a .options) (a .reading) (now (a .piece)) (now (a .out)) (now (a .ext)) _
+    (v .feed-header .result) (v .feed-header .ensures) (s .pre) _ _ _ _ _ (k .fields .ensures) (t .h .given .1)
     (f .feed-first .ensures)
 
 same-length-4 : tie.Need-same-length-4
@@ -73,8 +71,8 @@ returns-3 c =
     let k = v .before .before in
     let s = k .before .before .before .before in
     let a = s .args in
-    refused (a .options) (a .reader) (a .at) (a .kept) (now (a .piece)) (now (a .out)) (now (a .ext)) _
-    (v .feed-header .result) (v .feed-header .ensures) (s .pre) _ _ _ (k .fields .ensures) (t .end3 .given .1)
+    refused (a .options) (a .reading) (now (a .piece)) (now (a .out)) (now (a .ext)) _
+    (v .feed-header .result) (v .feed-header .ensures) (s .pre) _ _ _ (k .fields .ensures) (t .e .given .1)
     (c .met .ensures)
 
 pub feed-head-spec : {M : Type 1} → statement M
@@ -83,12 +81,11 @@ feed-head-spec =
     (tie.spec
     fields-requires
     feed-header-requires
-    enum-known-end
-    wrapping-add-usize-requires
+    enum-known-next
     took-requires
-    enum-known-end-2
+    enum-known-h
     feed-first-requires
-    enum-known-end-3
+    enum-known-e
     met-requires
     same-length
     returns

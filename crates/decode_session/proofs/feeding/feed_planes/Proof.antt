@@ -7,6 +7,7 @@ use lib.Seq.{take-all}
 use Rattle.options.specs.Limits.{decoding}
 use Rattle.options.proofs.Ceilings.{sixteen}
 use Rattle.header.specs.declared.ParsedHeader.{ParsedHeader}
+use Rattle.body_pieces.proofs.BodyCounts.{in-bounds}
 use Rattle.decode_session.specs.Internal.Stages.{takenIn}
 use Rattle.decode_session.specs.declared.Stage.{Stage}
 use Rattle.decode_session.proofs.PlanesFed.{planes}
@@ -30,7 +31,9 @@ rebuilt-requires : tie.Need-rebuilt-requires
 rebuilt-requires c κs = search needs
 
 add-took : tie.Need-add-took
-add-took c = omega (arith, c .before .before .before .before .before .before .before .before .before .good)
+add-took c =
+    let v = c .before .before .before .before in
+    omega (arith, v .before .before .before .before .before .good, in-bounds _ _ _ _ _ _ _ (v .feed-body .ensures .advances) .0)
 
 took-requires : tie.Need-took-requires
 took-requires c κs = search needs
