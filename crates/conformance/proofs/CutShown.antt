@@ -22,6 +22,7 @@ use Rattle.image.specs.Dots.{isWhite}
 use Rattle.image.specs.Geometry.{rowBytes, planeBytes}
 use Rattle.options.specs.Limits.{Decoding, settled, ceilingOf}
 use Rattle.options.proofs.Ceilings.{tested, sixteen}
+use Rattle.rules.specs.Rule.{Rule}
 use Rattle.quantize.specs.Finished.{setting, finished}
 use Rattle.decoder.specs.Body.{framesIn, planes}
 use Rattle.decoder.specs.Image.{imageSettings, headerOf, readImage}
@@ -132,11 +133,14 @@ module _ (d : Decoding) (a : Making.Opening) (fields : Fields) (k : ℕ) (scans 
   abbrev h : ℕ
   h = a .height
 
+  abbrev rule : Rule
+  rule = Making.settingOf a .rule
+
   abbrev most : ℕ
   most = ceilingOf d
 
-  back : ReadsBack most d bytes w h fields k (λ f. finished (setting (a .options .quantize) w h 1) (lentScan w h scans f))
-      (λ f. scanWhite (a .options .quantize) w h (lentScan w h scans f))
+  back : ReadsBack most d bytes w h fields k (λ f. finished (setting rule w h 1) (lentScan w h scans f))
+      (λ f. scanWhite rule w h (lentScan w h scans f))
   back = made-back 16 most d (a .options) w h k scans (a .text) (a .lengths) work bytes fields wb hb reads lent taken adm made
 
   tests : Passed 16 (a .options) w h k scans (a .text) (a .lengths) work bytes
@@ -147,7 +151,7 @@ module _ (d : Decoding) (a : Making.Opening) (fields : Fields) (k : ℕ) (scans 
   every-scan = omega (arith, sixteen d, tests .tests .sized .few)
 
   abbrev body : List ℕ
-  body = scanBytes (a .options .quantize) w h scans k
+  body = scanBytes rule w h scans k
 
   parts : Filed (a .options .strict) w h fields body bytes
   parts = filed (a .options) w h (a .text) (a .lengths) body bytes fields lent (tests .file)
@@ -156,7 +160,7 @@ module _ (d : Decoding) (a : Making.Opening) (fields : Fields) (k : ℕ) (scans 
   fit = fitting (d .mode) (a .options .strict) (a .options .ext) (a .text) (a .lengths) fields lent taken
 
   long : length body ≡ k * planeBytes w h
-  long = body-size (a .options .quantize) w h scans (parts .wide) (parts .high) k (tests .tests .enough) k (omega arith)
+  long = body-size rule w h scans (parts .wide) (parts .high) k (tests .tests .enough) k (omega arith)
 
   abbrev shape : Outline
   shape = outline (head (a .options .strict) w h fields body bytes parts)

@@ -14,8 +14,7 @@ use Rattle.image.specs.Geometry.{rowBytes, planeBytes}
 use Rattle.image.specs.Rows.{convertFormat}
 use Rattle.image.specs.declared.PixelFormat.the-variants.{MonoBlack}
 use Rattle.options.specs.Limits.{Mode, lenient, strict, Decoding, admits}
-use Rattle.options.specs.declared.Quantize.{Quantize}
-use Rattle.rules.specs.Rule.{dot, meaning}
+use Rattle.rules.specs.Rule.{Rule, dot}
 use Rattle.quantize.specs.Finished.{frame}
 use Rattle.decoder.specs.Image.{fieldsOf}
 use Rattle.decoder.specs.Frames.{Image, shown, decoded}
@@ -48,8 +47,8 @@ planeIn width height planes k = take (planeBytes width height) (drop (k * planeB
 abbrev pub lentScan : ℕ → ℕ → List ℕ → ℕ → List ℕ
 lentScan width height gray k = take (width * height) (drop (k * (width * height)) gray)
 
-abbrev pub scanWhite : Quantize → ℕ → ℕ → List ℕ → ℕ → ℕ → Bool
-scanWhite rule width height scan x y = ltb x width && ltb y height && dot (meaning rule) width (frame width height scan 0) x y
+abbrev pub scanWhite : Rule → ℕ → ℕ → List ℕ → ℕ → ℕ → Bool
+scanWhite rule width height scan x y = ltb x width && ltb y height && dot rule width (frame width height scan 0) x y
 
 -- Whole reading of up to `most` frames shows this size, these fields and the first frames of so many, with the last of which the file ends.
 -- Plane k is `plane k` in the asked format, and its dot at column x of row y is white where `white k x y` says so.

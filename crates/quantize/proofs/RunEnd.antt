@@ -15,7 +15,7 @@ use Rattle.options.specs.declared.Quantize.{Quantize}
 use Rattle.quantize.specs.declared.engine.Quantizer.{Quantizer}
 use Rattle.quantize.specs.declared.engine.RunEnded.{RunEnded}
 use Rattle.quantize.specs.declared.turn.Place.{Place}
-use Rattle.rules.specs.Rule.{Rule, meaning, knownRule, enoughWork}
+use Rattle.rules.specs.Rule.{Rule, knownRule, enoughWork, ruleNamed, ruleGiven}
 use Rattle.quantize.specs.Finished.{Setting, Bytewise, count, finished, takes}
 use Rattle.quantize.specs.Internal.Machine.{State, carried, emitted}
 use Rattle.quantize.specs.Internal.Turn.{stateOf, ruleOf, Sound, SamplesForByte, Served}
@@ -32,9 +32,9 @@ use Rattle.quantize.proofs.RunLoop.{Loop}
 
 not-enough-work : (rule : Quantize) (table : List ℕ) (w work : ℕ) → knownRule rule ≡ true → (Served rule w work → ⊥)
     → enoughWork (ruleOf rule table) w work ≡ false
-not-enough-work rule table w work k h = enough-work-same rule table w work ∙ go (enoughWork (meaning rule) w work) refl
+not-enough-work rule table w work k h = enough-work-same rule table w work ∙ go (enoughWork (ruleGiven (ruleNamed rule)) w work) refl
   where
-    go : (b : Bool) → enoughWork (meaning rule) w work ≡ b → b ≡ false
+    go : (b : Bool) → enoughWork (ruleGiven (ruleNamed rule)) w work ≡ b → b ≡ false
     go true e = absurd (h (record { known = k; room = e }))
     go false e = refl
 

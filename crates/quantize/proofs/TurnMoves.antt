@@ -13,7 +13,7 @@ use Rattle.quantize.specs.declared.engine.Quantizer.{Quantizer}
 use Rattle.quantize.specs.declared.turn.Advanced.{Advanced}
 use Rattle.quantize.specs.declared.turn.Place.{Place}
 use Rattle.rules.specs.Bits.{appended}
-use Rattle.rules.specs.Rule.{Rule, meaning, carries}
+use Rattle.rules.specs.Rule.{Rule, carries, ruleNamed, ruleGiven}
 use Rattle.quantize.specs.Internal.Turn.{Served, stateOf, ruleOf, Sound, Dotted, Advances}
 use Rattle.quantize.specs.Finished.{Setting, Bytewise}
 use Rattle.rules.specs.Internal.Carry.{Carry}
@@ -42,7 +42,7 @@ pub record Turn (q : Quantizer) (p : Place) (xs : List ℕ) (work : List ℤ) (m
   pub sound : Sound (q .rule) (q .width) (q .height) (p′ .row) (p′ .column) (p′ .begun) (p′ .corner) (length work′)
   pub long : length work′ ≡ length work
   pub beyond : drop (q .width) work′ ≡ drop (q .width) work
-  pub spared : carries (meaning (q .rule)) ≡ false → work′ ≡ work
+  pub spared : carries (ruleGiven (ruleNamed (q .rule))) ≡ false → work′ ≡ work
   pub moves : (s : Setting) (n : ℕ) → Suits q s → At s n (p .frames) (p .row) (p .column) → Moved s n p xs work m bytes p′ work′
 
 -- nothing is taken

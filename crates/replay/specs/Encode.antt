@@ -6,7 +6,7 @@ use mathlib.Core.List.{List, [], _∷_, _++_}
 use lib.IntN.{ℤ}
 use lib.ListN.{length, take, drop}
 use Rattle.error.specs.Answer.{Answer, gives, refuses}
-use Rattle.rules.specs.Rule.{meaning, carries}
+use Rattle.rules.specs.Rule.{carries}
 use Rattle.quantize.specs.Internal.Machine.{State, carried}
 use Rattle.quantize.specs.Internal.Turn.{stateOf}
 use Rattle.encode_session.specs.Model.{settingOf, Model, Call, feed, close, Told, took, closed, Reply, outcome, replies, finally}
@@ -70,7 +70,7 @@ pub record WritesAs (m : Model) (cs : List Call) (out : List ℕ) (r : EncodeRep
 -- under a rule that keeps no carries; behind `width` numbers it always is.
 pub record Leaves (m after : Model) (work work′ : List ℤ) : Type 0 where
   pub quiet : length (after .samples) ≡ length (m .samples) → work′ ≡ work
-  pub spared : carries (meaning (m .opening .options .quantize)) ≡ false → work′ ≡ work
+  pub spared : carries (settingOf (m .opening) .rule) ≡ false → work′ ≡ work
   pub beyond : drop (m .opening .width) work′ ≡ drop (m .opening .width) work
 
 -- A run of the named calls. Of a session that stands for a model, answers and counts are the model's, and the work buffer ends with the

@@ -7,13 +7,14 @@ use lib.Dec.{ltb, eqb}
 use lib.IntN.{ℤ, pos}
 use lib.ListN.{length, getD, take, drop}
 use Rattle.error.specs.Choice.{if}
+use Rattle.error.specs.Answer.{gives}
 use Rattle.options.specs.declared.Quantize.{Quantize}
 use Rattle.quantize.specs.declared.engine.Quantizer.{Quantizer}
 use Rattle.quantize.specs.declared.engine.RunEnded.{RunEnded}
 use Rattle.quantize.specs.declared.engine.Spot.{Spot}
 use Rattle.quantize.specs.declared.turn.Place.{Place}
 use Rattle.rules.specs.Diffusion.{Direction, Scan, onLeft, above, residualAt}
-use Rattle.rules.specs.Rule.{Rule, threshold, dither, ordered, rightwards, meaning, knownRule, carries, enoughWork}
+use Rattle.rules.specs.Rule.{Rule, threshold, dither, ordered, rightwards, knownRule, carries, enoughWork, ruleNamed, ruleGiven}
 use Rattle.quantize.specs.Internal.Turn.{Served, stateOf, ruleOf}
 use Rattle.quantize.specs.Finished.{Setting, count, frame, dotOf, newly, takes, setting}
 use Rattle.rules.specs.Internal.Carry.{Carry, clamp}
@@ -64,15 +65,15 @@ pub record Holds (q : Quantizer) (work : List ℤ) (s : Setting) (xs : List ℕ)
 
 -- a table for the rule: its side's numbers stand at the front
 abbrev pub Tabled : Quantize → List ℕ → Type 0
-Tabled rule table = knownRule rule ≡ true → ruleOf rule table ≡ meaning rule
+Tabled asked table = (rule : Rule) → ruleNamed asked ≡ gives rule → ruleOf asked table ≡ rule
 
 -- a new quantizer, whatever stands in a work buffer
-pub record Opens (rule : Quantize) (w h frames : ℕ) (q : Quantizer) : Type 0 where
-  pub ruleIs : q .rule ≡ rule
+pub record Opens (asked : Quantize) (w h frames : ℕ) (q : Quantizer) : Type 0 where
+  pub ruleIs : q .rule ≡ asked
   pub widthIs : q .width ≡ w
   pub heightIs : q .height ≡ h
   pub framesAre : q .place .frames ≡ frames
-  pub holds : knownRule rule ≡ true → 0 < w → 0 < h → (work : List ℤ) → Holds q work (setting rule w h frames) []
+  pub holds : (rule : Rule) → ruleNamed asked ≡ gives rule → 0 < w → 0 < h → (work : List ℤ) → Holds q work (setting rule w h frames) []
 
 -- samples can be taken: there are dots, the side is known, and the work buffer is long enough
 pub record Ready (rule : Quantize) (w h work : ℕ) : Type 0 where
@@ -119,7 +120,7 @@ pub record Runs (q : Quantizer) (samples out : List ℕ) (work : List ℤ) (r : 
   pub written : r .written ≤ length out
   pub past : drop (r .written) out′ ≡ drop (r .written) out
   pub beyond : drop (q .width) work′ ≡ drop (q .width) work
-  pub spared : carries (meaning (q .rule)) ≡ false → work′ ≡ work
+  pub spared : carries (ruleGiven (ruleNamed (q .rule))) ≡ false → work′ ≡ work
   pub idle : (Ready (q .rule) (q .width) (q .height) (length work) → ⊥) → Idles q out work r out′ work′
   pub counts : (s : Setting) (n : ℕ) → Stands q s n → Counts q s n (length samples) (length out) (length work) r
   pub machine : (s : Setting) (n : ℕ) → Stands q s n → Machines q s n samples out work r out′ work′
@@ -131,7 +132,7 @@ spotOf q = record { frames = q .place .frames; row = q .place .row; column = q .
 
 -- whether a work buffer of so many numbers is long enough
 abbrev pub roomFor : Quantizer → ℕ → Bool
-roomFor q work = enoughWork (meaning (q .rule)) (q .width) work
+roomFor q work = enoughWork (ruleGiven (ruleNamed (q .rule))) (q .width) work
 
 -- whether it stands behind whole frames, and at least one, where it was made for so many
 abbrev pub behindFrames : Quantizer → ℕ → Bool

@@ -12,7 +12,7 @@ use Rattle.rules.specs.declared.dither.RowDots.{RowDots}
 use Rattle.quantize.specs.declared.turn.Advanced.{Advanced}
 use Rattle.quantize.specs.declared.turn.Place.{Place}
 use Rattle.rules.specs.Bits.{digits}
-use Rattle.rules.specs.Rule.{Rule, threshold, dither, ordered, meaning, knownRule, enoughWork}
+use Rattle.rules.specs.Rule.{Rule, threshold, dither, ordered, knownRule, enoughWork, ruleNamed, ruleGiven}
 use Rattle.quantize.specs.Finished.{Setting}
 use Rattle.quantize.specs.Internal.Machine.{State}
 use Rattle.quantize.specs.Internal.Place.{At}
@@ -23,7 +23,7 @@ use Rattle.rules.specs.Internal.Row.{Bytes}
 -- samples can be taken: the rule is known, and the work buffer long enough
 pub record Served (rule : Quantize) (w work : ℕ) : Type 0 where
   pub known : knownRule rule ≡ true
-  pub room : enoughWork (meaning rule) w work ≡ true
+  pub room : enoughWork (ruleGiven (ruleNamed rule)) w work ≡ true
 
 -- the machine's state, from the numbers that the code keeps
 abbrev pub stateOf : Place → List ℤ → State
