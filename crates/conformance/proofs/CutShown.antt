@@ -13,7 +13,7 @@ use Rattle.error.specs.Answer.{Answer, gives, refuses, map}
 use Rattle.laws.proofs.Answers.{bind-gives, when}
 use Rattle.mbi.specs.Bytes.{mbiBytes, groups}
 use Rattle.ext.specs.Kinds.{Fields, none, bitfield, reserved, pairs, spanOf}
-use Rattle.ext_write.specs.Ceiling.{Readable}
+use Rattle.ext_write.specs.Ceiling.{Readable, OfKind}
 use Rattle.ext_write.specs.Write.{fieldsBytes}
 use Rattle.header.specs.Read.{Outline, outline}
 use Rattle.header.specs.Write.{fixByte, sizeBytes, headerBytes, presented}
@@ -97,26 +97,27 @@ module _ (d : Decoding) (bytes : List ℕ) (h : Outline) (read : readImage d byt
 
   -- the fields, where the file has some
   module _ (strict : Bool) (fb τ : List ℕ) where
-    by-buffer : (f : Fields) → bytes ≡ 0 ∷ fixByte f ∷ (fb ++ τ) → fieldsBytes strict f ≡ gives fb → Readable f
+    by-buffer : (f : Fields) → bytes ≡ 0 ∷ fixByte f ∷ (fb ++ τ) → fieldsBytes strict f ≡ gives fb → OfKind f
+        → Readable f
         → imageSettings (d .mode) .fixZero ≡ false → imageSettings (d .mode) .honoured ≡ true
         → (imageSettings (d .mode) .classes ≡ true → strict ≡ true) → fieldsShown (spanOf 2 (f, 2 + length fb)) extension ≡ gives f
-    by-buffer f e g r p q c =
+    by-buffer f e g i r p q c =
         let o = imageSettings (d .mode) in
-        let K = FileHeld o strict f fb τ r p q c g in
+        let K = FileHeld o strict f fb τ i r p q c g in
         let n = ended K (λ at n ext b k.
         subst (λ (s : List ℕ). K (at + n)
         (sets ext (length (fieldBytes o (take at s))) (drop (length (fieldBytes o (take at s))) (fieldBytes o (take (at + n) s)))))
-        (sym e) (held-more o strict f fb τ r p q c g at n ext k))
-        (held-none o strict f fb τ r p q c g (l .lent) (opening-says d (length (l .lent)) (admitted l) .1)) in
-        held-shows o strict f fb τ r p q c g extension (subst (λ (s : List ℕ). K (length s) extension) e (n .holds))
+        (sym e) (held-more o strict f fb τ i r p q c g at n ext k))
+        (held-none o strict f fb τ i r p q c g (l .lent) (opening-says d (length (l .lent)) (admitted l) .1)) in
+        held-shows o strict f fb τ i r p q c g extension (subst (λ (s : List ℕ). K (length s) extension) e (n .holds))
 
     fields-are : (f : Fields) → bytes ≡ 0 ∷ fixByte f ∷ (fb ++ τ) → fieldsBytes strict f ≡ gives fb
         → Fitting (imageSettings (d .mode)) strict f
         → fieldsShown (spanOf 2 (f, 2 + length fb)) extension ≡ gives f
     fields-are none e g t = refl
-    fields-are (bitfield octets) e g t = by-buffer (bitfield octets) e g (t .0) (t .1) (t .2) (t .3)
-    fields-are (reserved kind octet) e g t = by-buffer (reserved kind octet) e g (t .0) (t .1) (t .2) (t .3)
-    fields-are (pairs ps) e g t = by-buffer (pairs ps) e g (t .0) (t .1) (t .2) (t .3)
+    fields-are (bitfield octets) e g t = by-buffer (bitfield octets) e g tt (t .0) (t .1) (t .2) (t .3)
+    fields-are (reserved kind octet) e g t = by-buffer (reserved kind octet) e g (t .0) tt (t .1) (t .2) (t .3)
+    fields-are (pairs ps) e g t = by-buffer (pairs ps) e g tt (t .0) (t .1) (t .2) (t .3)
 
 -- the parts of a header's file
 at-fields : (fix : ℕ) (fb : List ℕ) (w h : ℕ) (body : List ℕ) → headerBytes fix fb w h ++ body ≡ 0 ∷ fix ∷ (fb ++ (sizeBytes w h ++ body))

@@ -16,7 +16,7 @@ use Rattle.mbi.proofs.Length.{bytes-five}
 use Rattle.mbi.proofs.Prefix.{Final, mbi-prefix}
 use Rattle.mbi.proofs.RoundTrip.{read-written}
 use Rattle.mbi.proofs.Strict.{Begins, strict-exactly, strict-short}
-use Rattle.ext_write.specs.Ceiling.{kindOf, Readable}
+use Rattle.ext_write.specs.Ceiling.{kindOf, Readable, OfKind}
 use Rattle.ext.specs.Kinds.{Fields, none}
 use Rattle.ext.specs.Read.{readFields}
 use Rattle.ext_write.specs.Write.{fieldsBytes}
@@ -108,7 +108,7 @@ fields-bound : (strict follow : Bool) (kind : ℕ) (s : List ℕ) (at : ℕ) (r 
 fields-bound = FieldBounds.fields-bound
 
 -- Fields that are written are read back, if they are within the ceiling; those that are written strictly also strictly.
-fields-back : (written read : Bool) → (read ≡ true → written ≡ true) → (front bytes rest : List ℕ) (f : Fields) → Readable f
+fields-back : (written read : Bool) → (read ≡ true → written ≡ true) → (front bytes rest : List ℕ) (f : Fields) → OfKind f → Readable f
     → fieldsBytes written f ≡ gives bytes
     → readFields read true (kindOf f) (front ++ (bytes ++ rest)) (length front) ≡ gives (f, length front + length bytes)
 fields-back = read-back

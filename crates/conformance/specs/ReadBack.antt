@@ -6,7 +6,7 @@ use mathlib.Core.List.{List}
 use lib.Dec.{ltb}
 use lib.ListN.{length, take, drop}
 use Rattle.error.specs.Answer.{gives}
-use Rattle.ext.specs.Kinds.{Fields, none, bitfield, reserved, pairs}
+use Rattle.ext.specs.Kinds.{Fields, none}
 use Rattle.ext_write.specs.Ceiling.{Readable}
 use Rattle.header.specs.Write.{fixByte}
 use Rattle.image.specs.Dots.{isWhite}
@@ -19,17 +19,10 @@ use Rattle.quantize.specs.Finished.{frame}
 use Rattle.decoder.specs.Image.{fieldsOf}
 use Rattle.decoder.specs.Frames.{Image, shown, decoded}
 
--- fields within the ceiling of 4,096, or none
-abbrev pub BelowCeiling : Fields → Type 0
-BelowCeiling none = Unit {0}
-BelowCeiling (bitfield octets) = Readable (bitfield octets)
-BelowCeiling (reserved kind octet) = Unit {0}
-BelowCeiling (pairs ps) = Readable (pairs ps)
-
 -- the fields that a reading in this mode takes from a file that was written strictly or not: a lenient one those within the ceiling, and a
 -- strict one none
 abbrev pub Taken : Mode → Bool → Fields → Type 0
-Taken lenient written fields = BelowCeiling fields
+Taken lenient written fields = Readable fields
 Taken strict written fields = fields ≡ none
 
 -- no limit of the reading refuses the size
