@@ -67,7 +67,7 @@ fn unfed(session: EncodeSession, code: u8) -> EncodeFed
 {
     EncodeFed {
         session: session,
-        answer: EncodeFeed::Refused(WbmpError { code, offset: 0 }),
+        answer: EncodeFeed::Refused(WbmpError::new(code, 0)),
     }
 }
 
@@ -76,7 +76,7 @@ fn unclosed(session: EncodeSession, code: u8) -> EncodeClosed
 {
     EncodeClosed {
         session: session,
-        answer: Checked::Refused(WbmpError { code, offset: 0 }),
+        answer: Checked::refused(code),
     }
 }
 
@@ -86,7 +86,7 @@ fn unopened(to: usize, code: u8) -> PairsBegun
 {
     PairsBegun {
         to,
-        answer: Written::Refused(WbmpError { code, offset: 0 }),
+        answer: Written::refused(code),
     }
 }
 

@@ -12,7 +12,8 @@ use lib.Dec.{eqb, leb}
 use lib.IntN.{ℤ}
 use lib.ListN.{length, take, drop, length-take}
 use Rattle.error.specs.Choice.{if}
-use Rattle.error.specs.Answer.{Answer, gives, refuses, bind, map, codeOf}
+use Rattle.error.specs.Answer.{Answer, gives, refuses, bind, map, codeOf, written}
+use Rattle.error.specs.declared.Written.{Written}
 use Rattle.error.specs.Emits.{Emits}
 use Rattle.laws.proofs.Tests.{if-true, zero-one}
 use Rattle.laws.proofs.Writers.{emits-none, emits-all}
@@ -192,15 +193,15 @@ module _ (asked : Quantize) (w h : ℕ) (gray out : List ℕ) (work : List ℤ) 
   unfolding quantized
   refused-is n = ap (map planeOf) (refused-place asked w h (length gray) (length work) code e n)
 
-  pub quantizes-refused : (code ≡ 0 → ⊥) → Quantizes asked w h gray out work (refuses code 0) out work
-  quantizes-refused n =
-      record {
-        emits =
-            subst (λ (a : Answer (List ℕ)). Emits a (refuses code 0) out out) (sym (refused-is n)) (record { answer = refl; bytes = refl });
-        beyond = refl;
-        spared = λ _. refl;
-        refused = λ _ _ _. refl;
-      }
+  -- nothing is altered
+  unmade : (r : Answer ℕ) → Emits (quantized asked w h gray (length work)) r out out → Quantizes asked w h gray out work r out work
+  unmade r e = record { emits = e; beyond = refl; spared = λ _. refl; refused = λ _ _ _. refl }
+
+  pub quantizes-refused : (code ≡ 0 → ⊥) → (r : Written) → r ≡ Written.Refused (record { code = code; offset = 0 })
+      → Quantizes asked w h gray out work (written r) out work
+  quantizes-refused n r f =
+      unmade (written r) (subst (λ (a : Answer (List ℕ)). Emits a (written r) out out) (sym (refused-is n))
+      (record { answer = ap written f; bytes = refl }))
 
   module _ (z : code ≡ 0) where
     p : Passed asked w h (length gray) (length work)
@@ -213,16 +214,14 @@ module _ (asked : Quantize) (w h : ℕ) (gray out : List ℕ) (work : List ℤ) 
         (given-rule asked w h (length gray) (length work) (λ y. omega (arith, p .wide)) (λ y. omega (arith, p .high)) (p .known) (p .room)
         (p .enough))
 
-    pub quantizes-short : length out < rowBytes w * h → Quantizes asked w h gray out work (refuses 25 0) out work
-    quantizes-short l =
+    pub quantizes-short : length out < rowBytes w * h → (r : Written) → r ≡ Written.Refused (record { code = 25; offset = 0 })
+        → Quantizes asked w h gray out work (written r) out work
+    quantizes-short l r f =
         let k = plane-long named w h (p .wide) (p .high) gray (p .enough) in
         let m = mul-comm (rowBytes w) h in
-        record {
-          emits = subst (λ (a : Answer (List ℕ)). Emits a (refuses 25 0) out out) (sym given-is) (emits-none _ out (omega arith));
-          beyond = refl;
-          spared = λ _. refl;
-          refused = λ _ _ _. refl;
-        }
+        let e : Emits (quantized asked w h gray (length work)) (refuses 25 0) out out =
+        subst (λ (a : Answer (List ℕ)). Emits a (refuses 25 0) out out) (sym given-is) (emits-none _ out (omega arith)) in
+        unmade (written r) (subst (λ (a : Answer ℕ). Emits (quantized asked w h gray (length work)) a out out) (sym (ap written f)) e)
 
     -- a plane that was written at once, whatever gives its dots
     pub quantizes-plane : rowBytes w * h ≤ length out → (d : ℕ → ℕ) (out′ : List ℕ) (work′ : List ℤ)
