@@ -84,8 +84,8 @@ module _ (ceiling : ℕ) (o : EncodeOptions) (w h n gray work : ℕ) where
 
   pub passed : scans ≡ gives tt → Passed ceiling rule w h n gray work
   passed e =
-      go (checkCount ceiling w h n) (knownRule rule) (enoughWork (ruleGiven (ruleNamed rule)) w work) (ltb gray (n * (w * h))) refl refl refl
-      refl (sym (by-count (checkCount ceiling w h n) refl) ∙ e)
+      go (checkCount ceiling w h n) (knownRule rule) (enoughWork (ruleGiven (ruleNamed rule)) w work) (ltb gray (n * (w * h))) refl refl
+      refl refl (sym (by-count (checkCount ceiling w h n) refl) ∙ e)
     where
       go : (a : Answer (Unit {0})) (b c d : Bool) → checkCount ceiling w h n ≡ a → knownRule rule ≡ b
           → enoughWork (ruleGiven (ruleNamed rule)) w work ≡ c → ltb gray (n * (w * h)) ≡ d → bind a (λ _. tests b c d) ≡ gives tt

@@ -31,7 +31,8 @@ asked-if o f = named-if (o .quantize) f
 pub known-named : (setting : Quantize) → knownRule setting ≡ true → ruleNamed setting ≡ gives (ruleGiven (ruleNamed setting))
 known-named setting e = rw e
 
-pub named-known : (setting : Quantize) (rule : Rule) → ruleNamed setting ≡ gives rule → (knownRule setting ≡ true) × (meaning setting ≡ rule)
+pub named-known : (setting : Quantize) (rule : Rule) → ruleNamed setting ≡ gives rule
+    → (knownRule setting ≡ true) × (meaning setting ≡ rule)
 named-known setting rule = go (knownRule setting)
   where
     go : (b : Bool) → if b (gives (meaning setting)) (refuses 29 0) ≡ gives rule → (b ≡ true) × (meaning setting ≡ rule)
