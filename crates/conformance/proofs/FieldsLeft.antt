@@ -39,7 +39,8 @@ span-shows (reserved kind octet) n extension r = let e : 2 + n - 2 ≡ n = omega
 span-shows (pairs ps) n extension r = let e : 2 + n - 2 ≡ n = omega arith in rw e
 
 module _ (o : Settings) (strict : Bool) (f : Fields) (bytes τ : List ℕ) (kind : OfKind f) (readable : Readable f)
-    (skipped : o .fixZero ≡ false) (honoured : o .honoured ≡ true) (ease : o .classes ≡ true → strict ≡ true) (given : fieldsBytes strict f ≡ gives bytes) where
+    (skipped : o .fixZero ≡ false) (honoured : o .honoured ≡ true) (ease : o .classes ≡ true → strict ≡ true)
+    (given : fieldsBytes strict f ≡ gives bytes) where
   abbrev pub file : List ℕ
   file = fieldsFile (fixByte f) bytes τ
 

@@ -11,7 +11,7 @@ use Rattle.ext_write.specs.Write.{fieldsBytes, octetsBytes, lentFields}
 use Rattle.ext.specs.declared.ExtFieldType.the-variants.{Bitfield00}
 use Rattle.header.specs.declared.ExtPresence.{ExtPresence}
 use Rattle.header.specs.declared.ExtPresence.the-variants.{Absent, Present}
-use Rattle.options.specs.Settings.{defaults, withStrict}
+use Rattle.options.specs.Defaults.{defaults, withStrict}
 use Rattle.options.specs.declared.EncodeOptions.{EncodeOptions}
 use Rattle.options.specs.declared.Quantize.the-variants.{Dither}
 use Rattle.rules.specs.Diffusion.{part, value, white, residual, valueFrom, handed, rowValue, above, valueAt}

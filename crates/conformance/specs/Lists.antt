@@ -14,7 +14,7 @@ use Rattle.header.specs.Write.{presented}
 use Rattle.image.specs.Dots.{isWhite}
 use Rattle.image.specs.Geometry.{rowBytes, planeBytes}
 use Rattle.options.specs.Limits.{Decoding, ceilingOf}
-use Rattle.options.specs.Settings.{madeFrames}
+use Rattle.options.specs.Defaults.{madeFrames}
 use Rattle.decoder.specs.Frames.{shown, framesOf}
 use Rattle.quantize.specs.Finished.{finished}
 use Rattle.encoder.specs.Make.{fileOfScans}

@@ -24,7 +24,7 @@ use Rattle.header_pieces.specs.Extension.{fieldBytes}
 use Rattle.decode_session.specs.Model.{Met, nothing, Model, meets, takes, grown, written, stored, fedBy}
 use Rattle.header_pieces.specs.Internal.Head.{Reached, Ends, Heads}
 use Rattle.decode_session.specs.Session.{Stands, Feeds}
-use Rattle.decode_session.specs.Internal.Stages.{takenIn, metIn, Agrees, Ended, Begins}
+use Rattle.decode_session.specs.Internal.Stages.{takenIn, metIn, RepliesAs, Ended, Begins}
 use Rattle.decode_session.specs.declared.Stage.{Stage}
 use Rattle.decode_session.specs.declared.DecodeSession.{DecodeSession}
 use Rattle.decode_session.specs.declared.DecodeFed.{DecodeFed}
@@ -104,7 +104,7 @@ module _ (o : DecodeOptions) (reader : HeaderReader) (at kept : ℕ) (piece out 
           ∙ drop-nil (length (sequence (ceilingOf (m .options)) (m .options) (m .bytes)))
 
       goes-on : now ≡ (at + f .taken) % 2 ^ 64
-          → Agrees (takenIn o (Stage.Header next now (f .kept)) (f .taken) 0) out ext′
+          → RepliesAs (takenIn o (Stage.Header next now (f .kept)) (f .taken) 0) out ext′
           (fedBy m piece out ext (meets m piece))
       goes-on n =
           let count = takes-all in
@@ -114,7 +114,7 @@ module _ (o : DecodeOptions) (reader : HeaderReader) (at kept : ℕ) (piece out 
           let b = reached-bound settings file next (at + f .taken) (f .kept) later in
           let same : now ≡ at + f .taken = n ∙ mod-eq-of-lt (omega arith) in
           subst
-          (λ (x : Met). Agrees (takenIn o (Stage.Header next now (f .kept)) (f .taken) 0) out ext′ (fedBy m piece out ext x))
+          (λ (x : Met). RepliesAs (takenIn o (Stage.Header next now (f .kept)) (f .taken) 0) out ext′ (fedBy m piece out ext x))
           (sym unmet)
           (record {
             reply =
@@ -155,7 +155,7 @@ module _ (o : DecodeOptions) (reader : HeaderReader) (at kept : ℕ) (piece out 
       record {
         does =
             λ m st. agreed m piece out ext d out ext′ ext′ _ (reading m piece out ext (sym (st .live)) (st .stage .0) long) refl
-            (subst (λ (d : DecodeFed). Agrees d out ext′ (fedBy m piece out ext (meets m piece))) (sym s) (goes-on m st next now e n));
+            (subst (λ (d : DecodeFed). RepliesAs d out ext′ (fedBy m piece out ext (meets m piece))) (sym s) (goes-on m st next now e n));
       }
 
   pub whole : (k : FieldsSeen) (h : ParsedHeader) (d : DecodeFed) (out′ : List ℕ) → Knows reader k → f .end ≡ HeadEnd.Done h
@@ -175,7 +175,7 @@ module _ (o : DecodeOptions) (reader : HeaderReader) (at kept : ℕ) (piece out 
             λ m st.
             let r = ends m st (HeadEnd.Refused e) q in
             agreed m piece out ext d out ext′ _ _ (reading m piece out ext (sym (st .live)) (st .stage .0) long) (stored-is m st)
-            (subst (λ (d : DecodeFed). Agrees d out (stored m (m .bytes ++ piece) ext) (fedBy m piece out ext (meets m piece))) (sym s)
+            (subst (λ (d : DecodeFed). RepliesAs d out (stored m (m .bytes ++ piece) ext) (fedBy m piece out ext (meets m piece))) (sym s)
             (refused-agrees o m piece out ext e k (st .tested) (st .options) (unread-so m reader at kept k (st .stage .1) u)
             (header-refused m piece (e .code) (e .offset) (r .0) (r .1))));
       }

@@ -21,7 +21,7 @@ use Rattle.header.specs.Write.{extHeader}
 use Rattle.quantize.specs.declared.engine.Quantizer.{Quantizer}
 use Rattle.rules.specs.Rule.{Rule, threshold, dither, ordered, enoughWork, knownRule}
 use Rattle.rules.proofs.RuleAsked.{asked-if, known-named}
-use Rattle.quantize.specs.Internal.Engine.{Opens as QOpens, Holds as QHolds}
+use Rattle.quantize.specs.Internal.Engine.{NewQuantizer, QuantizerAfter}
 use Rattle.encode_session.specs.declared.EncodeOpened.{EncodeOpened}
 use Rattle.encode_session.specs.Model.{Opening, settingOf, serves, header, opened}
 use Rattle.encode_session.specs.Session.{isGiven, Opens}
@@ -125,7 +125,8 @@ module _ (a : Opening) (work : ℕ) where
       subst (λ (x : Answer (List ℕ)). Left (a .options .strict) (a .text) (a .lengths) new b (Emits x (written (b .answer)) old)) (sym e) h
 
   pub opens : (q : Quantizer) (live : Bool) (r : Written) (old new : List ℕ)
-      → QOpens (a .options .quantize) (a .width) (a .height) 16 q → live ≡ isGiven (written r) → Emits (header a work) (written r) old new
+      → NewQuantizer (a .options .quantize) (a .width) (a .height) 16 q → live ≡ isGiven (written r)
+      → Emits (header a work) (written r) old new
       → Opens a work (record { session = record { quantizer = q; live = live }; answer = r }) old new
   opens q live r old new o l h =
       record {
@@ -144,7 +145,7 @@ module _ (a : Opening) (work : ℕ) where
       none-done : q .place .frames + 0 / (a .width * a .height) ≡ 16
       none-done = rw (o .framesAre, zero-div)
 
-      held : (bytes : List ℕ) × (header a work ≡ gives bytes) → (any : List ℤ) → QHolds q any (settingOf a) (opened a .samples)
+      held : (bytes : List ℕ) × (header a work ≡ gives bytes) → (any : List ℤ) → QuantizerAfter q any (settingOf a) (opened a .samples)
       held b any =
           let p = passed (b .0) (b .1) in
           o .holds (settingOf a .rule) (known-named (a .options .quantize) (p .known)) (p .wide) (p .high) any

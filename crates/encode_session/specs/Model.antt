@@ -8,7 +8,7 @@ use lib.ListN.{length, take, drop}
 use Rattle.error.specs.Choice.{if}
 use Rattle.error.specs.Answer.{Answer, gives, refuses, bind}
 use Rattle.header.specs.Write.{extHeader}
-use Rattle.options.specs.Settings.{madeFrames}
+use Rattle.options.specs.Defaults.{madeFrames}
 use Rattle.options.specs.declared.EncodeOptions.{EncodeOptions}
 use Rattle.rules.specs.Rule.{enoughWork, ruleAsked, ruleGiven}
 use Rattle.quantize.specs.Finished.{setting, Setting, takes, newly, wholeFrames}

@@ -11,7 +11,7 @@ use ext_write::PairsBegun;
 use ext_write::Parameter;
 use image::PlaneLayout;
 use options::EncodeOptions;
-ghost use Rattle.options.specs.Settings.{madeFrames};
+ghost use Rattle.options.specs.Defaults.{madeFrames};
 ghost use mathlib.Core.Path.{_≡_};
 ghost use Prim.Native.Nat.{_*_, _≤_};
 ghost use lib.ListN.{length};

@@ -18,7 +18,7 @@ use Rattle.rules.specs.Internal.Carry.{Carry}
 use Rattle.quantize.specs.Internal.Machine.{emitted}
 use Rattle.rules.specs.Internal.Kernels.{carryOf}
 use Rattle.ordered.specs.Internal.Sides.{Table}
-use Rattle.quantize.specs.Internal.Engine.{Begins, Keeps, Holds, Tabled, Opens}
+use Rattle.quantize.specs.Internal.Engine.{BeginsByte, KeptAfter, QuantizerAfter, Tabled, NewQuantizer}
 use Rattle.laws.proofs.Octets.{octets-by}
 use Rattle.rules.proofs.HeldRange.{Held}
 use Rattle.rules.proofs.RuleAsked.{named-known}
@@ -45,10 +45,10 @@ tabled-ordered rule side table e h =
 first : (w h frames : ℕ) → 0 ≡ ((frames - frames) * h + 0) * w + 0
 first w h frames = let e : frames - frames ≡ 0 = omega arith in rw (e, zero-mul, zero-mul)
 
-begins-none : (s : Setting) (carry : Carry) → Begins s [] (record { begun = 0; carry = carry })
+begins-none : (s : Setting) (carry : Carry) → BeginsByte s [] (record { begun = 0; carry = carry })
 begins-none s c = begun-none (s .width) (dotOf s []) 0 (rw zero-mod)
 
-keeps-none : (rule : Rule) (s : Setting) (carry : Carry) → Keeps rule s [] (record { begun = 0; carry = carry })
+keeps-none : (rule : Rule) (s : Setting) (carry : Carry) → KeptAfter rule s [] (record { begun = 0; carry = carry })
 keeps-none (threshold t) s c = begins-none s c
 keeps-none dither s c = (
   begins-none s c,
@@ -58,7 +58,7 @@ keeps-none dither s c = (
 keeps-none (ordered side table) s c = begins-none s c
 
 pub opens : (asked : Quantize) (table : List ℕ) (w h frames : ℕ) → Tabled asked table
-    → Opens asked w h frames (record {
+    → NewQuantizer asked w h frames (record {
       rule = asked;
       table = table;
       width = w;
@@ -108,7 +108,7 @@ two-rows =
     refl (record { n = 128; holds = record { is = refl; small = omega arith } })
 
 -- an example: a new quantizer for dithering, over the same buffer
-opened : Holds (record {
+opened : QuantizerAfter (record {
   rule = Dither;
   table = [];
   width = 2;

@@ -27,7 +27,7 @@ use Rattle.rules.specs.Packed.{byteAt}
 use Rattle.rules.specs.Ordered.{knownSide}
 use Rattle.rules.specs.Rule.{Rule, meaning, knownRule, carries, enoughWork, ruleNamed, ruleGiven}
 use Rattle.rules.specs.Internal.Planes.{plane, planeWhere}
-use Rattle.quantize.specs.Internal.Engine.{Opens, Holds, Runs}
+use Rattle.quantize.specs.Internal.Engine.{NewQuantizer, QuantizerAfter, Runs}
 use Rattle.quantize.specs.Whole.{checkScan, refusedBy, quantized, Quantizes}
 use Rattle.quantize.proofs.Places.{count-rows}
 use Rattle.quantize.proofs.TakenMost.{most-is}
@@ -242,12 +242,13 @@ module _ (asked : Quantize) (w h : ℕ) (gray out : List ℕ) (work : List ℤ) 
           refused = λ code place f. zero-one (cc);
         }
 
-    module _ (l : rowBytes w * h ≤ length out) (q : Quantizer) (o : Opens asked w h 1 q) (r : RunEnded) (out′ : List ℕ) (work′ : List ℤ)
+    module _ (l : rowBytes w * h ≤ length out) (q : Quantizer) (o : NewQuantizer asked w h 1 q) (r : RunEnded) (out′ : List ℕ)
+        (work′ : List ℤ)
         (R : Runs q gray out work r out′ work′) where
       abbrev sp : Setting
       sp = setting named w h 1
 
-      H : Holds q work sp []
+      H : QuantizerAfter q work sp []
       H = o .holds named (known-named asked (p .known)) (p .wide) (p .high) work
 
       long : length (finished sp (take (w * h) gray)) ≡ h * rowBytes w

@@ -17,7 +17,7 @@ use Rattle.encode_session.specs.declared.EncodeSession.{EncodeSession}
 use Rattle.replay.specs.declared.EncodeReplayed.{EncodeReplayed}
 use Rattle.replay.specs.declared.call.Named.{Named}
 use Rattle.replay.specs.declared.call.Named.the-variants.{Close, Feed}
-use Rattle.replay.specs.declared.call.Part.{Part}
+use Rattle.replay.specs.declared.call.Lending.{Lending}
 use Rattle.replay.specs.declared.encode.Called.{Called}
 use Rattle.replay.specs.Calls.{named, roomOf, lentOf, concatMap, over, Spares, threeOf, replaced}
 
@@ -92,7 +92,7 @@ Replays s numbers samples work out answers r work′ out′ answers′ =
 -- ---- one call
 
 -- a feeding call that is lent the front of the work and a part of the output
-pub record FeedsPart (s : EncodeSession) (p : Part) (samples : List ℕ) (work : List ℤ) (out : List ℕ) (at : ℕ) (r : EncodeFed)
+pub record FeedsPart (s : EncodeSession) (p : Lending) (samples : List ℕ) (work : List ℤ) (out : List ℕ) (at : ℕ) (r : EncodeFed)
     (work′ : List ℤ) (out′ : List ℕ) : Type 0 where
   pub front : List ℤ
   pub part : List ℕ

@@ -27,7 +27,7 @@ dot (threshold t) w scan x y = leb t (scan x y)
 dot dither w scan x y = white (valueAt rightwards w scan x y)
 dot (ordered side table) w scan x y = leb (bound side (cell side table x y)) (scan x y)
 
--- the rule that a setting names
+-- the rule that a setting names, where that is a known one
 abbrev pub meaning : Quantize → Rule
 meaning (Threshold t) = threshold t
 meaning Dither = dither
