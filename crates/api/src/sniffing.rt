@@ -8,7 +8,7 @@ ghost use mathlib.Core.Path.{_≡_};
 ghost use Prim.Native.Nat.{_<_, _≤_, _+_, _*_, _/_, _^_};
 ghost use lib.ListN.{length};
 ghost use Rattle.api.specs.Sniff.{sniffLength, sniffBody, sniffed, isExact, sniffSizes};
-ghost use Rattle.api.specs.Internal.Parts.{eightEnds, AreClear, Small, Sized};
+ghost use Rattle.api.specs.Internal.Parts.{eightEnds, AreClear, SniffedSizes, Sized};
 
 // The largest width and height that are taken for an image's.
 pub const PROBE_MAX_DIMENSION: u32 = 16384;
@@ -75,7 +75,7 @@ fn sniff_length(plane: usize, size: usize) -> Sniffed
 }
 
 fn sniff_body(width: u32, height: u32, body: &[u8]) -> Sniffed
-    requires { ⌜ Small width height ⌝ }
+    requires { ⌜ SniffedSizes width height ⌝ }
     ensures { λ r. ⌜ r ≡ sniffBody width height (now (body .entry)) ⌝ }
 {
     let layout = PlaneLayout::new(width, height);

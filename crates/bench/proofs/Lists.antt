@@ -18,7 +18,7 @@ use Rattle.header.proofs.HeaderBytes.{header-length, sizes-ten}
 use Rattle.header.specs.declared.ExtPresence.the-variants.{Absent}
 use Rattle.image.specs.declared.PixelFormat.{PixelFormat}
 use Rattle.options.specs.Limits.{Decoding, settled, decoding}
-use Rattle.options.specs.Settings.{defaults, withFormat}
+use Rattle.options.specs.Defaults.{defaults, withFormat}
 use Rattle.options.specs.declared.DecodeOptions.{DecodeOptions}
 use Rattle.options.specs.declared.EncodeOptions.{EncodeOptions}
 use Rattle.options.specs.declared.Quantize.{Quantize}
@@ -126,7 +126,8 @@ makes-list w h dithered numbers gray work out answers s o old new last work′ o
 
 -- ---- whole making and writing
 
-pub made-whole : (w h count : ℕ) (dithered : Bool) (gray out : List ℕ) (work : List ℤ) (s : EncodeOptions) (x : Answer ℕ) (r : ℕ) (out′ : List ℕ)
+pub made-whole : (w h count : ℕ) (dithered : Bool) (gray out : List ℕ) (work : List ℤ) (s : EncodeOptions) (x : Answer ℕ) (r : ℕ)
+    (out′ : List ℕ)
     (work′ : List ℤ) → s ≡ rule dithered → Makes 16 s w h count gray [] [] out work x out′ work′ → r ≡ codeOf x
     → MadeWhole w h count dithered gray out work r out′ work′
 made-whole w h count dithered gray out work s x r out′ work′ e p q =

@@ -13,7 +13,7 @@ use Rattle.header.specs.declared.ExtPresence.the-variants.{Absent}
 use Rattle.image.specs.declared.PixelFormat.{PixelFormat}
 use Rattle.image.specs.declared.PixelFormat.the-variants.{MonoBlack, MonoWhite}
 use Rattle.options.specs.Limits.{Decoding}
-use Rattle.options.specs.Settings.{defaults, withFormat}
+use Rattle.options.specs.Defaults.{defaults, withFormat}
 use Rattle.options.specs.declared.EncodeOptions.{EncodeOptions}
 use Rattle.options.specs.declared.Quantize.{Quantize}
 use Rattle.options.specs.declared.Quantize.the-variants.{Threshold, Dither}
@@ -28,7 +28,7 @@ use Rattle.replay.specs.Encode as Encode
 use Rattle.replay.specs.Decode as Decode
 use Rattle.replay.specs.declared.EncodeReplayed.{EncodeReplayed}
 use Rattle.replay.specs.declared.DecodeReplayed.{DecodeReplayed}
-use Rattle.options.specs.Settings.{madeFrames}
+use Rattle.options.specs.Defaults.{madeFrames}
 
 -- ---- settings
 

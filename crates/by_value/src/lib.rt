@@ -8,7 +8,7 @@ use ext_write::Parameter;
 use header::ExtPresence;
 use image::PixelFormat;
 use options::EncodeOptions;
-ghost use Rattle.options.specs.Settings.{madeFrames};
+ghost use Rattle.options.specs.Defaults.{madeFrames};
 ghost use mathlib.Core.Path.{_≡_};
 ghost use mathlib.Core.Bool.{true, false};
 ghost use Prim.Native.Nat.{min};

@@ -12,7 +12,7 @@ use Rattle.decoder.specs.Frames.{Image, Decodes, image}
 use Rattle.decoder.specs.declared.DecodedImage.{DecodedImage}
 use Rattle.api.specs.Info.{Info, told, readInfo}
 use Rattle.api.specs.declared.ImageInfo.{ImageInfo}
-use Rattle.capi.specs.Packed.{packed, held}
+use Rattle.capi.specs.Returned.{packed, held}
 use Rattle.capi.specs.Lent.{fieldsKind, fieldsStart, fieldsLength, fieldsPairs}
 use Rattle.capi.specs.Asked.{readAsked, outputAsked}
 use Rattle.capi.specs.Calls.{LentHolds, Informs, Reads}

@@ -7,7 +7,7 @@ use lib.Dec.{eqb}
 use Rattle.error.specs.Answer.{Answer, gives, refuses}
 use Rattle.options.specs.Limits.{ceilingOf}
 use Rattle.api.specs.Info.{readInfo}
-use Rattle.capi.specs.Packed.{packed}
+use Rattle.capi.specs.Returned.{packed}
 use Rattle.capi.specs.Asked.{formatOf, strictOf, settingsOf, readAsked}
 use Rattle.capi.proofs.HeaderPlaces.{Told, told}
 use Rattle.capi.proofs.RefusalPlaces.{Numbered, numbered-bind, pick, read-numbered, info-numbered}

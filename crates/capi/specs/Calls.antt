@@ -7,7 +7,7 @@ use Rattle.error.specs.Answer.{Answer}
 use Rattle.options.specs.Limits.{Decoding}
 use Rattle.decoder.specs.Frames.{Image}
 use Rattle.api.specs.Info.{Info, readInfo}
-use Rattle.capi.specs.Packed.{packed, held}
+use Rattle.capi.specs.Returned.{packed, held}
 use Rattle.capi.specs.Lent.{fieldsKind, fieldsStart, fieldsLength, fieldsPairs}
 use Rattle.capi.specs.Asked.{readAsked, outputAsked}
 

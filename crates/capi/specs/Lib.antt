@@ -1,4 +1,4 @@
-pub mod Packed
+pub mod Returned
 pub mod Lent
 pub mod Asked
 pub mod Calls

@@ -9,7 +9,7 @@ use decoder::Decoded;
 use error::UNKNOWN_SETTING;
 ghost use mathlib.Core.Path.{_≡_};
 ghost use Rattle.api.specs.Sniff.{sniffed};
-ghost use Rattle.capi.specs.Packed.{sniffNumber};
+ghost use Rattle.capi.specs.Returned.{sniffNumber};
 ghost use Rattle.capi.specs.Asked.{settingsOf};
 ghost use Rattle.capi.specs.Calls.{Informs, Reads};
 

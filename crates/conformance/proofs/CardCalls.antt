@@ -14,7 +14,7 @@ use Rattle.mbi.specs.Read.{readRest, readByte}
 use Rattle.header.specs.Read.{readHeader}
 use Rattle.options.specs.Limits.{Mode, lenient, strict, Decoding}
 use Rattle.rules.specs.Rule.{carries}
-use Rattle.quantize.specs.Internal.Engine.{Stands as QStands}
+use Rattle.quantize.specs.Internal.Engine.{QuantizerAt}
 use Rattle.quantize.specs.Internal.Machine.{State, carried}
 use Rattle.quantize.proofs.DotsByRule.{carries-same}
 use Rattle.quantize.proofs.Places.{column-is}
@@ -107,7 +107,7 @@ made-list a work old new o last cs rs wide high p t n given =
 -- a work buffer that the first piece of a new session is fed with
 module _ (a : Making.Opening) (samples out out′ : List ℕ) (work work′ : List ℤ) (s : EncodeSession) (f : EncodeFed)
     (st : MakingSession.Stands s (Making.opened a)) (q : MakingSession.Feeds s samples out work f out′ work′) where
-  engine : QStands (s .quantizer) (Making.settingOf a) 0
+  engine : QuantizerAt (s .quantizer) (Making.settingOf a) 0
   engine = st .place refl
 
   -- no byte is begun

@@ -69,7 +69,7 @@ module _ {a : Making.Opening} {header : List ℕ} {cs : List Making.Call} {rs : 
       → fileOfScans 16 (a .options) (a .width) (a .height) k scans (a .text) (a .lengths) work ≡ gives (header ++ MakingTrace.joined rs)
   file-is k work some most all served =
       let p = tests in
-      let rule = a .options .quantize in
+      let rule = Making.settingOf a .rule in
       made-is 16 (a .options) (a .width) (a .height) k scans (a .text) (a .lengths) work header
       (passes 16 (a .options) (a .width) (a .height) k (length scans) work
       (record {
@@ -104,7 +104,7 @@ module _ {a : Making.Opening} {header : List ℕ} {cs : List Making.Call} {rs : 
           presents = g .1;
           shown = λ {d = d} t adm r cut.
               shows d a (g .0) (f .count) _ _ w (l .wide) (l .high) (some-read r) (g .1) t adm
-              (file-is (f .count) w (f .some) (f .most) all (work-numbers-enough (a .options .quantize) (a .width))) r cut;
+              (file-is (f .count) w (f .some) (f .most) all (work-numbers-enough (Making.settingOf a .rule) (a .width))) r cut;
         },
       )
 

@@ -13,7 +13,7 @@ use Rattle.error.specs.Answer.{Answer, gives, refuses, map}
 use Rattle.laws.proofs.Answers.{bind-gives, when}
 use Rattle.mbi.specs.Bytes.{mbiBytes, groups}
 use Rattle.ext.specs.Kinds.{Fields, none, bitfield, reserved, pairs, spanOf}
-use Rattle.ext_write.specs.Ceiling.{Readable}
+use Rattle.ext_write.specs.Ceiling.{Readable, OfKind}
 use Rattle.ext_write.specs.Write.{fieldsBytes}
 use Rattle.header.specs.Read.{Outline, outline}
 use Rattle.header.specs.Write.{fixByte, sizeBytes, headerBytes, presented}
@@ -22,6 +22,7 @@ use Rattle.image.specs.Dots.{isWhite}
 use Rattle.image.specs.Geometry.{rowBytes, planeBytes}
 use Rattle.options.specs.Limits.{Decoding, settled, ceilingOf}
 use Rattle.options.proofs.Ceilings.{tested, sixteen}
+use Rattle.rules.specs.Rule.{Rule}
 use Rattle.quantize.specs.Finished.{setting, finished}
 use Rattle.decoder.specs.Body.{framesIn, planes}
 use Rattle.decoder.specs.Image.{imageSettings, headerOf, readImage}
@@ -96,26 +97,27 @@ module _ (d : Decoding) (bytes : List ℕ) (h : Outline) (read : readImage d byt
 
   -- the fields, where the file has some
   module _ (strict : Bool) (fb τ : List ℕ) where
-    by-buffer : (f : Fields) → bytes ≡ 0 ∷ fixByte f ∷ (fb ++ τ) → fieldsBytes strict f ≡ gives fb → Readable f
+    by-buffer : (f : Fields) → bytes ≡ 0 ∷ fixByte f ∷ (fb ++ τ) → fieldsBytes strict f ≡ gives fb → OfKind f
+        → Readable f
         → imageSettings (d .mode) .fixZero ≡ false → imageSettings (d .mode) .honoured ≡ true
         → (imageSettings (d .mode) .classes ≡ true → strict ≡ true) → fieldsShown (spanOf 2 (f, 2 + length fb)) extension ≡ gives f
-    by-buffer f e g r p q c =
+    by-buffer f e g i r p q c =
         let o = imageSettings (d .mode) in
-        let K = FileHeld o strict f fb τ r p q c g in
+        let K = FileHeld o strict f fb τ i r p q c g in
         let n = ended K (λ at n ext b k.
         subst (λ (s : List ℕ). K (at + n)
         (sets ext (length (fieldBytes o (take at s))) (drop (length (fieldBytes o (take at s))) (fieldBytes o (take (at + n) s)))))
-        (sym e) (held-more o strict f fb τ r p q c g at n ext k))
-        (held-none o strict f fb τ r p q c g (l .lent) (opening-says d (length (l .lent)) (admitted l) .1)) in
-        held-shows o strict f fb τ r p q c g extension (subst (λ (s : List ℕ). K (length s) extension) e (n .holds))
+        (sym e) (held-more o strict f fb τ i r p q c g at n ext k))
+        (held-none o strict f fb τ i r p q c g (l .lent) (opening-says d (length (l .lent)) (admitted l) .1)) in
+        held-shows o strict f fb τ i r p q c g extension (subst (λ (s : List ℕ). K (length s) extension) e (n .holds))
 
     fields-are : (f : Fields) → bytes ≡ 0 ∷ fixByte f ∷ (fb ++ τ) → fieldsBytes strict f ≡ gives fb
         → Fitting (imageSettings (d .mode)) strict f
         → fieldsShown (spanOf 2 (f, 2 + length fb)) extension ≡ gives f
     fields-are none e g t = refl
-    fields-are (bitfield octets) e g t = by-buffer (bitfield octets) e g (t .0) (t .1) (t .2) (t .3)
-    fields-are (reserved kind octet) e g t = by-buffer (reserved kind octet) e g (t .0) (t .1) (t .2) (t .3)
-    fields-are (pairs ps) e g t = by-buffer (pairs ps) e g (t .0) (t .1) (t .2) (t .3)
+    fields-are (bitfield octets) e g t = by-buffer (bitfield octets) e g tt (t .0) (t .1) (t .2) (t .3)
+    fields-are (reserved kind octet) e g t = by-buffer (reserved kind octet) e g (t .0) tt (t .1) (t .2) (t .3)
+    fields-are (pairs ps) e g t = by-buffer (pairs ps) e g tt (t .0) (t .1) (t .2) (t .3)
 
 -- the parts of a header's file
 at-fields : (fix : ℕ) (fb : List ℕ) (w h : ℕ) (body : List ℕ) → headerBytes fix fb w h ++ body ≡ 0 ∷ fix ∷ (fb ++ (sizeBytes w h ++ body))
@@ -132,11 +134,14 @@ module _ (d : Decoding) (a : Making.Opening) (fields : Fields) (k : ℕ) (scans 
   abbrev h : ℕ
   h = a .height
 
+  abbrev rule : Rule
+  rule = Making.settingOf a .rule
+
   abbrev most : ℕ
   most = ceilingOf d
 
-  back : ReadsBack most d bytes w h fields k (λ f. finished (setting (a .options .quantize) w h 1) (lentScan w h scans f))
-      (λ f. scanWhite (a .options .quantize) w h (lentScan w h scans f))
+  back : ReadsBack most d bytes w h fields k (λ f. finished (setting rule w h 1) (lentScan w h scans f))
+      (λ f. scanWhite rule w h (lentScan w h scans f))
   back = made-back 16 most d (a .options) w h k scans (a .text) (a .lengths) work bytes fields wb hb reads lent taken adm made
 
   tests : Passed 16 (a .options) w h k scans (a .text) (a .lengths) work bytes
@@ -147,7 +152,7 @@ module _ (d : Decoding) (a : Making.Opening) (fields : Fields) (k : ℕ) (scans 
   every-scan = omega (arith, sixteen d, tests .tests .sized .few)
 
   abbrev body : List ℕ
-  body = scanBytes (a .options .quantize) w h scans k
+  body = scanBytes rule w h scans k
 
   parts : Filed (a .options .strict) w h fields body bytes
   parts = filed (a .options) w h (a .text) (a .lengths) body bytes fields lent (tests .file)
@@ -156,7 +161,7 @@ module _ (d : Decoding) (a : Making.Opening) (fields : Fields) (k : ℕ) (scans 
   fit = fitting (d .mode) (a .options .strict) (a .options .ext) (a .text) (a .lengths) fields lent taken
 
   long : length body ≡ k * planeBytes w h
-  long = body-size (a .options .quantize) w h scans (parts .wide) (parts .high) k (tests .tests .enough) k (omega arith)
+  long = body-size rule w h scans (parts .wide) (parts .high) k (tests .tests .enough) k (omega arith)
 
   abbrev shape : Outline
   shape = outline (head (a .options .strict) w h fields body bytes parts)

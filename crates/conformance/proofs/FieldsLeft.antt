@@ -14,7 +14,7 @@ use Rattle.laws.proofs.Tests.{zero-one}
 use Rattle.ext.specs.Kinds.{Fields, none, bitfield, reserved, pairs, spanOf, fieldsFollow, kindBits}
 use Rattle.ext.specs.Read.{readFields}
 use Rattle.ext_write.specs.Write.{fieldsBytes}
-use Rattle.ext_write.specs.Ceiling.{kindOf, Readable}
+use Rattle.ext_write.specs.Ceiling.{kindOf, Readable, OfKind}
 use Rattle.ext.proofs.Bounds.{fields-bound}
 use Rattle.ext_write.proofs.ReadBack.{read-back}
 use Rattle.header.specs.Settings.{Settings}
@@ -24,22 +24,23 @@ use Rattle.decode_session.proofs.CutFields.{fieldsFile, FieldsHeld, holds-none,
 use Rattle.conformance.specs.Lists.{fieldsShown}
 
 -- what the FixHeader byte of fields says
-fix-says : (f : Fields) → Readable f → (fieldsFollow (fixByte f) ≡ true) × (kindBits (fixByte f) ≡ kindOf f)
+fix-says : (f : Fields) → OfKind f → (fieldsFollow (fixByte f) ≡ true) × (kindBits (fixByte f) ≡ kindOf f)
 fix-says none r = absurd r
 fix-says (bitfield octets) r = (refl, refl)
 fix-says (reserved kind octet) r = (le-leb 128 (128 + kind * 32) (omega arith), ⊎-elim (λ k. omega arith) (λ k. omega arith) r)
 fix-says (pairs ps) r = (refl, refl)
 
 -- the span of fields of so many bytes from offset 2 on shows those in the buffer
-span-shows : (f : Fields) (n : ℕ) (extension : List ℕ) → Readable f
+span-shows : (f : Fields) (n : ℕ) (extension : List ℕ) → OfKind f
     → fieldsShown (spanOf 2 (f, 2 + n)) extension ≡ map (λ x. x .0) (readFields false true (kindOf f) (take n extension) 0)
 span-shows none n extension r = absurd r
 span-shows (bitfield octets) n extension r = let e : 2 + n - 2 ≡ n = omega arith in rw e
 span-shows (reserved kind octet) n extension r = let e : 2 + n - 2 ≡ n = omega arith in rw e
 span-shows (pairs ps) n extension r = let e : 2 + n - 2 ≡ n = omega arith in rw e
 
-module _ (o : Settings) (strict : Bool) (f : Fields) (bytes τ : List ℕ) (readable : Readable f) (skipped : o .fixZero ≡ false)
-    (honoured : o .honoured ≡ true) (ease : o .classes ≡ true → strict ≡ true) (given : fieldsBytes strict f ≡ gives bytes) where
+module _ (o : Settings) (strict : Bool) (f : Fields) (bytes τ : List ℕ) (kind : OfKind f) (readable : Readable f)
+    (skipped : o .fixZero ≡ false) (honoured : o .honoured ≡ true) (ease : o .classes ≡ true → strict ≡ true)
+    (given : fieldsBytes strict f ≡ gives bytes) where
   abbrev pub file : List ℕ
   file = fieldsFile (fixByte f) bytes τ
 
@@ -47,11 +48,11 @@ module _ (o : Settings) (strict : Bool) (f : Fields) (bytes τ : List ℕ) (read
   passed = rw skipped
 
   pub follow : (o .honoured && fieldsFollow (fixByte f)) ≡ true
-  follow = rw honoured (fix-says f readable .0)
+  follow = rw honoured (fix-says f kind .0)
 
   pub read : (ρ : List ℕ) → readFields (o .classes) true (kindBits (fixByte f)) (fieldsFile (fixByte f) bytes ρ) 2
       ≡ gives (f, 2 + length bytes)
-  read ρ = rw (fix-says f readable .1) (read-back strict (o .classes) ease (0 ∷ fixByte f ∷ []) bytes ρ f readable given)
+  read ρ = rw (fix-says f kind .1) (read-back strict (o .classes) ease (0 ∷ fixByte f ∷ []) bytes ρ f kind readable given)
 
   -- the buffer holds the fields of the first bytes
   abbrev pub FileHeld : ℕ → List ℕ → Type 0
@@ -74,7 +75,7 @@ module _ (o : Settings) (strict : Bool) (f : Fields) (bytes τ : List ℕ) (read
 
   pub held-shows : (ext : List ℕ) → FileHeld (length file) ext → fieldsShown (spanOf 2 (f, 2 + length bytes)) ext ≡ gives f
   held-shows ext h =
-      span-shows f (length bytes) ext readable
+      span-shows f (length bytes) ext kind
       ∙ ap (λ (l : List ℕ). map (λ (x : Fields × ℕ). x .0) (readFields false true (kindOf f) l 0))
       (holds-all o (fixByte f) bytes τ f passed follow read ext h ∙ sym (append-nil bytes))
-      ∙ ap (map (λ (x : Fields × ℕ). x .0)) (read-back strict false (λ z. zero-one (cc)) [] bytes [] f readable given)
+      ∙ ap (map (λ (x : Fields × ℕ). x .0)) (read-back strict false (λ z. zero-one (cc)) [] bytes [] f kind readable given)

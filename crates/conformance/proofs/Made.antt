@@ -18,7 +18,7 @@ use Rattle.image.specs.Geometry.{rowBytes, planeBytes}
 use Rattle.image.specs.declared.PixelFormat.the-variants.{MonoBlack}
 use Rattle.options.specs.Limits.{Decoding}
 use Rattle.options.specs.declared.EncodeOptions.{EncodeOptions}
-use Rattle.options.specs.declared.Quantize.{Quantize}
+use Rattle.rules.specs.Rule.{Rule, ruleAsked, ruleGiven}
 use Rattle.quantize.specs.Finished.{setting, finished}
 use Rattle.quantize.proofs.FramesJoined.{scans-long, scans-more}
 use Rattle.quantize.proofs.WholePlanes.{plane-long}
@@ -38,7 +38,7 @@ use Rattle.conformance.proofs.SniffsExact.{cleared, file-exact}
 module _ (ceiling : ℕ) (o : EncodeOptions) (width height count : ℕ) (gray text lengths : List ℕ) (work : ℕ) (bytes : List ℕ) where
   pub record Passed : Type 0 where
     pub tests : Passes ceiling (o .quantize) width height count (length gray) work
-    pub file : fileOf o width height text lengths (scanBytes (o .quantize) width height gray count) ≡ gives bytes
+    pub file : fileOf o width height text lengths (scanBytes (ruleGiven (ruleAsked o)) width height gray count) ≡ gives bytes
 
   pub passed : fileOfScans ceiling o width height count gray text lengths work ≡ gives bytes → Passed
   unfolding fileOfScans
@@ -47,7 +47,7 @@ module _ (ceiling : ℕ) (o : EncodeOptions) (width height count : ℕ) (gray te
       record { tests = scans-passed ceiling o width height count (length gray) work (p .1); file = p .2 }
 
 -- the planes of so many scans
-module _ (rule : Quantize) (width height : ℕ) (gray : List ℕ) (wide : 0 < width) (high : 0 < height) (count : ℕ)
+module _ (rule : Rule) (width height : ℕ) (gray : List ℕ) (wide : 0 < width) (high : 0 < height) (count : ℕ)
     (enough : count * (width * height) ≤ length gray) where
   abbrev body : ℕ → List ℕ
   body = scanBytes rule width height gray
@@ -84,7 +84,7 @@ pub made-is : (ceiling : ℕ) (o : EncodeOptions) (width height count : ℕ) (gr
     → checkScans ceiling o width height count (length gray) work ≡ gives tt
     → extHeader (o .strict) width height (o .ext) text lengths ≡ gives header
     → fileOfScans ceiling o width height count gray text lengths work
-    ≡ gives (header ++ finished (setting (o .quantize) width height count) (take (count * (width * height)) gray))
+    ≡ gives (header ++ finished (setting (ruleGiven (ruleAsked o)) width height count) (take (count * (width * height)) gray))
 unfolding fileOfScans
 made-is ceiling o width height count gray text lengths work header p e = rw (p, e)
 
@@ -94,11 +94,12 @@ pub made-back : (ceiling most : ℕ) (d : Decoding) (o : EncodeOptions) (width h
     (fields : Fields) → width < 4294967296 → height < 4294967296 → 1 ≤ most
     → presented (o .ext) text lengths ≡ gives fields → Taken (d .mode) (o .strict) fields → Admitted d width height
     → fileOfScans ceiling o width height count gray text lengths work ≡ gives bytes
-    → ReadsBack most d bytes width height fields count (λ k. finished (setting (o .quantize) width height 1) (lentScan width height gray k))
-    (λ k. scanWhite (o .quantize) width height (lentScan width height gray k))
+    → ReadsBack most d bytes width height fields count
+    (λ k. finished (setting (ruleGiven (ruleAsked o)) width height 1) (lentScan width height gray k))
+    (λ k. scanWhite (ruleGiven (ruleAsked o)) width height (lentScan width height gray k))
 made-back ceiling most d o width height count gray text lengths work bytes fields wb hb r e t a w =
     let p = passed ceiling o width height count gray text lengths work bytes w in
-    let rule = o .quantize in
+    let rule = ruleGiven (ruleAsked o) in
     let body = scanBytes rule width height gray count in
     let f = filed o width height text lengths body bytes fields e (p .file) in
     let planes = body-plane rule width height gray (f .wide) (f .high) count (p .tests .enough) in
@@ -117,8 +118,9 @@ pub made-plain : (ceiling most : ℕ) (d : Decoding) (o : EncodeOptions) (width 
     (bytes : List ℕ)
     → width < 4294967296 → height < 4294967296 → 1 ≤ most → o .ext ≡ Absent → Admitted d width height
     → fileOfScans ceiling o width height count gray text lengths work ≡ gives bytes
-    → ReadsBack most d bytes width height none count (λ k. finished (setting (o .quantize) width height 1) (lentScan width height gray k))
-    (λ k. scanWhite (o .quantize) width height (lentScan width height gray k))
+    → ReadsBack most d bytes width height none count
+    (λ k. finished (setting (ruleGiven (ruleAsked o)) width height 1) (lentScan width height gray k))
+    (λ k. scanWhite (ruleGiven (ruleAsked o)) width height (lentScan width height gray k))
 made-plain ceiling most d o width height count gray text lengths work bytes wb hb r e a w =
     made-back ceiling most d o width height count gray text lengths work bytes none wb hb r
     (ap (λ (p : ExtPresence). presented p text lengths) e) (plain (d .mode) (o .strict)) a w
@@ -128,7 +130,7 @@ pub made-exact : (o : EncodeOptions) (width height count : ℕ) (gray text lengt
     → sniffed bytes ≡ Exact
 made-exact o width height count gray text lengths work bytes e wb hb w =
     let p = passed 16 o width height count gray text lengths work bytes w in
-    let rule = o .quantize in
+    let rule = ruleGiven (ruleAsked o) in
     let body = scanBytes rule width height gray count in
     let f = filed o width height text lengths body bytes none (ap (λ (p : ExtPresence). presented p text lengths) e) (p .file) in
     file-exact (o .strict) width height count body bytes f (p .tests .sized) wb hb

@@ -11,11 +11,11 @@ use Rattle.ext_write.specs.Write.{fieldsBytes, octetsBytes, lentFields}
 use Rattle.ext.specs.declared.ExtFieldType.the-variants.{Bitfield00}
 use Rattle.header.specs.declared.ExtPresence.{ExtPresence}
 use Rattle.header.specs.declared.ExtPresence.the-variants.{Absent, Present}
-use Rattle.options.specs.Settings.{defaults, withStrict}
+use Rattle.options.specs.Defaults.{defaults, withStrict}
 use Rattle.options.specs.declared.EncodeOptions.{EncodeOptions}
 use Rattle.options.specs.declared.Quantize.the-variants.{Dither}
 use Rattle.rules.specs.Diffusion.{part, value, white, residual, valueFrom, handed, rowValue, above, valueAt}
-use Rattle.rules.specs.Rule.{dot}
+use Rattle.rules.specs.Rule.{dither, dot}
 use Rattle.quantize.specs.Finished.{begunBytes, count, frame, dotOf, finished, setting}
 use Rattle.rules.specs.Packed.{paddedBit, byteAt}
 use Rattle.rules.specs.Bits.{upto, appended}
@@ -44,7 +44,7 @@ unfolding fileOfScans checkScans lentFields fieldsBytes octetsBytes mbiBytes gro
 fielded-made = refl
 
 by-parts : fileOfScans 16 (maker Absent) 2 1 2 scans [] [] 4
-    ≡ gives ((0x00 ∷ 0x00 ∷ 0x02 ∷ 0x01 ∷ []) ++ finished (setting Dither 2 1 2) (127 ∷ 128 ∷ 128 ∷ 128 ∷ []))
+    ≡ gives ((0x00 ∷ 0x00 ∷ 0x02 ∷ 0x01 ∷ []) ++ finished (setting dither 2 1 2) (127 ∷ 128 ∷ 128 ∷ 128 ∷ []))
 unfolding checkScans fieldsBytes mbiBytes groups
 by-parts = made-is 16 (maker Absent) 2 1 2 scans [] [] 4 (0x00 ∷ 0x00 ∷ 0x02 ∷ 0x01 ∷ []) refl refl
 
@@ -56,23 +56,23 @@ bare-made = refl
 admitted : (strict : Bool) → Admitted (withStrict strict defaults) 2 1
 admitted strict = record { wide = refl; high = refl; pixels = refl; bytes = refl }
 
-lenient : ReadsBack 16 defaults fielded 2 1 (bitfield (5 ∷ [])) 2 (λ k. finished (setting Dither 2 1 1) (lentScan 2 1 scans k))
-    (λ k. scanWhite Dither 2 1 (lentScan 2 1 scans k))
+lenient : ReadsBack 16 defaults fielded 2 1 (bitfield (5 ∷ [])) 2 (λ k. finished (setting dither 2 1 1) (lentScan 2 1 scans k))
+    (λ k. scanWhite dither 2 1 (lentScan 2 1 scans k))
 unfolding lentFields
 lenient =
     made-back 16 16 defaults (maker (Present Bitfield00)) 2 1 2 scans (5 ∷ []) [] 4 fielded (bitfield (5 ∷ [])) (omega arith) (omega arith)
     (omega arith) refl (omega arith)
     (admitted false) fielded-made
 
-strict : ReadsBack 16 (withStrict true defaults) bare 2 1 none 2 (λ k. finished (setting Dither 2 1 1) (lentScan 2 1 scans k))
-    (λ k. scanWhite Dither 2 1 (lentScan 2 1 scans k))
+strict : ReadsBack 16 (withStrict true defaults) bare 2 1 none 2 (λ k. finished (setting dither 2 1 1) (lentScan 2 1 scans k))
+    (λ k. scanWhite dither 2 1 (lentScan 2 1 scans k))
 strict =
     made-plain 16 16 (withStrict true defaults) (maker Absent) 2 1 2 scans [] [] 4 bare (omega arith) (omega arith) (omega arith) refl
     (admitted true) bare-made
 
 -- the first frame alone
-first : ReadsBack 1 defaults bare 2 1 none 2 (λ k. finished (setting Dither 2 1 1) (lentScan 2 1 scans k))
-    (λ k. scanWhite Dither 2 1 (lentScan 2 1 scans k))
+first : ReadsBack 1 defaults bare 2 1 none 2 (λ k. finished (setting dither 2 1 1) (lentScan 2 1 scans k))
+    (λ k. scanWhite dither 2 1 (lentScan 2 1 scans k))
 first =
     made-plain 16 1 defaults (maker Absent) 2 1 2 scans [] [] 4 bare (omega arith) (omega arith) (omega arith) refl (admitted false)
     bare-made

@@ -16,9 +16,8 @@ use Rattle.image.specs.Dots.{bitAt, isWhite}
 use Rattle.image.specs.Geometry.{rowBytes, paddingBits}
 use Rattle.image.specs.Rows.{clearLow}
 use Rattle.image.specs.declared.PixelFormat.the-variants.{MonoBlack}
-use Rattle.options.specs.declared.Quantize.{Quantize}
 use Rattle.rules.specs.Bits.{bit, appended, digits}
-use Rattle.rules.specs.Rule.{dot, meaning}
+use Rattle.rules.specs.Rule.{Rule, dot}
 use Rattle.quantize.specs.Finished.{Setting, count, frame, dotOf, finished, setting}
 use Rattle.rules.specs.Packed.{paddedBit, byteAt}
 use Rattle.rules.proofs.DigitsAppended.{bit-le, appended-lt, appended-add, digits-tail}
@@ -114,12 +113,12 @@ module _ (s : Setting) (xs : List ℕ) where
       ∙ bit-in w d r x h
 
 -- The plane that a scan finishes: its dots are the rule's.
-module _ (rule : Quantize) (width height : ℕ) (scan : List ℕ)
+module _ (rule : Rule) (width height : ℕ) (scan : List ℕ)
     (there : length (finished (setting rule width height 1) scan) ≡ height * rowBytes width)
     (x y : ℕ) where
   scan-bit : x < width → y < height
       → bitAt (rowBytes width) (finished (setting rule width height 1) scan) x y
-      ≡ bit (dot (meaning rule) width (frame width height scan 0) x y)
+      ≡ bit (dot rule width (frame width height scan 0) x y)
   unfolding bitAt dotOf
   scan-bit p q =
       let m = up-to (rowBytes width) y height q in
@@ -132,7 +131,7 @@ module _ (rule : Quantize) (width height : ℕ) (scan : List ℕ)
   scan-dots = go (ltb x width) (ltb y height) refl refl
     where
       white : Bool
-      white = dot (meaning rule) width (frame width height scan 0) x y
+      white = dot rule width (frame width height scan 0) x y
 
       shown : (b : Bool) → eqb (bit b) 1 ≡ b
       shown true = refl

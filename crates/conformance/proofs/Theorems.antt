@@ -16,7 +16,7 @@ use Rattle.mbi.proofs.Length.{bytes-five}
 use Rattle.mbi.proofs.Prefix.{Final, mbi-prefix}
 use Rattle.mbi.proofs.RoundTrip.{read-written}
 use Rattle.mbi.proofs.Strict.{Begins, strict-exactly, strict-short}
-use Rattle.ext_write.specs.Ceiling.{kindOf, Readable}
+use Rattle.ext_write.specs.Ceiling.{kindOf, Readable, OfKind}
 use Rattle.ext.specs.Kinds.{Fields, none}
 use Rattle.ext.specs.Read.{readFields}
 use Rattle.ext_write.specs.Write.{fieldsBytes}
@@ -46,7 +46,7 @@ use Rattle.image.proofs.ConvertDots.{Converts, cleared, converted-twice, conver
 use Rattle.image.proofs.WireDots.{wire-padding, wire-dots}
 use Rattle.options.specs.Limits.{Decoding}
 use Rattle.options.specs.declared.EncodeOptions.{EncodeOptions}
-use Rattle.options.specs.declared.Quantize.{Quantize}
+use Rattle.rules.specs.Rule.{Rule, ruleAsked, ruleGiven}
 use Rattle.rules.specs.Ordered.{knownSide}
 use Rattle.rules.specs.Diffusion.{Direction, Scan, residualAt}
 use Rattle.quantize.specs.Finished.{setting}
@@ -108,7 +108,7 @@ fields-bound : (strict follow : Bool) (kind : ℕ) (s : List ℕ) (at : ℕ) (r 
 fields-bound = FieldBounds.fields-bound
 
 -- Fields that are written are read back, if they are within the ceiling; those that are written strictly also strictly.
-fields-back : (written read : Bool) → (read ≡ true → written ≡ true) → (front bytes rest : List ℕ) (f : Fields) → Readable f
+fields-back : (written read : Bool) → (read ≡ true → written ≡ true) → (front bytes rest : List ℕ) (f : Fields) → OfKind f → Readable f
     → fieldsBytes written f ≡ gives bytes
     → readFields read true (kindOf f) (front ++ (bytes ++ rest)) (length front) ≡ gives (f, length front + length bytes)
 fields-back = read-back
@@ -189,7 +189,7 @@ frames-apart : (s : Setting) (xs ys : List ℕ) (k : ℕ) → 0 < s .width → 0
 frames-apart = finished-behind
 
 -- "Whole making takes a count and that many scans end to end": each scan's plane stands behind those before it.
-scans-joined : (rule : Quantize) (w h : ℕ) (gray : List ℕ) → 0 < w → 0 < h → (k : ℕ) → k * (w * h) ≤ length gray
+scans-joined : (rule : Rule) (w h : ℕ) (gray : List ℕ) → 0 < w → 0 < h → (k : ℕ) → k * (w * h) ≤ length gray
     → finished (setting rule w h (suc k)) (take (suc k * (w * h)) gray)
     ≡ finished (setting rule w h k) (take (k * (w * h)) gray) ++ finished (setting rule w h 1) (take (w * h) (drop (k * (w * h)) gray))
 scans-joined = scans-more
@@ -230,7 +230,7 @@ scans-surplus = Scans.surplus-ignored
 made-whole : (ceiling : ℕ) (o : EncodeOptions) (w h n : ℕ) (gray text lengths : List ℕ) (work : ℕ) (header : List ℕ)
     → checkScans ceiling o w h n (length gray) work ≡ gives tt → extHeader (o .strict) w h (o .ext) text lengths ≡ gives header
     → fileOfScans ceiling o w h n gray text lengths work
-    ≡ gives (header ++ finished (setting (o .quantize) w h n) (take (n * (w * h)) gray))
+    ≡ gives (header ++ finished (setting (ruleGiven (ruleAsked o)) w h n) (take (n * (w * h)) gray))
 made-whole = made-is
 
 -- ---- whole files, written or made, are read back (the tender's condition 2)
@@ -255,16 +255,16 @@ written-shown-plain = written-plain
 made-shown : (ceiling most : ℕ) (d : Decoding) (o : EncodeOptions) (w h n : ℕ) (gray text lengths : List ℕ) (work : ℕ) (bytes : List ℕ)
     (fields : Fields) → w < 4294967296 → h < 4294967296 → 1 ≤ most → presented (o .ext) text lengths ≡ gives fields
     → Taken (d .mode) (o .strict) fields → Admitted d w h → fileOfScans ceiling o w h n gray text lengths work ≡ gives bytes
-    → ReadsBack most d bytes w h fields n (λ k. finished (setting (o .quantize) w h 1) (lentScan w h gray k))
-    (λ k. scanWhite (o .quantize) w h (lentScan w h gray k))
+    → ReadsBack most d bytes w h fields n (λ k. finished (setting (ruleGiven (ruleAsked o)) w h 1) (lentScan w h gray k))
+    (λ k. scanWhite (ruleGiven (ruleAsked o)) w h (lentScan w h gray k))
 made-shown = made-back
 
 made-shown-plain : (ceiling most : ℕ) (d : Decoding) (o : EncodeOptions) (w h n : ℕ) (gray text lengths : List ℕ) (work : ℕ)
     (bytes : List ℕ)
     → w < 4294967296 → h < 4294967296 → 1 ≤ most → o .ext ≡ Absent → Admitted d w h
     → fileOfScans ceiling o w h n gray text lengths work ≡ gives bytes
-    → ReadsBack most d bytes w h none n (λ k. finished (setting (o .quantize) w h 1) (lentScan w h gray k))
-    (λ k. scanWhite (o .quantize) w h (lentScan w h gray k))
+    → ReadsBack most d bytes w h none n (λ k. finished (setting (ruleGiven (ruleAsked o)) w h 1) (lentScan w h gray k))
+    (λ k. scanWhite (ruleGiven (ruleAsked o)) w h (lentScan w h gray k))
 made-shown-plain = made-plain
 
 -- "exact for 1-16 frames and no rest": so every file is sniffed that is written or made without fields and with sizes up to 16,384.

@@ -17,7 +17,7 @@ use Rattle.image.specs.Dots.{isWhite}
 use Rattle.image.specs.Geometry.{checkGeometry}
 use Rattle.image.specs.Rows.{clearPadding, wireRow, wireBits}
 use Rattle.image.specs.declared.PixelFormat.the-variants.{MonoWhite}
-use Rattle.options.specs.Settings.{defaults, withStrict, withFormat}
+use Rattle.options.specs.Defaults.{defaults, withStrict, withFormat}
 use Rattle.options.specs.declared.EncodeOptions.{EncodeOptions}
 use Rattle.options.specs.declared.Quantize.the-variants.{Threshold}
 use Rattle.encoder.specs.Write.{checkPlanes, lentPlane, wirePlanes, fileOfPlanes}

@@ -8,7 +8,7 @@ use lib.ListN.{length, take, drop}
 use Rattle.error.specs.Answer.{gives, refuses, written, checked}
 use Rattle.error.specs.Emits.{Emits}
 use Rattle.options.specs.Limits.{Decoding}
-use Rattle.rules.specs.Rule.{meaning, carries}
+use Rattle.rules.specs.Rule.{carries}
 use Rattle.quantize.specs.Internal.Machine.{carried}
 use Rattle.encode_session.specs.Model as Making
 use Rattle.encode_session.specs.Session as MakingSession
@@ -26,7 +26,7 @@ pub record KeepsWork (a : Making.Opening) (samples : List ℕ) (taken : ℕ) (wo
   pub corner : ℤ
   pub kept : work′
       ≡ carried (Making.settingOf a) 0 (record { begun = 0; carry = record { corner = corner; kept = work } }) samples taken .carry .kept
-  pub spared : carries (meaning (a .options .quantize)) ≡ false → work′ ≡ work
+  pub spared : carries (Making.settingOf a .rule) ≡ false → work′ ≡ work
   pub beyond : drop (a .width) work′ ≡ drop (a .width) work
 
 -- opening an encode session, feeding it and closing it; behind a refused opening all calls are refused and alter nothing

@@ -14,7 +14,7 @@ use Rattle.header.specs.Write.{presented}
 use Rattle.image.specs.Dots.{isWhite}
 use Rattle.image.specs.Geometry.{rowBytes, planeBytes}
 use Rattle.options.specs.Limits.{Decoding, ceilingOf}
-use Rattle.options.specs.Settings.{madeFrames}
+use Rattle.options.specs.Defaults.{madeFrames}
 use Rattle.decoder.specs.Frames.{shown, framesOf}
 use Rattle.quantize.specs.Finished.{finished}
 use Rattle.encoder.specs.Make.{fileOfScans}
@@ -95,7 +95,7 @@ pub record Shows (d : Decoding) (a : Making.Opening) (fields : Fields) (k : ℕ)
   pub size : length joined ≡ k * planeBytes (a .width) (a .height)
   pub dots : (f x y : ℕ) → f < k
       → isWhite (d .format) (a .width) (a .height) (rowBytes (a .width)) (planeIn (a .width) (a .height) joined f) x y
-      ≡ scanWhite (a .options .quantize) (a .width) (a .height) (lentScan (a .width) (a .height) scans f) x y
+      ≡ scanWhite (Making.settingOf a .rule) (a .width) (a .height) (lentScan (a .width) (a .height) scans f) x y
 
 -- a card whose making was closed: its bytes are those of whole making of k scans
 pub record Card (a : Making.Opening) (scans bytes : List ℕ) (k : ℕ) : Type 0 where

@@ -6,7 +6,7 @@ use mathlib.Core.List.{List}
 use lib.Dec.{ltb}
 use lib.ListN.{length, take, drop}
 use Rattle.error.specs.Answer.{gives}
-use Rattle.ext.specs.Kinds.{Fields, none, bitfield, reserved, pairs}
+use Rattle.ext.specs.Kinds.{Fields, none}
 use Rattle.ext_write.specs.Ceiling.{Readable}
 use Rattle.header.specs.Write.{fixByte}
 use Rattle.image.specs.Dots.{isWhite}
@@ -14,23 +14,15 @@ use Rattle.image.specs.Geometry.{rowBytes, planeBytes}
 use Rattle.image.specs.Rows.{convertFormat}
 use Rattle.image.specs.declared.PixelFormat.the-variants.{MonoBlack}
 use Rattle.options.specs.Limits.{Mode, lenient, strict, Decoding, admits}
-use Rattle.options.specs.declared.Quantize.{Quantize}
-use Rattle.rules.specs.Rule.{dot, meaning}
+use Rattle.rules.specs.Rule.{Rule, dot}
 use Rattle.quantize.specs.Finished.{frame}
 use Rattle.decoder.specs.Image.{fieldsOf}
 use Rattle.decoder.specs.Frames.{Image, shown, decoded}
 
--- fields within the ceiling of 4,096, or none
-abbrev pub BelowCeiling : Fields → Type 0
-BelowCeiling none = Unit {0}
-BelowCeiling (bitfield octets) = Readable (bitfield octets)
-BelowCeiling (reserved kind octet) = Unit {0}
-BelowCeiling (pairs ps) = Readable (pairs ps)
-
 -- the fields that a reading in this mode takes from a file that was written strictly or not: a lenient one those within the ceiling, and a
 -- strict one none
 abbrev pub Taken : Mode → Bool → Fields → Type 0
-Taken lenient written fields = BelowCeiling fields
+Taken lenient written fields = Readable fields
 Taken strict written fields = fields ≡ none
 
 -- no limit of the reading refuses the size
@@ -48,8 +40,8 @@ planeIn width height planes k = take (planeBytes width height) (drop (k * planeB
 abbrev pub lentScan : ℕ → ℕ → List ℕ → ℕ → List ℕ
 lentScan width height gray k = take (width * height) (drop (k * (width * height)) gray)
 
-abbrev pub scanWhite : Quantize → ℕ → ℕ → List ℕ → ℕ → ℕ → Bool
-scanWhite rule width height scan x y = ltb x width && ltb y height && dot (meaning rule) width (frame width height scan 0) x y
+abbrev pub scanWhite : Rule → ℕ → ℕ → List ℕ → ℕ → ℕ → Bool
+scanWhite rule width height scan x y = ltb x width && ltb y height && dot rule width (frame width height scan 0) x y
 
 -- Whole reading of up to `most` frames shows this size, these fields and the first frames of so many, with the last of which the file ends.
 -- Plane k is `plane k` in the asked format, and its dot at column x of row y is white where `white k x y` says so.

@@ -18,7 +18,7 @@ use Rattle.body_pieces.specs.Internal.Body.{Bodies}
 use Rattle.header_pieces.specs.Extension.{fieldBytes}
 use Rattle.decode_session.specs.Model.{Model, nothing, grown, written, stored, fedBy}
 use Rattle.decode_session.specs.Session.{InBody, Settled}
-use Rattle.decode_session.specs.Internal.Stages.{takenIn, Agrees, having, Enters, Planes}
+use Rattle.decode_session.specs.Internal.Stages.{takenIn, RepliesAs, having, Enters, FeedsPlanes}
 use Rattle.decode_session.specs.declared.Stage.{Stage}
 use Rattle.decode_session.specs.declared.DecodeFed.{DecodeFed}
 use Rattle.body_pieces.specs.declared.BodyFed.{BodyFed}
@@ -88,7 +88,7 @@ module _ (o : DecodeOptions) (p : ParsedHeader) (most whole begun from : ℕ) (p
         }
 
     pub planed : (ext : List ℕ)
-        → Agrees (takenIn o (Stage.Body p (r .whole) (r .begun)) (from + r .taken) (r .written))
+        → RepliesAs (takenIn o (Stage.Body p (r .whole) (r .begun)) (from + r .taken) (r .written))
         out′ (stored m (m .bytes ++ piece) ext) (fedBy m piece out ext nothing)
     planed ext =
         let count = takes-is full within en advances in
@@ -122,12 +122,12 @@ pub planes : (o : DecodeOptions) (p : ParsedHeader) (most whole begun from : ℕ
     → most ≡ ceilingOf (decoding o) → from ≤ length piece → part ≡ drop from piece
     → Bodies (o .format) (p .width) (p .height) most whole begun part out r out′
     → d ≡ takenIn o (Stage.Body p (r .whole) (r .begun)) (from + r .taken) (r .written)
-    → Planes o p whole begun from piece out d out′
+    → FeedsPlanes o p whole begun from piece out d out′
 planes o p most whole begun from piece out out′ part r d n within same b e =
     let b′ = subst (λ (l : List ℕ). Bodies (o .format) (p .width) (p .height) most whole begun l out r out′) same b in
     record {
       does =
-          λ m ext c q en. subst (λ (d : DecodeFed). Agrees d out′ (stored m (m .bytes ++ piece) ext) (fedBy m piece out ext nothing))
+          λ m ext c q en. subst (λ (d : DecodeFed). RepliesAs d out′ (stored m (m .bytes ++ piece) ext) (fedBy m piece out ext nothing))
           (sym e)
           (planed o p most whole begun from piece out out′ within r b′ m c (sym (n ∙ ap ceilingOf q)) q en ext);
     }

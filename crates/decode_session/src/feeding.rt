@@ -23,7 +23,7 @@ ghost use Prim.Native.Nat.{_≤_};
 ghost use lib.ListN.{length};
 ghost use Rattle.ext.specs.Kinds.{longestFields};
 ghost use Rattle.decode_session.specs.Session.{Feeds};
-ghost use Rattle.decode_session.specs.Internal.Stages.{takenIn, metIn, Planes, Begins};
+ghost use Rattle.decode_session.specs.Internal.Stages.{takenIn, metIn, FeedsPlanes, Begins};
 
 // The session after a call that takes and writes so many bytes.
 fn took(options: DecodeOptions, stage: Stage, taken: usize, written: usize) -> DecodeFed
@@ -95,7 +95,7 @@ pub(crate) fn feed_planes(
     out: &mut [u8],
 ) -> DecodeFed
     requires { ⌜ from ≤ length (now piece) ⌝ }
-    ensures { λ r. ⌜ Planes options h whole begun from (now (piece .entry)) (now (out .entry)) r (now (out .exit)) ⌝ }
+    ensures { λ r. ⌜ FeedsPlanes options h whole begun from (now (piece .entry)) (now (out .entry)) r (now (out .exit)) ⌝ }
 {
     let format = options.format;
     let place = BodyPlace {

@@ -14,7 +14,7 @@ use Rattle.ext.specs.Read.{readFields}
 use Rattle.ext.proofs.Prefix.{decided}
 use Rattle.header.specs.Read.{Outline, readHeader}
 use Rattle.options.specs.Limits.{Decoding, checkLimits}
-use Rattle.options.specs.Settings.{defaults}
+use Rattle.options.specs.Defaults.{defaults}
 use Rattle.decoder.specs.Body.{extraFrames, planeOf, framesIn, planes}
 use Rattle.decoder.specs.Image.{testBody, readImage}
 use Rattle.decoder.specs.Frames.{fitted, decoded, shown}

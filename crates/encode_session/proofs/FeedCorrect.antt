@@ -11,7 +11,7 @@ use lib.Seq.{length-take-le}
 use Rattle.error.specs.Answer.{gives, refuses}
 use Rattle.laws.proofs.Tests.{if-true, zero-one}
 use Rattle.quantize.specs.declared.engine.RunEnded.{RunEnded}
-use Rattle.quantize.specs.Internal.Engine.{roomFor, Counts, Runs, Stands as QStands, Holds as QHolds}
+use Rattle.quantize.specs.Internal.Engine.{roomFor, Counts, Runs, QuantizerAt, QuantizerAfter}
 use Rattle.quantize.specs.Finished.{newly}
 use Rattle.quantize.proofs.FramesDone.{frames-done, room-behind}
 use Rattle.quantize.proofs.FinishedGrows.{length-finished}
@@ -95,7 +95,7 @@ module _ (s : EncodeSession) (xs out : List ℕ) (work : List ℤ) (l : s .live 
 
     stands : Stands next (record { opening = m .opening; live = true; samples = m .samples ++ taken m xs (length out) })
     stands =
-        let a : QStands (r .quantizer) (settingOf (m .opening)) (length (m .samples ++ taken m xs (length out))) =
+        let a : QuantizerAt (r .quantizer) (settingOf (m .opening)) (length (m .samples ++ taken m xs (length out))) =
         rw joined-long (C .stands) in
         record { live = refl; left = frames-done _ _ _ _ _ (a .at); place = λ _. a }
 
@@ -125,9 +125,10 @@ module _ (s : EncodeSession) (xs out : List ℕ) (work : List ℤ) (l : s .live 
           → gives (took (r .taken) (r .written)) ≡ gives (took (length (taken m xs (length out))) (length (written m xs (length out))))
       told m t = rw (taken-long m t, written-long m t)
 
-      kept : (m : Model) (t : Stands s m) → QHolds (r .quantizer) work′ (settingOf (m .opening)) (m .samples ++ take (r .taken) xs)
-          → QHolds (r .quantizer) work′ (settingOf (m .opening)) (m .samples ++ taken m xs (length out))
-      kept m t k = subst (λ (y : List ℕ). QHolds (r .quantizer) work′ (settingOf (m .opening)) (m .samples ++ y)) (sym (taken-is m t)) k
+      kept : (m : Model) (t : Stands s m) → QuantizerAfter (r .quantizer) work′ (settingOf (m .opening)) (m .samples ++ take (r .taken) xs)
+          → QuantizerAfter (r .quantizer) work′ (settingOf (m .opening)) (m .samples ++ taken m xs (length out))
+      kept m t k = subst (λ (y : List ℕ). QuantizerAfter (r .quantizer) work′ (settingOf (m .opening)) (m .samples ++ y))
+          (sym (taken-is m t)) k
 
       bytes-are : (m : Model) (t : Stands s m)
           → newly (settingOf (m .opening)) (m .samples) (m .samples ++ take (r .taken) xs) ++ drop (r .written) out

@@ -16,23 +16,21 @@ use Rattle.error.specs.Emits.{Emits, emitted}
 use Rattle.error.specs.declared.Written.{Written}
 use Rattle.ext_write.specs.Internal.Left.{Left, none-left}
 use Rattle.ext_write.specs.declared.PairsBegun.{PairsBegun}
-use Rattle.laws.proofs.Tests.{zero-one}
+use Rattle.laws.proofs.Tests.{if-true, if-false, zero-one}
 use Rattle.header.specs.Write.{extHeader}
-use Rattle.options.specs.declared.Quantize.{Quantize}
-use Rattle.options.specs.declared.Quantize.the-variants.{Threshold, Dither, Ordered}
 use Rattle.quantize.specs.declared.engine.Quantizer.{Quantizer}
-use Rattle.rules.specs.Rule.{Rule, meaning, enoughWork, knownRule}
-use Rattle.rules.proofs.RuleAsked.{asked-if}
-use Rattle.quantize.specs.Internal.Engine.{Opens as QOpens, Holds as QHolds}
+use Rattle.rules.specs.Rule.{Rule, threshold, dither, ordered, enoughWork, knownRule}
+use Rattle.rules.proofs.RuleAsked.{asked-if, known-named}
+use Rattle.quantize.specs.Internal.Engine.{NewQuantizer, QuantizerAfter}
 use Rattle.encode_session.specs.declared.EncodeOpened.{EncodeOpened}
 use Rattle.encode_session.specs.Model.{Opening, settingOf, serves, header, opened}
 use Rattle.encode_session.specs.Session.{isGiven, Opens}
 
 -- a work buffer that serves
-pub work-numbers-enough : (rule : Quantize) (width : ℕ) → enoughWork (meaning rule) width (2 * width) ≡ true
-work-numbers-enough (Threshold t) width = refl
-work-numbers-enough Dither width = le-leb (2 * width) (2 * width) (omega arith)
-work-numbers-enough (Ordered side) width = refl
+pub work-numbers-enough : (rule : Rule) (width : ℕ) → enoughWork rule width (2 * width) ≡ true
+work-numbers-enough (threshold t) width = refl
+work-numbers-enough dither width = le-leb (2 * width) (2 * width) (omega arith)
+work-numbers-enough (ordered side table) width = refl
 
 -- what is written was given
 headed-by : (n : ℕ) (old : List ℕ) (h : Answer (List ℕ)) → gives n ≡ emitted h old → (bytes : List ℕ) × (h ≡ gives bytes)
@@ -68,13 +66,16 @@ module _ (a : Opening) (work : ℕ) where
       unknown e = rw (ne-eqb (a .width) 0 pw, ne-eqb (a .height) 0 ph, e)
 
       module _ (known : knownRule (a .options .quantize) ≡ true) where
+        known-is : header a work ≡ if (serves a work) fields (refuses 28 0)
+        known-is =
+            let sized : (eqb (a .width) 0 || eqb (a .height) 0) ≡ false = rw (ne-eqb (a .width) 0 pw, ne-eqb (a .height) 0 ph) in
+            header-is ∙ if-false _ _ _ sized ∙ if-true _ _ _ known
+
         pub short : serves a work ≡ false → header a work ≡ refuses 28 0
-        unfolding header
-        short e = rw (ne-eqb (a .width) 0 pw, ne-eqb (a .height) 0 ph, known, e)
+        short e = known-is ∙ if-false _ _ _ e
 
         pub tested : serves a work ≡ true → header a work ≡ fields
-        unfolding header
-        tested e = rw (ne-eqb (a .width) 0 pw, ne-eqb (a .height) 0 ph, known, e)
+        tested e = known-is ∙ if-true _ _ _ e
 
   -- where a header is given, all tests passed
   pub record Passed (bytes : List ℕ) : Type 0 where
@@ -124,7 +125,8 @@ module _ (a : Opening) (work : ℕ) where
       subst (λ (x : Answer (List ℕ)). Left (a .options .strict) (a .text) (a .lengths) new b (Emits x (written (b .answer)) old)) (sym e) h
 
   pub opens : (q : Quantizer) (live : Bool) (r : Written) (old new : List ℕ)
-      → QOpens (a .options .quantize) (a .width) (a .height) 16 q → live ≡ isGiven (written r) → Emits (header a work) (written r) old new
+      → NewQuantizer (a .options .quantize) (a .width) (a .height) 16 q → live ≡ isGiven (written r)
+      → Emits (header a work) (written r) old new
       → Opens a work (record { session = record { quantizer = q; live = live }; answer = r }) old new
   opens q live r old new o l h =
       record {
@@ -143,8 +145,10 @@ module _ (a : Opening) (work : ℕ) where
       none-done : q .place .frames + 0 / (a .width * a .height) ≡ 16
       none-done = rw (o .framesAre, zero-div)
 
-      held : (bytes : List ℕ) × (header a work ≡ gives bytes) → (any : List ℤ) → QHolds q any (settingOf a) (opened a .samples)
-      held b any = let p = passed (b .0) (b .1) in o .holds (p .known) (p .wide) (p .high) any
+      held : (bytes : List ℕ) × (header a work ≡ gives bytes) → (any : List ℤ) → QuantizerAfter q any (settingOf a) (opened a .samples)
+      held b any =
+          let p = passed (b .0) (b .1) in
+          o .holds (settingOf a .rule) (known-named (a .options .quantize) (p .known)) (p .wide) (p .high) any
 
 -- an accepted opening had a header to write
 pub accepted : {a : Opening} {work : ℕ} {r : EncodeOpened} {old new : List ℕ} → Opens a work r old new → (n : ℕ)

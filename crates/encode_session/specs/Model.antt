@@ -8,9 +8,9 @@ use lib.ListN.{length, take, drop}
 use Rattle.error.specs.Choice.{if}
 use Rattle.error.specs.Answer.{Answer, gives, refuses, bind}
 use Rattle.header.specs.Write.{extHeader}
-use Rattle.options.specs.Settings.{madeFrames}
+use Rattle.options.specs.Defaults.{madeFrames}
 use Rattle.options.specs.declared.EncodeOptions.{EncodeOptions}
-use Rattle.rules.specs.Rule.{meaning, enoughWork, ruleAsked}
+use Rattle.rules.specs.Rule.{enoughWork, ruleAsked, ruleGiven}
 use Rattle.quantize.specs.Finished.{setting, Setting, takes, newly, wholeFrames}
 
 -- what a session is opened with; pairs of the fields are two lengths each, beside one text
@@ -24,13 +24,13 @@ pub record Opening : Type 0 where
 abbrev pub opening : EncodeOptions → ℕ → ℕ → List ℕ → List ℕ → Opening
 opening o w h text lengths = record { options = o; width = w; height = h; text = text; lengths = lengths }
 
--- so many frames of its size at most
+-- so many frames of its size at most, by the rule that it asks for
 abbrev pub settingOf : Opening → Setting
-settingOf a = setting (a .options .quantize) (a .width) (a .height) madeFrames
+settingOf a = setting (ruleGiven (ruleAsked (a .options))) (a .width) (a .height) madeFrames
 
 -- the work buffer, of so many numbers, is long enough
 abbrev pub serves : Opening → ℕ → Bool
-serves a work = enoughWork (meaning (a .options .quantize)) (a .width) work
+serves a work = enoughWork (settingOf a .rule) (a .width) work
 
 -- "Opening writes the header", behind "8, .. 29, 28, .. fields"; 25 where it does not fit is `Emits`
 unfoldable pub header : Opening → ℕ → Answer (List ℕ)

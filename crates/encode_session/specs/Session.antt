@@ -12,9 +12,9 @@ use Rattle.error.specs.declared.Written.{Written}
 use Rattle.ext_write.specs.Internal.Left.{Left, ChecksPairs}
 use Rattle.ext_write.specs.declared.FieldsCheck.{FieldsCheck}
 use Rattle.ext_write.specs.declared.PairsBegun.{PairsBegun}
-use Rattle.options.specs.Settings.{madeFrames}
+use Rattle.options.specs.Defaults.{madeFrames}
 use Rattle.options.specs.declared.EncodeOptions.{EncodeOptions}
-use Rattle.quantize.specs.Internal.Engine.{Runs, Stands as QStands, Holds as QHolds}
+use Rattle.quantize.specs.Internal.Engine.{Runs, QuantizerAt, QuantizerAfter}
 use Rattle.encode_session.specs.Model.{Opening, opening, settingOf, header, Model, opened, framesDone, shut, feed, close, Told, took}
 use Rattle.encode_session.specs.Model.{closed, outcome}
 use Rattle.encode_session.specs.declared.EncodeSession.{EncodeSession}
@@ -48,12 +48,12 @@ refusedClosed s code = record { session = s; answer = Checked.Refused (record { 
 pub record Stands (s : EncodeSession) (m : Model) : Type 0 where
   pub live : s .live ≡ m .live
   pub left : s .quantizer .place .frames + framesDone m ≡ madeFrames
-  pub place : m .live ≡ true → QStands (s .quantizer) (settingOf (m .opening)) (length (m .samples))
+  pub place : m .live ≡ true → QuantizerAt (s .quantizer) (settingOf (m .opening)) (length (m .samples))
 
 -- the work buffer too is as the model's samples leave it
 pub record Holds (s : EncodeSession) (work : List ℤ) (m : Model) : Type 0 where
   pub stands : Stands s m
-  pub keeps : m .live ≡ true → QHolds (s .quantizer) work (settingOf (m .opening)) (m .samples)
+  pub keeps : m .live ≡ true → QuantizerAfter (s .quantizer) work (settingOf (m .opening)) (m .samples)
 
 -- ---- the contracts
 

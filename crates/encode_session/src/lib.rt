@@ -20,15 +20,14 @@ ghost use mathlib.Core.Bool.{true};
 ghost use lib.ListN.{length};
 ghost use Rattle.error.specs.Answer.{refuses, written};
 ghost use Rattle.ext_write.specs.Write.{flattened};
-ghost use Rattle.options.specs.declared.Quantize.{Quantize};
-ghost use Rattle.rules.specs.Rule.{meaning, enoughWork};
+ghost use Rattle.rules.specs.Rule.{Rule, enoughWork};
 ghost use Rattle.encode_session.specs.Model.{opening};
 ghost use Rattle.encode_session.specs.Session.{isGiven, refusedFed, refusedClosed, BeginsOpening, OpensBy, Opens, Feeds, Closes};
 ghost use Rattle.encode_session.specs.Session.{TellsClosed, TellsFrames};
 
 // How many numbers of work serve a card of so many dots a row under any rule; only dithering wants them.
 pub fn work_numbers(width: u32) -> usize
-    ensures { λ r. ⌜ (r ≡ 2 * width) × ((rule : Quantize) → enoughWork (meaning rule) width r ≡ true) ⌝ }
+    ensures { λ r. ⌜ (r ≡ 2 * width) × ((rule : Rule) → enoughWork rule width r ≡ true) ⌝ }
 {
     2 * (width as usize)
 }
@@ -68,7 +67,7 @@ fn unfed(session: EncodeSession, code: u8) -> EncodeFed
 {
     EncodeFed {
         session: session,
-        answer: EncodeFeed::Refused(WbmpError { code, offset: 0 }),
+        answer: EncodeFeed::Refused(WbmpError::new(code, 0)),
     }
 }
 
@@ -77,7 +76,7 @@ fn unclosed(session: EncodeSession, code: u8) -> EncodeClosed
 {
     EncodeClosed {
         session: session,
-        answer: Checked::Refused(WbmpError { code, offset: 0 }),
+        answer: Checked::refused(code),
     }
 }
 
@@ -87,7 +86,7 @@ fn unopened(to: usize, code: u8) -> PairsBegun
 {
     PairsBegun {
         to,
-        answer: Written::Refused(WbmpError { code, offset: 0 }),
+        answer: Written::refused(code),
     }
 }
 

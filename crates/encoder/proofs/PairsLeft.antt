@@ -23,6 +23,7 @@ use Rattle.header.specs.Internal.Begin.{HasRoom}
 use Rattle.image.specs.Geometry.{planeBytes}
 use Rattle.image.specs.declared.PixelFormat.{PixelFormat}
 use Rattle.options.specs.declared.EncodeOptions.{EncodeOptions}
+use Rattle.rules.specs.Rule.{ruleAsked, ruleGiven}
 use Rattle.encoder.specs.File.{fileOf}
 use Rattle.encoder.specs.Write.{checkPlanes, wirePlanes, fileOfPlanes}
 use Rattle.encoder.specs.Make.{checkScans, Makes}
@@ -170,7 +171,7 @@ module _ (o : EncodeOptions) (w h n : ℕ) (gray text lengths : List ℕ) (work 
   pub made-left : (start : ℕ) (last : List ℕ) (work′ : List ℤ) → written (b .answer) ≡ gives start
       → written (b′ .answer) ≡ gives (start + body) → start ≤ length mid
       → length last ≡ length (midOf start (length mid - start) mid)
-      → PutsScans (o .quantize) w h n gray (midOf start (length mid - start) mid) work last work′
+      → PutsScans (ruleGiven (ruleAsked o)) w h n gray (midOf start (length mid - start) mid) work last work′
       → Left (o .strict) text lengths mid b (Heads (header o w h text lengths out body mid b b′ t) body (written (b .answer)) out)
       → Left (o .strict) text lengths (putMid start (length mid - start) mid last) b′
       (λ out′. Makes 16 o w h n gray text lengths out work (written (b′ .answer)) out′ work′)
@@ -180,7 +181,7 @@ module _ (o : EncodeOptions) (w h n : ℕ) (gray text lengths : List ℕ) (work 
       (λ mid′ c j. subst (λ (r : Answer ℕ). Makes 16 o w h n gray text lengths out work r
       (putMid start (length mid′ - start) mid′ last) work′) (sym f′)
       (made o w h n gray text lengths work e out body size start mid′ last work′ c
-      (subst (λ (v : List ℕ). PutsScans (o .quantize) w h n gray v work last work′) (sym j) q)))
+      (subst (λ (v : List ℕ). PutsScans (ruleGiven (ruleAsked o)) w h n gray v work last work′) (sym j) q)))
       x
 
   pub refused-left : (x : WbmpError) → written (b .answer) ≡ refusal x → b′ .answer ≡ Written.Refused x

@@ -11,7 +11,7 @@ use Rattle.error.specs.Answer.{Answer, gives, refuses, bind}
 use Rattle.laws.proofs.Tests.{zero-one}
 use Rattle.options.specs.declared.EncodeOptions.{EncodeOptions}
 use Rattle.options.specs.declared.Quantize.{Quantize}
-use Rattle.rules.specs.Rule.{Rule, meaning, enoughWork, knownRule, ruleAsked}
+use Rattle.rules.specs.Rule.{Rule, enoughWork, knownRule, ruleAsked, ruleNamed, ruleGiven}
 use Rattle.rules.proofs.RuleAsked.{asked-if}
 use Rattle.encoder.specs.File.{checkCount}
 use Rattle.encoder.specs.Make.{checkScans}
@@ -21,7 +21,7 @@ use Rattle.encoder.proofs.CountTests.{Counted, counted, accepted}
 pub record Passed (ceiling : ℕ) (rule : Quantize) (w h n gray work : ℕ) : Type 0 where
   pub sized : Counted ceiling w h n
   pub known : knownRule rule ≡ true
-  pub room : enoughWork (meaning rule) w work ≡ true
+  pub room : enoughWork (ruleGiven (ruleNamed rule)) w work ≡ true
   pub enough : n * (w * h) ≤ gray
 
 -- the tests behind those of the size and the count
@@ -36,7 +36,7 @@ module _ (ceiling : ℕ) (o : EncodeOptions) (w h n gray work : ℕ) where
   scans = checkScans ceiling o w h n gray work
 
   abbrev rest : Answer (Unit {0})
-  rest = tests (knownRule rule) (enoughWork (meaning rule) w work) (ltb gray (n * (w * h)))
+  rest = tests (knownRule rule) (enoughWork (ruleGiven (ruleNamed rule)) w work) (ltb gray (n * (w * h)))
 
   by-count : (a : Answer (Unit {0})) → checkCount ceiling w h n ≡ a → scans ≡ bind a (λ _. rest)
   unfolding checkScans
@@ -55,23 +55,23 @@ module _ (ceiling : ℕ) (o : EncodeOptions) (w h n gray work : ℕ) where
     not-known e = by-count (gives tt) c ∙ rw e
 
     module _ (known : knownRule rule ≡ true) where
-      pub not-enough-work : enoughWork (meaning rule) w work ≡ false → scans ≡ refuses 28 0
-      not-enough-work e = by-count (gives tt) c ∙ rw (known, e)
+      pub not-enough-work : enoughWork (ruleGiven (ruleNamed rule)) w work ≡ false → scans ≡ refuses 28 0
+      not-enough-work e = by-count (gives tt) c ∙ rw (e, known)
 
-      module _ (room : enoughWork (meaning rule) w work ≡ true) where
+      module _ (room : enoughWork (ruleGiven (ruleNamed rule)) w work ≡ true) where
         area : 0 < w * h
         area = let s = counted ceiling w h n c in mul-pos (s .wide) (s .high)
 
         pub too-short : gray / (w * h) < n → scans ≡ refuses 22 0
         too-short l =
             let s : gray < n * (w * h) = div-lt-iff-lt-mul {k = w * h} {x = gray} {y = n} area .0 l in
-            by-count (gives tt) c ∙ rw (known, room, lt-ltb gray (n * (w * h)) s)
+            by-count (gives tt) c ∙ rw (room, known, lt-ltb gray (n * (w * h)) s)
 
         pub long-enough : n ≤ gray / (w * h) → scans ≡ gives tt
         long-enough l =
             let s : n * (w * h) ≤ gray = le-or-lt
             (λ s. let b = div-lt-iff-lt-mul {k = w * h} {x = gray} {y = n} area .1 s in omega arith) in
-            by-count (gives tt) c ∙ rw (known, room, le-ltb gray (n * (w * h)) s)
+            by-count (gives tt) c ∙ rw (room, known, le-ltb gray (n * (w * h)) s)
           where
             le-or-lt : (gray < n * (w * h) → ⊥) → n * (w * h) ≤ gray
             le-or-lt f = omega arith
@@ -80,15 +80,16 @@ module _ (ceiling : ℕ) (o : EncodeOptions) (w h n gray work : ℕ) where
   passes p =
       let s = p .sized in
       by-count (gives tt) (accepted ceiling w h n (s .wide) (s .high) (s .some) (s .few))
-      ∙ rw (p .known, p .room, le-ltb gray (n * (w * h)) (p .enough))
+      ∙ rw (p .room, p .known, le-ltb gray (n * (w * h)) (p .enough))
 
   pub passed : scans ≡ gives tt → Passed ceiling rule w h n gray work
   passed e =
-      go (checkCount ceiling w h n) (knownRule rule) (enoughWork (meaning rule) w work) (ltb gray (n * (w * h))) refl refl refl refl
-      (sym (by-count (checkCount ceiling w h n) refl) ∙ e)
+      go (checkCount ceiling w h n) (knownRule rule) (enoughWork (ruleGiven (ruleNamed rule)) w work) (ltb gray (n * (w * h))) refl refl
+      refl refl (sym (by-count (checkCount ceiling w h n) refl) ∙ e)
     where
-      go : (a : Answer (Unit {0})) (b c d : Bool) → checkCount ceiling w h n ≡ a → knownRule rule ≡ b → enoughWork (meaning rule) w work ≡ c
-          → ltb gray (n * (w * h)) ≡ d → bind a (λ _. tests b c d) ≡ gives tt → Passed ceiling rule w h n gray work
+      go : (a : Answer (Unit {0})) (b c d : Bool) → checkCount ceiling w h n ≡ a → knownRule rule ≡ b
+          → enoughWork (ruleGiven (ruleNamed rule)) w work ≡ c → ltb gray (n * (w * h)) ≡ d → bind a (λ _. tests b c d) ≡ gives tt
+          → Passed ceiling rule w h n gray work
       go (refuses code place) b c d p q r s e = zero-one (cc)
       go (gives u) false c d p q r s e = zero-one (cc)
       go (gives u) true false d p q r s e = zero-one (cc)

@@ -11,6 +11,7 @@ use Rattle.laws.proofs.Tests.{zero-one}
 use Rattle.image.specs.Geometry.{planeBytes}
 use Rattle.header.specs.Write.{extHeader}
 use Rattle.options.specs.declared.EncodeOptions.{EncodeOptions}
+use Rattle.rules.specs.Rule.{ruleAsked, ruleGiven}
 use Rattle.quantize.proofs.FramesJoined.{scans-long}
 use Rattle.encoder.specs.File.{fileOf}
 use Rattle.encoder.specs.Make.{checkScans, scanBytes, fileOfScans, Makes}
@@ -30,7 +31,7 @@ module _ (o : EncodeOptions) (w h n : ℕ) (gray text lengths : List ℕ) (work 
   header = extHeader (o .strict) w h (o .ext) text lengths
 
   abbrev bytes : List ℕ
-  bytes = scanBytes (o .quantize) w h gray n
+  bytes = scanBytes (ruleGiven (ruleAsked o)) w h gray n
 
   by-tests : (a : Answer (Unit {0})) → tests ≡ a → file ≡ bind a (λ _. map (λ front. front ++ bytes) header)
   unfolding fileOfScans
@@ -54,7 +55,7 @@ module _ (o : EncodeOptions) (w h n : ℕ) (gray text lengths : List ℕ) (work 
     p = passed 16 o w h n (length gray) (length work) e
 
     body-long : length bytes ≡ n * planeBytes w h
-    body-long = scans-long (o .quantize) w h gray (p .sized .wide) (p .sized .high) n (p .enough)
+    body-long = scans-long (ruleGiven (ruleAsked o)) w h gray (p .sized .wide) (p .sized .high) n (p .enough)
 
     made-as : (r : Answer ℕ) (out out′ : List ℕ) → Emits (fileOf o w h text lengths bytes) r out out′ → Emits file r out out′
     made-as r out out′ m = subst (λ (a : Answer (List ℕ)). Emits a r out out′) (sym (by-tests (gives tt) e)) m
@@ -75,7 +76,7 @@ module _ (o : EncodeOptions) (w h n : ℕ) (gray text lengths : List ℕ) (work 
           }
 
       pub made : (start : ℕ) (mid last : List ℕ) (work′ : List ℤ) → Heads header body (gives start) out mid
-          → PutsScans (o .quantize) w h n gray (midOf start (length mid - start) mid) work last work′
+          → PutsScans (ruleGiven (ruleAsked o)) w h n gray (midOf start (length mid - start) mid) work last work′
           → Makes 16 o w h n gray text lengths out work (gives (start + body)) (putMid start (length mid - start) mid last) work′
       made start mid last work′ c q =
           record {

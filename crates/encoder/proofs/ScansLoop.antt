@@ -7,20 +7,18 @@ use native.Mathlib.Nat.{mul-comm, mul-le-mul-left, mul-le-mul-right}
 use native.Mathlib.Numerals.{add-one}
 use native.Mathlib.Omega.{arith}
 use borrow.Rule.Slice.PartMut.{midOf, putMid}
-use lib.Dec.{eqb}
 use lib.IntN.{ℤ}
 use lib.ListN.{length, take, drop, length-drop}
 use lib.Seq.{sets, length-sets, take-all}
-use Rattle.error.specs.Choice.{if}
-use Rattle.error.specs.Answer.{Answer, gives, refuses}
+use Rattle.error.specs.Answer.{Answer, gives, map}
 use Rattle.error.specs.Emits.{Emits}
 use Rattle.laws.proofs.Runs.{sets-append, sets-front, emits-part}
 use Rattle.image.specs.Geometry.{rowBytes, planeBytes}
 use Rattle.options.specs.declared.Quantize.{Quantize}
-use Rattle.rules.specs.Rule.{meaning, carries}
+use Rattle.rules.specs.Rule.{Rule, carries, ruleNamed, ruleGiven}
 use Rattle.quantize.specs.Finished.{setting, finished}
 use Rattle.quantize.specs.Whole.{quantized, Quantizes}
-use Rattle.quantize.proofs.WholePlanes.{refused-none, plane-long}
+use Rattle.quantize.proofs.WholePlanes.{given-rule, plane-long}
 use Rattle.quantize.proofs.FramesJoined.{scans-none, scans-long, scans-more}
 use Rattle.encoder.specs.Make.{scanBytes}
 use Rattle.encoder.specs.Internal.Scans.{PutsScans}
@@ -31,49 +29,51 @@ pub planes-le : (n w h : ℕ) → 0 < w → n * planeBytes w h ≤ n * (w * h)
 planes-le n w h p = mul-le-mul-left n (mul-le-mul-right h (omega arith))
 
 -- nothing refuses a scan that is there
-module _ {ceiling : ℕ} {rule : Quantize} {w h n gray work : ℕ} (p : Passed ceiling rule w h n gray work) where
+module _ {ceiling : ℕ} {asked : Quantize} {w h n gray work : ℕ} (p : Passed ceiling asked w h n gray work) where
   pub plane-given : (samples : List ℕ) → w * h ≤ length samples
-      → quantized rule w h samples work ≡ gives (finished (setting rule w h 1) (take (w * h) samples))
+      → quantized asked w h samples work ≡ gives (finished (setting (ruleGiven (ruleNamed asked)) w h 1) (take (w * h) samples))
   unfolding quantized
   plane-given samples l =
       let wide = p .sized .wide in
       let high = p .sized .high in
-      ap
-      (λ (code : ℕ). if (eqb code 0) (gives (finished (setting rule w h 1) (take (w * h) samples))) (refuses code 0))
-      (sym (refused-none rule w h (length samples) work (λ z. omega arith) (λ z. omega arith) (p .known) (p .room) l))
+      ap (map (λ (r : Rule). finished (setting r w h 1) (take (w * h) samples)))
+      (given-rule asked w h (length samples) work (λ z. omega arith) (λ z. omega arith) (p .known) (p .room) l)
 
 -- the scans before k are made
-pub record Scanning (rule : Quantize) (w h count : ℕ) (gray : List ℕ) (work₀ : List ℤ) (out₀ : List ℕ) (area plane : ℕ) (work : List ℤ)
+pub record Scanning (asked : Quantize) (w h count : ℕ) (gray : List ℕ) (work₀ : List ℤ) (out₀ : List ℕ) (area plane : ℕ) (work : List ℤ)
     (out : List ℕ) (k : ℕ) : Type 0 where
-  pub passed : Passed 16 rule w h count (length gray) (length work₀)
+  pub passed : Passed 16 asked w h count (length gray) (length work₀)
   pub areaIs : area ≡ w * h
   pub planeIs : plane ≡ planeBytes w h
   pub room : count * planeBytes w h ≤ length out₀
   pub turn : k ≤ count
-  pub nowIs : out ≡ sets out₀ 0 (scanBytes rule w h gray k)
+  pub nowIs : out ≡ sets out₀ 0 (scanBytes (ruleGiven (ruleNamed asked)) w h gray k)
   pub workLong : length work ≡ length work₀
   pub beyond : drop w work ≡ drop w work₀
-  pub spared : carries (meaning rule) ≡ false → work ≡ work₀
+  pub spared : carries (ruleGiven (ruleNamed asked)) ≡ false → work ≡ work₀
 
-pub begun : (rule : Quantize) (w h count : ℕ) (gray : List ℕ) (work : List ℤ) (out : List ℕ) (plane : ℕ)
-    → Passed 16 rule w h count (length gray) (length work) → plane ≡ planeBytes w h → count * planeBytes w h ≤ length out
-    → Scanning rule w h count gray work out (w * h) plane work out 0
-begun rule w h count gray work out plane p e r =
+pub begun : (asked : Quantize) (w h count : ℕ) (gray : List ℕ) (work : List ℤ) (out : List ℕ) (plane : ℕ)
+    → Passed 16 asked w h count (length gray) (length work) → plane ≡ planeBytes w h → count * planeBytes w h ≤ length out
+    → Scanning asked w h count gray work out (w * h) plane work out 0
+begun asked w h count gray work out plane p e r =
     record {
       passed = p;
       areaIs = refl;
       planeIs = e;
       room = r;
       turn = omega arith;
-      nowIs = ap (sets out 0) (sym (scans-none rule w h gray (p .sized .wide) (p .sized .high)));
+      nowIs = ap (sets out 0) (sym (scans-none (ruleGiven (ruleNamed asked)) w h gray (p .sized .wide) (p .sized .high)));
       workLong = refl;
       beyond = refl;
       spared = λ _. refl;
     }
 
-module _ {rule : Quantize} {w h count : ℕ} {gray : List ℕ} {work₀ : List ℤ} {out₀ : List ℕ}
+module _ {asked : Quantize} {w h count : ℕ} {gray : List ℕ} {work₀ : List ℤ} {out₀ : List ℕ}
     {area plane : ℕ} {work : List ℤ} {out : List ℕ} {k : ℕ}
-    (c : Scanning rule w h count gray work₀ out₀ area plane work out k) where
+    (c : Scanning asked w h count gray work₀ out₀ area plane work out k) where
+  abbrev rule : Rule
+  rule = ruleGiven (ruleNamed asked)
+
   abbrev made : List ℕ
   made = scanBytes rule w h gray k
 
@@ -95,8 +95,8 @@ module _ {rule : Quantize} {w h count : ℕ} {gray : List ℕ} {work₀ : List �
 
   pub scanned : (from to : ℕ) (work′ : List ℤ) (r : Answer ℕ) (new : List ℕ) → k < count → from ≡ k * area → to ≡ k * plane
       → length work′ ≡ length work
-      → Quantizes rule w h (take (length gray - from) (drop from gray)) (midOf to (length out - to) out) work r new work′
-      → Scanning rule w h count gray work₀ out₀ area plane work′ (putMid to (length out - to) out new) (k + 1)
+      → Quantizes asked w h (take (length gray - from) (drop from gray)) (midOf to (length out - to) out) work r new work′
+      → Scanning asked w h count gray work₀ out₀ area plane work′ (putMid to (length out - to) out new) (k + 1)
   scanned from to work′ r new l f t n q =
       let wide = c .passed .sized .wide in
       let high = c .passed .sized .high in
@@ -107,9 +107,9 @@ module _ {rule : Quantize} {w h count : ℕ} {gray : List ℕ} {work₀ : List �
       let source : take (length gray - from) (drop from gray) ≡ samples =
       take-all (length gray - from) (drop from gray) (rw (length-drop from gray) (omega arith)) ∙ ap (λ (a : ℕ). drop a gray) m in
       let enough : w * h ≤ length samples = rw (length-drop (k * (w * h)) gray) (omega (arith, i .0, c .areaIs)) in
-      let given : quantized rule w h (take (length gray - from) (drop from gray)) (length work) ≡ gives v =
-      ap (λ (s : List ℕ). quantized rule w h s (length work)) source
-      ∙ ap (quantized rule w h samples) (c .workLong)
+      let given : quantized asked w h (take (length gray - from) (drop from gray)) (length work) ≡ gives v =
+      ap (λ (s : List ℕ). quantized asked w h s (length work)) source
+      ∙ ap (quantized asked w h samples) (c .workLong)
       ∙ plane-given (c .passed) samples enough in
       let long : length v ≡ planeBytes w h = plane-long rule w h wide high samples enough ∙ mul-comm h (rowBytes w) in
       let fits : to + length v ≤ length out = omega (arith, i .1, c .planeIs) in

@@ -18,7 +18,7 @@ use Rattle.options.specs.declared.Quantize.{Quantize}
 use Rattle.options.specs.declared.Quantize.the-variants.{Threshold, Dither, Ordered}
 use Rattle.rules.specs.Bits.{upto, appended}
 use Rattle.rules.specs.Diffusion.{part, value, white, residual, valueFrom, handed, rowValue, above, valueAt}
-use Rattle.rules.specs.Rule.{dot}
+use Rattle.rules.specs.Rule.{dither, dot}
 use Rattle.quantize.specs.Finished.{setting, begunBytes, count, frame, dotOf, finished}
 use Rattle.rules.specs.Packed.{paddedBit, byteAt}
 use Rattle.encoder.specs.Make.{checkScans, fileOfScans}
@@ -57,7 +57,7 @@ two-fronted : extHeader false 2 1 Absent [] [] ≡ gives (0 ∷ 0 ∷ 2 ∷ 1 �
 unfolding mbiBytes groups fieldsBytes
 two-fronted = refl
 
-two-finished : finished (setting Dither 2 1 2) (127 ∷ 128 ∷ 128 ∷ 128 ∷ []) ≡ 0x40 ∷ 0x80 ∷ []
+two-finished : finished (setting dither 2 1 2) (127 ∷ 128 ∷ 128 ∷ 128 ∷ []) ≡ 0x40 ∷ 0x80 ∷ []
 unfolding upto appended part value white residual valueFrom handed rowValue above valueAt dot begunBytes count frame dotOf paddedBit byteAt
     finished
 two-finished = refl

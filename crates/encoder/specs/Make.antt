@@ -11,8 +11,7 @@ use Rattle.error.specs.Choice.{if}
 use Rattle.error.specs.Answer.{Answer, gives, refuses, bind}
 use Rattle.error.specs.Emits.{Emits}
 use Rattle.options.specs.declared.EncodeOptions.{EncodeOptions}
-use Rattle.options.specs.declared.Quantize.{Quantize}
-use Rattle.rules.specs.Rule.{carries, meaning, enoughWork, ruleAsked}
+use Rattle.rules.specs.Rule.{Rule, carries, enoughWork, ruleAsked, ruleGiven}
 use Rattle.quantize.specs.Finished.{setting, finished}
 use Rattle.encoder.specs.File.{checkCount, fileOf}
 
@@ -26,14 +25,14 @@ checkScans ceiling o width height count gray work =
     (refuses 28 0)))
 
 -- so many scans' bytes: what their samples finish
-abbrev pub scanBytes : Quantize → ℕ → ℕ → List ℕ → ℕ → List ℕ
+abbrev pub scanBytes : Rule → ℕ → ℕ → List ℕ → ℕ → List ℕ
 scanBytes rule width height gray count = finished (setting rule width height count) (take (count * (width * height)) gray)
 
 -- the file of the lent scans
 unfoldable pub fileOfScans : ℕ → EncodeOptions → ℕ → ℕ → ℕ → List ℕ → List ℕ → List ℕ → ℕ → Answer (List ℕ)
 fileOfScans ceiling o width height count gray text lengths work =
     bind (checkScans ceiling o width height count (length gray) work)
-    (λ _. fileOf o width height text lengths (scanBytes (o .quantize) width height gray count))
+    (λ _. fileOf o width height text lengths (scanBytes (ruleGiven (ruleAsked o)) width height gray count))
 
 -- the file or the refusal; a work buffer is altered by a rule that keeps carries alone, where nothing is refused, in its first `width`
 -- numbers
@@ -41,5 +40,5 @@ pub record Makes (ceiling : ℕ) (o : EncodeOptions) (width height count : ℕ) 
     (out′ : List ℕ) (work′ : List ℤ) : Type 0 where
   pub emits : Emits (fileOfScans ceiling o width height count gray text lengths (length work)) r out out′
   pub beyond : drop width work′ ≡ drop width work
-  pub spared : carries (meaning (o .quantize)) ≡ false → work′ ≡ work
+  pub spared : carries (ruleGiven (ruleAsked o)) ≡ false → work′ ≡ work
   pub refused : (code place : ℕ) → r ≡ refuses code place → work′ ≡ work

@@ -6,7 +6,7 @@ use ext_write::FieldsCheck;
 use ext_write::PairsBegun;
 use options::EncodeOptions;
 use options::MAX_MADE_FRAMES;
-ghost use Rattle.options.specs.Settings.{madeFrames};
+ghost use Rattle.options.specs.Defaults.{madeFrames};
 ghost use mathlib.Core.Path.{_≡_};
 ghost use Prim.Native.Nat.{_-_};
 ghost use Rattle.error.specs.Answer.{checked};

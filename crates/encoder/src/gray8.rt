@@ -11,13 +11,14 @@ use ext_write::PairsBegun;
 use ext_write::Parameter;
 use image::PlaneLayout;
 use options::EncodeOptions;
-ghost use Rattle.options.specs.Settings.{madeFrames};
+ghost use Rattle.options.specs.Defaults.{madeFrames};
 ghost use mathlib.Core.Path.{_≡_};
 ghost use Prim.Native.Nat.{_*_, _≤_};
 ghost use lib.ListN.{length};
 ghost use Rattle.error.specs.Answer.{checked, gives, written};
 ghost use Rattle.image.specs.Geometry.{planeBytes};
 ghost use Rattle.image.specs.Internal.Parts.{Laid};
+ghost use Rattle.rules.specs.Rule.{ruleAsked, ruleGiven};
 ghost use Rattle.encoder.specs.Make.{checkScans, Makes};
 ghost use Rattle.encoder.specs.Internal.Scans.{PutsScans};
 ghost use Rattle.encoder.specs.Internal.Begin.{BeginsMade};
@@ -64,8 +65,8 @@ fn put_scans(scans: Scans, gray: &[u8], options: EncodeOptions, work: &mut [i16]
     requires { ⌜ checkScans madeFrames options (scans .layout .width) (scans .layout .height) (scans .count) (length (now gray))
         (length (now work)) ≡ gives tt ⌝ }
     requires { ⌜ scans .count * planeBytes (scans .layout .width) (scans .layout .height) ≤ length (now out) ⌝ }
-    ensures { λ r. ⌜ PutsScans (options .quantize) (scans .layout .width) (scans .layout .height) (scans .count) (now (gray .entry))
-        (now (out .entry)) (now (work .entry)) (now (out .exit)) (now (work .exit)) ⌝ }
+    ensures { λ r. ⌜ PutsScans (ruleGiven (ruleAsked options)) (scans .layout .width) (scans .layout .height) (scans .count)
+        (now (gray .entry)) (now (out .entry)) (now (work .entry)) (now (out .exit)) (now (work .exit)) ⌝ }
 {
     let rule = options.quantize;
     let width = scans.layout.width;

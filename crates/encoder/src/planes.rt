@@ -10,7 +10,7 @@ use ext_write::Parameter;
 use image::PixelFormat;
 use image::PlaneLayout;
 use options::EncodeOptions;
-ghost use Rattle.options.specs.Settings.{madeFrames};
+ghost use Rattle.options.specs.Defaults.{madeFrames};
 ghost use mathlib.Core.Path.{_≡_};
 ghost use mathlib.Core.List.{_++_};
 ghost use Prim.Native.Nat.{_*_, _^_, _≤_, _<_};

@@ -18,9 +18,16 @@ abbrev pub StartsBelow : ℕ → List Pair → Type 0
 StartsBelow past [] = Unit {0}
 StartsBelow past (p ∷ ps) = (past < 4096) × StartsBelow (past + pairSize p) ps
 
--- there are fields, their kind is one of the four, and they are within the ceiling
+-- within the ceiling; no fields are, and a single octet is
 abbrev pub Readable : Fields → Type 0
-Readable none = ⊥
+Readable none = Unit {0}
 Readable (bitfield octets) = length octets ≤ 4096
-Readable (reserved kind octet) = (kind ≡ 1) ⊎ (kind ≡ 2)
+Readable (reserved kind octet) = Unit {0}
 Readable (pairs ps) = StartsBelow 0 ps
+
+-- there are fields, and their kind is one of the four
+abbrev pub OfKind : Fields → Type 0
+OfKind none = ⊥
+OfKind (bitfield octets) = Unit {0}
+OfKind (reserved kind octet) = (kind ≡ 1) ⊎ (kind ≡ 2)
+OfKind (pairs ps) = Unit {0}

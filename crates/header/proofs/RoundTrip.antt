@@ -17,7 +17,7 @@ use Rattle.ext.specs.Kinds.{Pair, Fields, none, bitfield, reserved, pairs, fiel
 use Rattle.ext.specs.Classes.{all, isAlphaDigit}
 use Rattle.ext.specs.Read.{readFields}
 use Rattle.ext_write.specs.Write.{fieldsBytes, pairsBytes, checkPair}
-use Rattle.ext_write.specs.Ceiling.{kindOf, Readable}
+use Rattle.ext_write.specs.Ceiling.{kindOf, Readable, OfKind}
 use Rattle.ext_write.proofs.ReadBack.{read-back}
 use Rattle.header.specs.Settings.{Settings, inner, extInner}
 use Rattle.header.specs.Read.{Header, readHeader}
@@ -42,7 +42,7 @@ abbrev pub Fitting : Settings → Bool → Fields → Type 0
 Fitting o strict none = Unit {0}
 Fitting o strict (bitfield octets) = Readable (bitfield octets) × (o .fixZero ≡ false) × (o .honoured ≡ true)
     × (o .classes ≡ true → strict ≡ true)
-Fitting o strict (reserved kind octet) = Readable (reserved kind octet) × (o .fixZero ≡ false) × (o .honoured ≡ true)
+Fitting o strict (reserved kind octet) = OfKind (reserved kind octet) × (o .fixZero ≡ false) × (o .honoured ≡ true)
     × (o .classes ≡ true → strict ≡ true)
 Fitting o strict (pairs ps) = Readable (pairs ps) × (o .fixZero ≡ false) × (o .honoured ≡ true) × (o .classes ≡ true → strict ≡ true)
 
@@ -86,11 +86,11 @@ module _ (o : Settings) (strict : Bool) (w h : ℕ) (f : Fields) (bytes τ : Lis
       (read-written (o .shortest) ((0 ∷ fixByte f ∷ bytes) ++ mbiBytes w) h τ b)
 
   -- the fields, where the reader takes them
-  fields-taken : Readable f → o .honoured ≡ true → (o .classes ≡ true → strict ≡ true) → fieldsBytes strict f ≡ gives bytes
+  fields-taken : OfKind f → Readable f → o .honoured ≡ true → (o .classes ≡ true → strict ≡ true) → fieldsBytes strict f ≡ gives bytes
       → readFields (o .classes) (o .honoured && true) (kindOf f) file 2 ≡ gives (f, 2 + length bytes)
-  fields-taken r t c e =
+  fields-taken k r t c e =
       rw t (ap (λ (l : List ℕ). readFields (o .classes) true (kindOf f) l 2) at-fields
-      ∙ read-back strict (o .classes) c (0 ∷ fixByte f ∷ []) bytes (sizeBytes w h ++ τ) f r e)
+      ∙ read-back strict (o .classes) c (0 ∷ fixByte f ∷ []) bytes (sizeBytes w h ++ τ) f k r e)
 
 -- the bits of the FixHeader byte of a single octet
 reserved-bits : (kind : ℕ) → (kind ≡ 1) ⊎ (kind ≡ 2) → (leb 128 (128 + kind * 32) ≡ true) × ((128 + kind * 32) / 32 % 4 ≡ kind)
@@ -105,11 +105,11 @@ unfolding readFields fieldsBytes
 fields-back o strict w h none bytes τ p e =
     let b : [] ≡ bytes = cc in
     rw (and-false (o .honoured)) (ap (λ (l : List ℕ). gives (none, 2 + length l)) b)
-fields-back o strict w h (bitfield octets) bytes τ p e = fields-taken o strict w h (bitfield octets) bytes τ (p .0) (p .2) (p .3) e
-fields-back o strict w h (pairs ps) bytes τ p e = fields-taken o strict w h (pairs ps) bytes τ (p .0) (p .2) (p .3) e
+fields-back o strict w h (bitfield octets) bytes τ p e = fields-taken o strict w h (bitfield octets) bytes τ tt (p .0) (p .2) (p .3) e
+fields-back o strict w h (pairs ps) bytes τ p e = fields-taken o strict w h (pairs ps) bytes τ tt (p .0) (p .2) (p .3) e
 fields-back o strict w h (reserved kind octet) bytes τ p e =
     let b = reserved-bits kind (p .0) in
-    rw (b .0, b .1) (fields-taken o strict w h (reserved kind octet) bytes τ (p .0) (p .2) (p .3) e)
+    rw (b .0, b .1) (fields-taken o strict w h (reserved kind octet) bytes τ (p .0) tt (p .2) (p .3) e)
 
 -- no reader that takes the fields asks for a FixHeader byte of 0
 fix-taken : (o : Settings) (strict : Bool) (f : Fields) → Fitting o strict f → (o .fixZero && ltb 0 (fixByte f)) ≡ false

@@ -3,7 +3,7 @@ use mathlib.Core.Path.{_≡_, refl}
 use Rattle.error.specs.Answer.{gives, refuses}
 use Rattle.image.specs.declared.PixelFormat.the-variants.{MonoBlack}
 use Rattle.options.specs.Limits.{absent, atMost, lenient, Decoding, checkLimits}
-use Rattle.options.specs.Settings.{defaults, withMaxPixels}
+use Rattle.options.specs.Defaults.{defaults, withMaxPixels}
 use Rattle.options.proofs.SettingsSame.{settings}
 
 -- 9 by 2 dots in 4 bytes

@@ -2,7 +2,7 @@
 use mathlib.Core.Path.{_≡_, ap, _∙_}
 use Rattle.image.specs.declared.PixelFormat.{PixelFormat}
 use Rattle.options.specs.Limits.{Bound, Mode, Decoding}
-use Rattle.options.specs.Settings.{defaults, withMaxWidth, withMaxHeight, withMaxPixels, withMaxBytes}
+use Rattle.options.specs.Defaults.{defaults, withMaxWidth, withMaxHeight, withMaxPixels, withMaxBytes}
 
 abbrev pub settings : Bound → Bound → Bound → Bound → Mode → PixelFormat → Decoding
 settings width height pixels bytes m f =

@@ -11,7 +11,7 @@ ghost use mathlib.Core.Path.{_≡_};
 ghost use mathlib.Core.Bool.{false};
 ghost use Rattle.error.specs.Answer.{checked, refuses};
 ghost use Rattle.options.specs.Limits.{admits, checkLimits, absent, atMost, boundOf, strictly, modeOf, decoding};
-ghost use Rattle.options.specs.Settings;
+ghost use Rattle.options.specs.Defaults;
 
 pub mod limits;
 
@@ -77,7 +77,7 @@ pub struct DecodeOptions {
 impl DecodeOptions {
     // 1,073,741,824 bytes at most, no other limit, lenient, MonoBlack.
     pub fn new() -> DecodeOptions
-        ensures { λ r. ⌜ decoding r ≡ Settings.defaults ⌝ }
+        ensures { λ r. ⌜ decoding r ≡ Defaults.defaults ⌝ }
     {
         DecodeOptions {
             max_width: Limit::absent(),
@@ -90,35 +90,35 @@ impl DecodeOptions {
     }
 
     pub fn with_max_width(mut self, max_width: Limit) -> DecodeOptions
-        ensures { λ r. ⌜ decoding r ≡ Settings.withMaxWidth (boundOf «max_width») (decoding self) ⌝ }
+        ensures { λ r. ⌜ decoding r ≡ Defaults.withMaxWidth (boundOf «max_width») (decoding self) ⌝ }
     {
         self.max_width = max_width;
         self
     }
 
     pub fn with_max_height(mut self, max_height: Limit) -> DecodeOptions
-        ensures { λ r. ⌜ decoding r ≡ Settings.withMaxHeight (boundOf «max_height») (decoding self) ⌝ }
+        ensures { λ r. ⌜ decoding r ≡ Defaults.withMaxHeight (boundOf «max_height») (decoding self) ⌝ }
     {
         self.max_height = max_height;
         self
     }
 
     pub fn with_max_pixels(mut self, max_pixels: Limit) -> DecodeOptions
-        ensures { λ r. ⌜ decoding r ≡ Settings.withMaxPixels (boundOf «max_pixels») (decoding self) ⌝ }
+        ensures { λ r. ⌜ decoding r ≡ Defaults.withMaxPixels (boundOf «max_pixels») (decoding self) ⌝ }
     {
         self.max_pixels = max_pixels;
         self
     }
 
     pub fn with_max_bytes(mut self, max_bytes: Limit) -> DecodeOptions
-        ensures { λ r. ⌜ decoding r ≡ Settings.withMaxBytes (boundOf «max_bytes») (decoding self) ⌝ }
+        ensures { λ r. ⌜ decoding r ≡ Defaults.withMaxBytes (boundOf «max_bytes») (decoding self) ⌝ }
     {
         self.max_bytes = max_bytes;
         self
     }
 
     fn with_mode(mut self, mode: DecodeMode) -> DecodeOptions
-        ensures { λ r. ⌜ decoding r ≡ Settings.withMode (modeOf mode) (decoding self) ⌝ }
+        ensures { λ r. ⌜ decoding r ≡ Defaults.withMode (modeOf mode) (decoding self) ⌝ }
     {
         let max_width = self.max_width;
         let max_height = self.max_height;
@@ -137,7 +137,7 @@ impl DecodeOptions {
     }
 
     pub fn with_strict(mut self, strict: bool) -> DecodeOptions
-        ensures { λ r. ⌜ decoding r ≡ Settings.withStrict strict (decoding self) ⌝ }
+        ensures { λ r. ⌜ decoding r ≡ Defaults.withStrict strict (decoding self) ⌝ }
     {
         let mode = DecodeMode::from_strict(strict);
         self = self.with_mode(mode);
@@ -145,7 +145,7 @@ impl DecodeOptions {
     }
 
     pub fn with_format(mut self, format: PixelFormat) -> DecodeOptions
-        ensures { λ r. ⌜ decoding r ≡ Settings.withFormat format (decoding self) ⌝ }
+        ensures { λ r. ⌜ decoding r ≡ Defaults.withFormat format (decoding self) ⌝ }
     {
         let max_width = self.max_width;
         let max_height = self.max_height;
@@ -165,7 +165,7 @@ impl DecodeOptions {
 
     // Every limit is lifted.
     pub fn unlimited(mut self) -> DecodeOptions
-        ensures { λ r. ⌜ decoding r ≡ Settings.unlimited (decoding self) ⌝ }
+        ensures { λ r. ⌜ decoding r ≡ Defaults.unlimited (decoding self) ⌝ }
     {
         self.max_width = Limit::absent();
         self.max_height = Limit::absent();

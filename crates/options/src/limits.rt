@@ -3,7 +3,7 @@ use crate::DecodeOptions;
 use crate::Limit;
 ghost use mathlib.Core.Path.{_≡_};
 ghost use Rattle.options.specs.Limits.{decoding};
-ghost use Rattle.options.specs.Settings.{fromLimits, limitsDefault, limitsUnbounded};
+ghost use Rattle.options.specs.Defaults.{fromLimits, limitsDefault, limitsUnbounded};
 
 pub struct WbmpLimits {
     pub max_width: u32,

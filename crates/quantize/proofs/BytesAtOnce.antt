@@ -11,13 +11,13 @@ use lib.IntN.{ℤ}
 use lib.ListN.{length, getD, take, drop, length-append, length-drop}
 use lib.Seq.{take-all, drop-length, drop-drop}
 use Rattle.quantize.specs.declared.engine.Quantizer.{Quantizer}
-use Rattle.quantize.specs.declared.turn.Advanced.{Advanced}
+use Rattle.quantize.specs.declared.turn.ByteTaken.{ByteTaken}
 use Rattle.quantize.specs.declared.turn.BytesFilled.{BytesFilled}
 use Rattle.quantize.specs.declared.turn.Place.{Place}
 use Rattle.rules.specs.Rule.{Rule}
 use Rattle.quantize.specs.Finished.{Bytewise}
 use Rattle.dither.specs.Internal.Kernels.{Dots}
-use Rattle.quantize.specs.Internal.Turn.{ruleOf, Sound, Dotted, Advances, RowFilled}
+use Rattle.quantize.specs.Internal.Turn.{ruleOf, Sound, Dotted, AdvancesPlace, RowFilled}
 use Rattle.dither.specs.Internal.Row.{Bytes}
 use Rattle.quantize.proofs.PlaceAdvanced.{advances-byte}
 use Rattle.rules.proofs.ListPiece.{piece, piece-length}
@@ -55,7 +55,7 @@ module _ (q : Quantizer) (high : q .height < 2 ^ 64) where
     none : p .begun ≡ 0
     none = let b : p .begun < 2 ^ 0 = subst (λ (k : ℕ). p .begun < 2 ^ k) aligned (so .begunSmall) in omega arith
 
-    abbrev next : Advanced
+    abbrev next : ByteTaken
     next =
         record {
           place = record { frames = p .frames; row = p .row; column = p .column + 8; begun = 0; corner = corner′ };
@@ -67,7 +67,7 @@ module _ (q : Quantizer) (high : q .height < 2 ^ 64) where
         (record { digits = byte; corner = corner′ }) work′
     dotted = rw none dots
 
-    advances : Advances (q .width) (q .height) (p .frames) (p .row) (p .column) 8 byte next
+    advances : AdvancesPlace (q .width) (q .height) (p .frames) (p .row) (p .column) 8 byte next
     advances =
         let z : 8 - (p .column % 8 + 8) ≡ 0 = omega arith in
         advances-byte (q .width) (q .height) (p .frames) (p .row) (p .column) 8 byte corner′ byte

@@ -14,13 +14,14 @@ use Rattle.options.specs.declared.Quantize.the-variants.{Threshold, Dither, Ord
 use Rattle.dither.specs.declared.dots.RowDots.{RowDots}
 use Rattle.rules.specs.Bits.{bit, appended}
 use Rattle.rules.specs.Ordered.{bound, knownSide}
-use Rattle.rules.specs.Rule.{threshold, ordered, meaning, knownRule, carries, enoughWork}
+use Rattle.rules.specs.Rule.{threshold, ordered, knownRule, carries, enoughWork, ruleNamed, ruleGiven}
 use Rattle.dither.specs.Internal.Carry.{Carry, machineDot, next}
 use Rattle.rules.specs.Internal.Kernels.{thresholdBit}
 use Rattle.dither.specs.Internal.Kernels.{rowCarry, rowBit, carryOf, Diffuses}
 use Rattle.ordered.specs.Internal.Sides.{orderedBit}
 use Rattle.quantize.specs.Internal.Turn.{ruleOf, Dotted, Served}
 use Rattle.rules.proofs.DigitsAppended.{appended-ext}
+use Rattle.rules.proofs.RuleAsked.{side-spares}
 use Rattle.ordered.proofs.OrderedNumbers.{known-small, cell-front}
 
 module _ (w y x : ℕ) (gray : List ℕ) (c : Carry) where
@@ -81,17 +82,18 @@ module _ (rule : Quantize) (table : List ℕ) (w y x : ℕ) (gray : List ℕ) (b
 
 -- what the rule needs, once it is known
 pub served-dither : (rule : Quantize) (w work : ℕ) → rule ≡ Dither → Served rule w work → 2 * w ≤ work
-served-dither rule w work e s = leb-true (2 * w) work (subst (λ (r : Quantize). enoughWork (meaning r) w work ≡ true) e (s .room))
+served-dither rule w work e s =
+    leb-true (2 * w) work (subst (λ (r : Quantize). enoughWork (ruleGiven (ruleNamed r)) w work ≡ true) e (s .room))
 
 pub served-ordered : (rule : Quantize) (w work side : ℕ) → rule ≡ Ordered side → Served rule w work → knownSide side ≡ true
 served-ordered rule w work side e s = subst (λ (r : Quantize). knownRule r ≡ true) e (s .known)
 
 -- with whatever table
-pub carries-same : (rule : Quantize) (table : List ℕ) → carries (ruleOf rule table) ≡ carries (meaning rule)
+pub carries-same : (rule : Quantize) (table : List ℕ) → carries (ruleOf rule table) ≡ carries (ruleGiven (ruleNamed rule))
 carries-same (Threshold t) table = refl
 carries-same Dither table = refl
-carries-same (Ordered side) table = refl
+carries-same (Ordered side) table = sym (side-spares side)
 
 pub enough-work-same : (rule : Quantize) (table : List ℕ) (w work : ℕ)
-    → enoughWork (ruleOf rule table) w work ≡ enoughWork (meaning rule) w work
+    → enoughWork (ruleOf rule table) w work ≡ enoughWork (ruleGiven (ruleNamed rule)) w work
 enough-work-same rule table w work = ap (λ (b : Bool). if b (leb (2 * w) work) true) (carries-same rule table)

@@ -21,7 +21,7 @@ use Rattle.rules.specs.Packed.{byteAt}
 use Rattle.quantize.specs.Internal.Machine.{State, Step, byteStep, stepOf, carried, emitted}
 use Rattle.dither.specs.Internal.Carry.{machineDot, next}
 use Rattle.quantize.specs.Internal.Place.{begunBy, Begun}
-use Rattle.quantize.specs.Internal.Engine.{Begins, Keeps}
+use Rattle.quantize.specs.Internal.Engine.{BeginsByte, KeptAfter}
 use Rattle.dither.proofs.HeldRange.{Held}
 use Rattle.quantize.proofs.Places.{bytewise, on-column, end-column, count-last, count-open}
 use Rattle.quantize.proofs.BytePacked.{begun-none, begun-ext, begun-more, byte-last, begun-on}
@@ -45,7 +45,7 @@ module _ (s : Setting) (xs : List ℕ) (g : ℕ) (wide : 0 < s .width) (high : 0
   long : length joint ≡ n + 1
   long = length-append xs (g ∷ [])
 
-  module _ (b : Bytewise (s .rule) (n / s .width % s .height)) (begins : Begins s xs st)
+  module _ (b : Bytewise (s .rule) (n / s .width % s .height)) (begins : BeginsByte s xs st)
       (dotIs : machineDot (s .rule) (s .width) (n / s .width % s .height) (n % s .width) g (st .carry)
       ≡ dot (s .rule) (s .width) (frame (s .width) (s .height) joint (n / s .width / s .height)) (n % s .width)
       (n / s .width % s .height)) where
@@ -66,7 +66,7 @@ module _ (s : Setting) (xs : List ℕ) (g : ℕ) (wide : 0 < s .width) (high : 0
         (bit (machineDot (s .rule) (s .width) (n / s .width % s .height) (n % s .width) g (st .carry))) begun-same (ap bit dotIs)
 
     abbrev Done : Step → Type 0
-    Done p = Begins s joint (p .state) × (finished s joint ≡ finished s xs ++ p .bytes)
+    Done p = BeginsByte s joint (p .state) × (finished s joint ≡ finished s xs ++ p .bytes)
 
     -- the byte is finished, or goes on
     pub byte-done : Done step
@@ -106,7 +106,7 @@ module _ (s : Setting) (xs : List ℕ) (g : ℕ) (wide : 0 < s .width) (high : 0
 
 -- what a sample of the rule leaves, and the bytes that it finishes
 record Follows (rule : Rule) (w h frames : ℕ) (xs : List ℕ) (g : ℕ) (st : State) : Type 0 where
-  keeps : Keeps rule (record { rule = rule; width = w; height = h; frames = frames }) (xs ++ (g ∷ []))
+  keeps : KeptAfter rule (record { rule = rule; width = w; height = h; frames = frames }) (xs ++ (g ∷ []))
       (stepOf rule w (length xs / w % h) (length xs % w) g st .state)
   cornerHeld : Held (stepOf rule w (length xs / w % h) (length xs % w) g st .state .carry .corner)
   bytesAre : finished (record { rule = rule; width = w; height = h; frames = frames }) (xs ++ (g ∷ []))
@@ -115,7 +115,7 @@ record Follows (rule : Rule) (w h frames : ℕ) (xs : List ℕ) (g : ℕ) (st : 
 
 follow : (rule : Rule) (w h frames : ℕ) (xs : List ℕ) (g : ℕ) (st : State) → 0 < w → 0 < h → g < 256
     → enoughWork rule w (length (st .carry .kept)) ≡ true → Held (st .carry .corner)
-    → Keeps rule (record { rule = rule; width = w; height = h; frames = frames }) xs st → Follows rule w h frames xs g st
+    → KeptAfter rule (record { rule = rule; width = w; height = h; frames = frames }) xs st → Follows rule w h frames xs g st
 unfolding stepOf next machineDot dot
 follow (threshold t) w h frames xs g st wide high byte room small k =
     let s : Setting = record { rule = threshold t; width = w; height = h; frames = frames } in
@@ -150,7 +150,7 @@ follow (ordered side table) w h frames xs g st wide high byte room small k =
 module _ (s : Setting) (xs samples : List ℕ) (st : State) (wide : 0 < s .width) (high : 0 < s .height)
     (octets : (i : ℕ) → getD samples i 0 < 256)
     (room : enoughWork (s .rule) (s .width) (length (st .carry .kept)) ≡ true) (small : Held (st .carry .corner))
-    (k : Keeps (s .rule) s xs st) where
+    (k : KeptAfter (s .rule) s xs st) where
   abbrev at : ℕ → State
   at i = carried s (length xs) st samples i
 
@@ -167,7 +167,7 @@ module _ (s : Setting) (xs samples : List ℕ) (st : State) (wide : 0 < s .width
   room-at i = rw (carried-long s (length xs) st samples i) room
 
   pub record Kept (i : ℕ) : Type 0 where
-    pub keeps : Keeps (s .rule) s (joined i) (at i)
+    pub keeps : KeptAfter (s .rule) s (joined i) (at i)
     pub cornerHeld : Held (at i .carry .corner)
     pub bytesAre : finished s (joined i) ≡ finished s xs ++ emitted s (length xs) st samples i
 
@@ -189,7 +189,8 @@ module _ (s : Setting) (xs samples : List ℕ) (st : State) (wide : 0 < s .width
       rw e in
       record {
         keeps =
-            rw (joined-more i h) (subst (λ (p : Step). Keeps (s .rule) s (joined i ++ (getD samples i 0 ∷ [])) (p .state)) E (F .keeps));
+            rw (joined-more i h) (subst (λ (p : Step). KeptAfter (s .rule) s (joined i ++ (getD samples i 0 ∷ [])) (p .state)) E
+            (F .keeps));
         cornerHeld = subst (λ (p : Step). Held (p .state .carry .corner)) E (F .cornerHeld);
         bytesAre =
             rw (joined-more i h, ← e, F .bytesAre, I .bytesAre)

@@ -12,7 +12,7 @@ use Rattle.quantize.specs.declared.engine.Spot.{Spot}
 use Rattle.rules.specs.Rule.{Rule, enoughWork}
 use Rattle.quantize.specs.Finished.{Setting, wholeFrames}
 use Rattle.quantize.specs.Internal.Place.{At}
-use Rattle.quantize.specs.Internal.Engine.{Stands, spotOf, roomFor, behindFrames}
+use Rattle.quantize.specs.Internal.Engine.{QuantizerAt, spotOf, roomFor, behindFrames}
 use Rattle.quantize.proofs.DotsByRule.{enough-work-same}
 use Rattle.rules.proofs.PlaneBytes.{mod-at, div-at}
 
@@ -73,7 +73,7 @@ module _ (s : Setting) (n frames row column : ℕ) (a : At s n frames row column
     no-frame l = rw (le-ltb 0 n (none l))
 
 -- what the engine's own place says of the samples behind it
-pub frames-behind : (q : Quantizer) (s : Setting) (n : ℕ) → Stands q s n → behindFrames q (s .frames) ≡ wholeFrames s n
+pub frames-behind : (q : Quantizer) (s : Setting) (n : ℕ) → QuantizerAt q s n → behindFrames q (s .frames) ≡ wholeFrames s n
 frames-behind q s n t = go (q .place .row) (q .place .column) (t .at)
   where
     f : ℕ
@@ -89,7 +89,7 @@ frames-behind q s n t = go (q .place .row) (q .place .column) (t .at)
     go (suc row) column a = rw (ne-eqb (suc row) 0 (λ e. omega arith)) (in-frame s n f (suc row) column a (λ e. omega arith))
 
 -- and its rule and width of the room
-pub room-behind : (q : Quantizer) (s : Setting) (n work : ℕ) → Stands q s n → roomFor q work ≡ enoughWork (s .rule) (s .width) work
+pub room-behind : (q : Quantizer) (s : Setting) (n work : ℕ) → QuantizerAt q s n → roomFor q work ≡ enoughWork (s .rule) (s .width) work
 room-behind q s n work t =
     sym (enough-work-same (q .rule) (q .table) (q .width) work)
     ∙ ap (λ (x : Rule). enoughWork x (q .width) work) (sym (t .rule))

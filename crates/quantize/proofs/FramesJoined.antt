@@ -12,8 +12,7 @@ use lib.ListN.{length, getD, take, drop, length-append}
 use lib.Seq.{take-add, getD-append-add, length-take-le}
 use Rattle.error.specs.Choice.{if}
 use Rattle.image.specs.Geometry.{rowBytes, planeBytes}
-use Rattle.options.specs.declared.Quantize.{Quantize}
-use Rattle.options.specs.declared.Quantize.the-variants.{Dither}
+use Rattle.rules.specs.Rule.{Rule, dither}
 use Rattle.rules.specs.Bits.{upto}
 use Rattle.quantize.specs.Finished.{Setting, count, frame, dotOf, finished, setting}
 use Rattle.rules.specs.Packed.{paddedBit, byteAt}
@@ -95,11 +94,11 @@ module _ (s : Setting) (xs ys : List ℕ) (k : ℕ) (wide : 0 < s .width) (high 
 -- ---- scans end to end
 
 -- what is finished does not depend on how many frames there may be
-pub finished-frames : (rule : Quantize) (w h m n : ℕ) (xs : List ℕ) → finished (setting rule w h m) xs ≡ finished (setting rule w h n) xs
+pub finished-frames : (rule : Rule) (w h m n : ℕ) (xs : List ℕ) → finished (setting rule w h m) xs ≡ finished (setting rule w h n) xs
 unfolding finished count dotOf
 finished-frames rule w h m n xs = refl
 
-module _ (rule : Quantize) (w h : ℕ) (gray : List ℕ) (wide : 0 < w) (high : 0 < h) where
+module _ (rule : Rule) (w h : ℕ) (gray : List ℕ) (wide : 0 < w) (high : 0 < h) where
   scans-whole : (k : ℕ) → k * (w * h) ≤ length gray → length (take (k * (w * h)) gray) ≡ k * h * w
   scans-whole k l = let e : k * (w * h) ≡ k * h * w = omega arith in length-take-le (k * (w * h)) gray l ∙ e
 
@@ -135,9 +134,9 @@ module _ (rule : Quantize) (w h : ℕ) (gray : List ℕ) (wide : 0 < w) (high : 
       ∙ ap (λ (l : List ℕ). finished (setting rule w h k) xs ++ l) (finished-frames rule w h k 1 ys)
 
 -- an example: two scans of two samples
-two-scans : finished (setting Dither 2 1 2) (127 ∷ 128 ∷ 128 ∷ 128 ∷ [])
-    ≡ finished (setting Dither 2 1 1) (127 ∷ 128 ∷ []) ++ finished (setting Dither 2 1 1) (128 ∷ 128 ∷ [])
-two-scans = scans-more Dither 2 1 (127 ∷ 128 ∷ 128 ∷ 128 ∷ []) (omega arith) (omega arith) 1 (omega arith)
+two-scans : finished (setting dither 2 1 2) (127 ∷ 128 ∷ 128 ∷ 128 ∷ [])
+    ≡ finished (setting dither 2 1 1) (127 ∷ 128 ∷ []) ++ finished (setting dither 2 1 1) (128 ∷ 128 ∷ [])
+two-scans = scans-more dither 2 1 (127 ∷ 128 ∷ 128 ∷ 128 ∷ []) (omega arith) (omega arith) 1 (omega arith)
 
-two-long : length (finished (setting Dither 2 1 2) (127 ∷ 128 ∷ 128 ∷ 128 ∷ [])) ≡ 2
-two-long = scans-long Dither 2 1 (127 ∷ 128 ∷ 128 ∷ 128 ∷ []) (omega arith) (omega arith) 2 (omega arith)
+two-long : length (finished (setting dither 2 1 2) (127 ∷ 128 ∷ 128 ∷ 128 ∷ [])) ≡ 2
+two-long = scans-long dither 2 1 (127 ∷ 128 ∷ 128 ∷ 128 ∷ []) (omega arith) (omega arith) 2 (omega arith)

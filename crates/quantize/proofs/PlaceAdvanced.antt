@@ -11,16 +11,16 @@ use lib.ListN.{length}
 use lib.Pow.{pow-pos}
 use Rattle.options.specs.declared.Quantize.{Quantize}
 use Rattle.dither.specs.declared.dots.RowDots.{RowDots}
-use Rattle.quantize.specs.declared.turn.Advanced.{Advanced}
+use Rattle.quantize.specs.declared.turn.ByteTaken.{ByteTaken}
 use Rattle.quantize.specs.declared.turn.Place.{Place}
 use Rattle.quantize.specs.Finished.{Setting}
-use Rattle.quantize.specs.Internal.Turn.{Dotted, Advancing, Advances, Takes}
+use Rattle.quantize.specs.Internal.Turn.{Dotted, Advancing, AdvancesPlace, Takes}
 use Rattle.rules.proofs.EntryTold.{never}
 use Rattle.quantize.proofs.Places.{at-inside, at-row, at-frame}
 
 module _ (w h frames row column m digits corner byte : ℕ) (p : Advancing w h frames row column m digits)
     (b : byte ≡ digits * 2 ^ (8 - (column % 8 + m))) where
-  abbrev on : Advanced
+  abbrev on : ByteTaken
   on =
       record {
         place = record { frames = frames; row = row; column = column + m; begun = digits; corner = corner };
@@ -28,7 +28,7 @@ module _ (w h frames row column m digits corner byte : ℕ) (p : Advancing w h f
         whole = false;
       }
 
-  pub advances-on : column + m < w → column % 8 + m < 8 → Advances w h frames row column m digits on
+  pub advances-on : column + m < w → column % 8 + m < 8 → AdvancesPlace w h frames row column m digits on
   advances-on k l =
       let e : (column + m) % 8 ≡ column % 8 + m = omega arith in
       record {
@@ -41,7 +41,7 @@ module _ (w h frames row column m digits corner byte : ℕ) (p : Advancing w h f
       }
 
   pub advances-byte : column + m < w → 8 ≤ column % 8 + m
-      → Advances w h frames row column m digits (record {
+      → AdvancesPlace w h frames row column m digits (record {
         place = record { frames = frames; row = row; column = column + m; begun = 0; corner = corner };
         byte = byte;
         whole = true;
@@ -65,7 +65,7 @@ module _ (w h frames row column m digits corner byte : ℕ) (p : Advancing w h f
     wide = let i = p .inRow in let j = p .some in omega arith
 
     pub advances-row : row + 1 < h
-        → Advances w h frames row column m digits
+        → AdvancesPlace w h frames row column m digits
         (record { place = record { frames = frames; row = row + 1; column = 0; begun = 0; corner = corner }; byte = byte; whole = true })
     advances-row l =
         record {
@@ -78,7 +78,7 @@ module _ (w h frames row column m digits corner byte : ℕ) (p : Advancing w h f
         }
 
     pub advances-frame : h ≤ row + 1
-        → Advances w h frames row column m digits
+        → AdvancesPlace w h frames row column m digits
         (record { place = record { frames = frames - 1; row = 0; column = 0; begun = 0; corner = corner }; byte = byte; whole = true })
     advances-frame l =
         let i = p .inFrame in
@@ -92,15 +92,16 @@ module _ (w h frames row column m digits corner byte : ℕ) (p : Advancing w h f
         }
 
   -- an answer that is one of these
-  pub advanced : (r x : Advanced) → r ≡ x → Advances w h frames row column m digits x → x .place .corner ≡ corner
-      → Advances w h frames row column m digits r × (r .place .corner ≡ corner)
-  advanced r x e a c = subst (λ (r : Advanced). Advances w h frames row column m digits r × (r .place .corner ≡ corner)) (sym e) (a, c)
+  pub advanced : (r x : ByteTaken) → r ≡ x → AdvancesPlace w h frames row column m digits x → x .place .corner ≡ corner
+      → AdvancesPlace w h frames row column m digits r × (r .place .corner ≡ corner)
+  advanced r x e a c = subst (λ (r : ByteTaken). AdvancesPlace w h frames row column m digits r × (r .place .corner ≡ corner)) (sym e)
+      (a, c)
 
 -- what `take` promises, from its dots and its place
 pub takes-dots : (rule : Quantize) (table : List ℕ) (w h : ℕ) (p : Place) (gray : List ℕ) (work : List ℤ) (d : RowDots) (work′ : List ℤ)
-    (r : Advanced)
+    (r : ByteTaken)
     → Dotted rule table w (p .row) (p .column) gray (p .begun) (p .corner) work d work′
-    → Advances w h (p .frames) (p .row) (p .column) (length gray) (d .digits) r → r .place .corner ≡ d .corner
+    → AdvancesPlace w h (p .frames) (p .row) (p .column) (length gray) (d .digits) r → r .place .corner ≡ d .corner
     → Takes rule table w h p gray work r work′
 takes-dots rule table w h p gray work d work′ r o a e =
     record {

@@ -20,7 +20,7 @@ use Rattle.rules.specs.Bits.{upto, bit}
 use Rattle.rules.specs.Diffusion.{white, valueAt}
 use Rattle.rules.specs.Internal.Kernels.{thresholdBit}
 use Rattle.rules.specs.Internal.Planes.{planeWhere, ditherBit}
-use Rattle.rules.specs.Rule.{rightwards, dot}
+use Rattle.rules.specs.Rule.{Rule, threshold, dither, rightwards, dot, ruleNamed, ruleGiven}
 use Rattle.quantize.specs.Finished.{Setting, count, frame, dotOf, finished, setting}
 use Rattle.quantize.specs.Whole.{refusedBy, Quantizes}
 use Rattle.rules.specs.Packed.{paddedBit, byteAt}
@@ -53,7 +53,7 @@ module _ (w h : ℕ) (wide : 0 < w) (d e : ℕ → ℕ) (same : (n : ℕ) → n 
 
 -- ---- one frame
 
-module _ (rule : Quantize) (w h : ℕ) (gray : List ℕ) (wide : 0 < w) (high : 0 < h) (enough : w * h ≤ length gray) where
+module _ (rule : Rule) (w h : ℕ) (gray : List ℕ) (wide : 0 < w) (high : 0 < h) (enough : w * h ≤ length gray) where
   abbrev s : Setting
   s = setting rule w h 1
 
@@ -77,10 +77,10 @@ module _ (rule : Quantize) (w h : ℕ) (gray : List ℕ) (wide : 0 < w) (high : 
 -- ---- the rules
 
 pub threshold-plane : (t w h : ℕ) (gray : List ℕ) → 0 < w → 0 < h → w * h ≤ length gray
-    → finished (setting (Threshold t) w h 1) (take (w * h) gray) ≡ upto (h * rowBytes w) (byteAt w (thresholdBit t gray))
+    → finished (setting (threshold t) w h 1) (take (w * h) gray) ≡ upto (h * rowBytes w) (byteAt w (thresholdBit t gray))
 unfolding dotOf dot frame
 threshold-plane t w h gray wide high enough =
-    plane-by (Threshold t) w h gray wide high enough _ (λ n l. ap (thresholdBit t gray) (sym (place-of w h n)))
+    plane-by (threshold t) w h gray wide high enough _ (λ n l. ap (thresholdBit t gray) (sym (place-of w h n)))
 
 -- so the plane that the rule writes at once is what a whole call promises
 pub quantizes-threshold : (rule : Quantize) (t w h : ℕ) (gray out : List ℕ) (work : List ℤ) (code : ℕ) → rule ≡ Threshold t
@@ -90,7 +90,8 @@ pub quantizes-threshold : (rule : Quantize) (t w h : ℕ) (gray out : List ℕ) 
 quantizes-threshold rule t w h gray out work code r e z l out′ o =
     let p = passed rule w h (length gray) (length work) (sym z ∙ e) in
     quantizes-plane rule w h gray out work code e z l (thresholdBit t gray) out′ work
-    (ap (λ (q : Quantize). finished (setting q w h 1) (take (w * h) gray)) r ∙ threshold-plane t w h gray (p .wide) (p .high) (p .enough))
+    (ap (λ (q : Quantize). finished (setting (ruleGiven (ruleNamed q)) w h 1) (take (w * h) gray)) r
+    ∙ threshold-plane t w h gray (p .wide) (p .high) (p .enough))
     o refl (λ _. refl)
 
 frame-first : (w h : ℕ) (gray : List ℕ) → frame w h gray 0 ≡ (λ x y. getD gray (y * w + x) 0)
@@ -101,11 +102,11 @@ frame-first w h gray =
     ap (λ (i : ℕ). getD gray i 0) e))
 
 pub dither-plane : (w h : ℕ) (gray : List ℕ) → 0 < w → 0 < h → w * h ≤ length gray
-    → finished (setting Dither w h 1) (take (w * h) gray)
+    → finished (setting dither w h 1) (take (w * h) gray)
     ≡ upto (h * rowBytes w) (byteAt w (λ n. bit (white (valueAt rightwards w (λ x y. getD gray (y * w + x) 0) (n % w) (n / w)))))
 unfolding dotOf dot
 dither-plane w h gray wide high enough =
-    plane-by Dither w h gray wide high enough _
+    plane-by dither w h gray wide high enough _
     (λ n l.
     let q : n / w < h = div-lt-iff-lt-mul wide .1 l in
     rw (div-eq-of-lt q, mod-eq-of-lt q, frame-first w h gray))

@@ -15,11 +15,11 @@ use Rattle.options.specs.declared.Quantize.{Quantize}
 use Rattle.quantize.specs.declared.engine.Quantizer.{Quantizer}
 use Rattle.quantize.specs.declared.engine.RunEnded.{RunEnded}
 use Rattle.quantize.specs.declared.turn.Place.{Place}
-use Rattle.rules.specs.Rule.{Rule, meaning, knownRule, enoughWork}
+use Rattle.rules.specs.Rule.{Rule, knownRule, enoughWork, ruleNamed, ruleGiven}
 use Rattle.quantize.specs.Finished.{Setting, Bytewise, count, finished, takes}
 use Rattle.quantize.specs.Internal.Machine.{State, carried, emitted}
 use Rattle.quantize.specs.Internal.Turn.{stateOf, ruleOf, Sound, SamplesForByte, Served}
-use Rattle.quantize.specs.Internal.Engine.{Stands, Keeps, Holds, Counts, Machines, Defined, Ready, Runs, ranTo}
+use Rattle.quantize.specs.Internal.Engine.{QuantizerAt, KeptAfter, QuantizerAfter, Counts, Machines, Defined, Ready, Runs, ranTo}
 use Rattle.dither.proofs.HeldRange.{Held}
 use Rattle.quantize.proofs.DotsByRule.{enough-work-same}
 use Rattle.quantize.proofs.TakenMost.{takes-all, next-byte}
@@ -32,9 +32,9 @@ use Rattle.quantize.proofs.RunLoop.{Loop}
 
 not-enough-work : (rule : Quantize) (table : List ℕ) (w work : ℕ) → knownRule rule ≡ true → (Served rule w work → ⊥)
     → enoughWork (ruleOf rule table) w work ≡ false
-not-enough-work rule table w work k h = enough-work-same rule table w work ∙ go (enoughWork (meaning rule) w work) refl
+not-enough-work rule table w work k h = enough-work-same rule table w work ∙ go (enoughWork (ruleGiven (ruleNamed rule)) w work) refl
   where
-    go : (b : Bool) → enoughWork (meaning rule) w work ≡ b → b ≡ false
+    go : (b : Bool) → enoughWork (ruleGiven (ruleNamed rule)) w work ≡ b → b ≡ false
     go true e = absurd (h (record { known = k; room = e }))
     go false e = refl
 
@@ -42,10 +42,10 @@ not-enough-work rule table w work k h = enough-work-same rule table w work ∙ g
 
 module _ (q : Quantizer) (samples out : List ℕ) (work : List ℤ) (r : RunEnded) (out′ : List ℕ) (work′ : List ℤ)
     (fits : r .taken ≤ length samples) (octets : (i : ℕ) → getD samples i 0 < 256)
-    (counts : (s : Setting) (n : ℕ) → Stands q s n → Counts q s n (length samples) (length out) (length work) r)
-    (machine : (s : Setting) (n : ℕ) → Stands q s n → Machines q s n samples out work r out′ work′)
-    (room : (s : Setting) (n : ℕ) → Stands q s n → 0 < r .taken → enoughWork (s .rule) (s .width) (length work) ≡ true) where
-  module _ (s : Setting) (xs : List ℕ) (H : Holds q work s xs) where
+    (counts : (s : Setting) (n : ℕ) → QuantizerAt q s n → Counts q s n (length samples) (length out) (length work) r)
+    (machine : (s : Setting) (n : ℕ) → QuantizerAt q s n → Machines q s n samples out work r out′ work′)
+    (room : (s : Setting) (n : ℕ) → QuantizerAt q s n → 0 < r .taken → enoughWork (s .rule) (s .width) (length work) ≡ true) where
+  module _ (s : Setting) (xs : List ℕ) (H : QuantizerAfter q work s xs) where
     abbrev n : ℕ
     n = length xs
 
@@ -72,7 +72,7 @@ module _ (q : Quantizer) (samples out : List ℕ) (work : List ℤ) (r : RunEnde
 
     -- what t samples leave and finish
     record Follows (t : ℕ) : Type 0 where
-      keeps : Keeps (s .rule) s (xs ++ take t samples) (carried s n st samples t)
+      keeps : KeptAfter (s .rule) s (xs ++ take t samples) (carried s n st samples t)
       bytesAre : finished s (xs ++ take t samples) ≡ finished s xs ++ emitted s n st samples t
 
     none : Follows 0
@@ -98,7 +98,7 @@ module _ (q : Quantizer) (samples out : List ℕ) (work : List ℤ) (r : RunEnde
           holds =
               record {
                 stands = rw long (counts s n (H .stands) .stands);
-                keeps = subst (λ (t : State). Keeps (s .rule) s joined t) (M .keeps) (follows .keeps);
+                keeps = subst (λ (t : State). KeptAfter (s .rule) s joined t) (M .keeps) (follows .keeps);
               };
         }
 
@@ -123,7 +123,7 @@ runs-none q samples out work octets h =
           (λ s n t l. let f : ⊥ = omega arith in absurd f);
     }
   where
-    unserved : (s : Setting) (n : ℕ) → Stands q s n → Served (q .rule) (q .width) (length work) → ⊥
+    unserved : (s : Setting) (n : ℕ) → QuantizerAt q s n → Served (q .rule) (q .width) (length work) → ⊥
     unserved s n t k =
         let a = t .at .inRow in
         let b = t .at .inFrame in
@@ -131,7 +131,7 @@ runs-none q samples out work octets h =
         let g = t .height in
         h (record { inRow = omega arith; inFrame = omega arith; cornerSmall = t .cornerSmall; begunSmall = t .begunSmall; served = k })
 
-    counts : (s : Setting) (n : ℕ) → Stands q s n
+    counts : (s : Setting) (n : ℕ) → QuantizerAt q s n
         → Counts q s n (length samples) (length out) (length work) (record { quantizer = q; taken = 0; written = 0 })
     counts s n t =
         record {
@@ -142,7 +142,7 @@ runs-none q samples out work octets h =
           stands = rw add-zero t;
         }
 
-    machine : (s : Setting) (n : ℕ) → Stands q s n
+    machine : (s : Setting) (n : ℕ) → QuantizerAt q s n
         → Machines q s n samples out work (record { quantizer = q; taken = 0; written = 0 }) out work
     machine s n t = record { bytes = refl; keeps = refl }
 
@@ -151,7 +151,8 @@ runs-none q samples out work octets h =
 -- no frame is left, no sample is left, or what the next one finishes does not fit
 abbrev pub Full : Quantizer → List ℕ → List ℕ → Place → ℕ → Type 0
 Full q samples out p taken =
-    (s : Setting) (n : ℕ) → Stands q s n → (p .frames ≤ 0) ⊎ ((length samples ≤ taken) ⊎ (count s n + length out < count s (n + taken + 1)))
+    (s : Setting) (n : ℕ) → QuantizerAt q s n
+    → (p .frames ≤ 0) ⊎ ((length samples ≤ taken) ⊎ (count s n + length out < count s (n + taken + 1)))
 
 -- as `ran` tells it
 pub none-told : (q : Quantizer) (samples out : List ℕ) (work : List ℤ) (r : RunEnded) → r ≡ ranTo q (q .place) 0 0
@@ -169,7 +170,7 @@ module _ (q : Quantizer) (samples out : List ℕ) (work : List ℤ) (out′ : Li
   abbrev ran : RunEnded
   ran = record { quantizer = q′; taken = taken; written = written }
 
-  module _ (s : Setting) (n : ℕ) (t : Stands q s n) where
+  module _ (s : Setting) (n : ℕ) (t : QuantizerAt q s n) where
     P : Moved s n (q .place) samples work taken (take written out′) p work′
     P = L .turn .moves s n (record { rule = t .rule; width = t .width; height = t .height }) (t .at)
 
@@ -202,7 +203,7 @@ module _ (q : Quantizer) (samples out : List ℕ) (work : List ℤ) (out′ : Li
       (sh .all z))
 
   module _ (full : Full q samples out p taken) where
-    counts-is : (s : Setting) (n : ℕ) → Stands q s n → Counts q s n (length samples) (length out) (length work) ran
+    counts-is : (s : Setting) (n : ℕ) → QuantizerAt q s n → Counts q s n (length samples) (length out) (length work) ran
     counts-is s n t =
         record {
           taken = sym (if-true _ _ _ (served s n t)

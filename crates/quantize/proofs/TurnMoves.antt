@@ -10,11 +10,11 @@ use native.Mathlib.Omega.{arith}
 use lib.IntN.{ℤ}
 use lib.ListN.{length, getD, drop}
 use Rattle.quantize.specs.declared.engine.Quantizer.{Quantizer}
-use Rattle.quantize.specs.declared.turn.Advanced.{Advanced}
+use Rattle.quantize.specs.declared.turn.ByteTaken.{ByteTaken}
 use Rattle.quantize.specs.declared.turn.Place.{Place}
 use Rattle.rules.specs.Bits.{appended}
-use Rattle.rules.specs.Rule.{Rule, meaning, carries}
-use Rattle.quantize.specs.Internal.Turn.{Served, stateOf, ruleOf, Sound, Dotted, Advances}
+use Rattle.rules.specs.Rule.{Rule, carries, ruleNamed, ruleGiven}
+use Rattle.quantize.specs.Internal.Turn.{Served, stateOf, ruleOf, Sound, Dotted, AdvancesPlace}
 use Rattle.quantize.specs.Finished.{Setting, Bytewise}
 use Rattle.dither.specs.Internal.Carry.{Carry}
 use Rattle.quantize.specs.Internal.Machine.{State, carried, emitted}
@@ -42,7 +42,7 @@ pub record Turn (q : Quantizer) (p : Place) (xs : List ℕ) (work : List ℤ) (m
   pub sound : Sound (q .rule) (q .width) (q .height) (p′ .row) (p′ .column) (p′ .begun) (p′ .corner) (length work′)
   pub long : length work′ ≡ length work
   pub beyond : drop (q .width) work′ ≡ drop (q .width) work
-  pub spared : carries (meaning (q .rule)) ≡ false → work′ ≡ work
+  pub spared : carries (ruleGiven (ruleNamed (q .rule))) ≡ false → work′ ≡ work
   pub moves : (s : Setting) (n : ℕ) → Suits q s → At s n (p .frames) (p .row) (p .column) → Moved s n p xs work m bytes p′ work′
 
 -- nothing is taken
@@ -84,10 +84,10 @@ module _ (q : Quantizer) (p : Place) (xs gray : List ℕ) (work : List ℤ)
     (left : 0 < p .frames) (m : ℕ) (some : 0 < m) (inRow : p .column + m ≤ q .width) (inByte : p .column % 8 + m ≤ 8)
     (graylong : length gray ≡ m)
     (same : (i : ℕ) → i < m → getD xs i 0 ≡ getD gray i 0) (b : Bytewise (ruleOf (q .rule) (q .table)) (p .row))
-    (digits : ℕ) (work′ : List ℤ) (nx : Advanced)
+    (digits : ℕ) (work′ : List ℤ) (nx : ByteTaken)
     (dt : Dotted (q .rule) (q .table) (q .width) (p .row) (p .column) gray (p .begun) (p .corner) work
     (record { digits = digits; corner = nx .place .corner }) work′)
-    (ad : Advances (q .width) (q .height) (p .frames) (p .row) (p .column) m digits nx) where
+    (ad : AdvancesPlace (q .width) (q .height) (p .frames) (p .row) (p .column) m digits nx) where
   abbrev rule : Rule
   rule = ruleOf (q .rule) (q .table)
 

@@ -10,10 +10,10 @@ use lib.IntN.{ℤ}
 use lib.ListN.{length, getD, drop, set}
 use lib.Seq.{getD-drop}
 use Rattle.quantize.specs.declared.engine.Quantizer.{Quantizer}
-use Rattle.quantize.specs.declared.turn.Advanced.{Advanced}
+use Rattle.quantize.specs.declared.turn.ByteTaken.{ByteTaken}
 use Rattle.quantize.specs.declared.turn.Place.{Place}
 use Rattle.quantize.specs.Finished.{Bytewise}
-use Rattle.quantize.specs.Internal.Turn.{ruleOf, SamplesForByte, Advances, Taking, Takes}
+use Rattle.quantize.specs.Internal.Turn.{ruleOf, SamplesForByte, AdvancesPlace, Taking, Takes}
 use Rattle.laws.proofs.Tests.{lt-or-le}
 use Rattle.rules.proofs.ListPiece.{piece, piece-at, piece-length}
 use Rattle.quantize.proofs.TurnMoves.{turn-on, turn-byte}
@@ -55,9 +55,9 @@ module _ (q : Quantizer) (samples out₀ : List ℕ) (work₀ : List ℤ) (out :
         begunSmall = so .begunSmall;
       }
 
-  module _ (t : Advanced) (work′ : List ℤ) (T : Takes (q .rule) (q .table) (q .width) (q .height) p samples-for-byte work t work′) where
-    advances : Advances (q .width) (q .height) (p .frames) (p .row) (p .column) m (T .digits) t
-    advances = subst (λ (n : ℕ). Advances (q .width) (q .height) (p .frames) (p .row) (p .column) n (T .digits) t) long (T .advances)
+  module _ (t : ByteTaken) (work′ : List ℤ) (T : Takes (q .rule) (q .table) (q .width) (q .height) p samples-for-byte work t work′) where
+    advances : AdvancesPlace (q .width) (q .height) (p .frames) (p .row) (p .column) m (T .digits) t
+    advances = subst (λ (n : ℕ). AdvancesPlace (q .width) (q .height) (p .frames) (p .row) (p .column) n (T .digits) t) long (T .advances)
 
     -- a byte is finished only where there is room for it
     pub took-room : t .whole ≡ true → written < length out

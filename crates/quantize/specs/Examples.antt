@@ -5,30 +5,29 @@ use mathlib.Core.Bool.{true}
 use mathlib.Core.List.{List, [], _∷_}
 use lib.IntN.{pos, negsuc}
 use lib.ListN.{replicate}
-use Rattle.options.specs.declared.Quantize.the-variants.{Threshold, Dither}
 use Rattle.rules.specs.Bits.{upto, appended}
 use Rattle.rules.specs.Diffusion.{part, value, white, residual, valueFrom, handed, rowValue, above, valueAt, residualAt}
 use Rattle.rules.specs.Ordered.{number, numbers}
-use Rattle.rules.specs.Rule.{dither, rightwards, dot}
+use Rattle.rules.specs.Rule.{threshold, dither, rightwards, dot}
 use Rattle.quantize.specs.Finished.{begunBytes, count, frame, dotOf, finished, most, takes, setting}
 use Rattle.rules.specs.Packed.{paddedBit, byteAt}
 
 -- a begun row has finished its whole bytes only, and a full row all of them
-begun : finished (setting (Threshold 128) 9 2 1) (replicate 8 255) ≡ 0xff ∷ []
+begun : finished (setting (threshold 128) 9 2 1) (replicate 8 255) ≡ 0xff ∷ []
 unfolding upto appended dot begunBytes count frame dotOf paddedBit byteAt finished
 begun = refl
 
 -- without room seven samples of eight are taken, and of a narrow row all but the last
-seven-of-eight : takes (setting (Threshold 128) 9 2 1) 0 20 0 ≡ 7
+seven-of-eight : takes (setting (threshold 128) 9 2 1) 0 20 0 ≡ 7
 unfolding begunBytes count most takes
 seven-of-eight = refl
 
-none-of-one : takes (setting (Threshold 128) 1 2 1) 0 20 0 ≡ 0
+none-of-one : takes (setting (threshold 128) 1 2 1) 0 20 0 ≡ 0
 unfolding begunBytes count most takes
 none-of-one = refl
 
 -- the second frame starts clean, and its rows are counted from 0
-second-frame : finished (setting Dither 1 1 2) (127 ∷ 127 ∷ []) ≡ 0x00 ∷ 0x00 ∷ []
+second-frame : finished (setting dither 1 1 2) (127 ∷ 127 ∷ []) ≡ 0x00 ∷ 0x00 ∷ []
 unfolding upto appended part value white residual valueFrom handed rowValue above valueAt dot begunBytes count frame dotOf paddedBit byteAt
     finished
 second-frame = refl

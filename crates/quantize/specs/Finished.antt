@@ -11,8 +11,7 @@ use Rattle.image.specs.Geometry.{rowBytes}
 use Rattle.rules.specs.Bits.{upto, bit}
 use Rattle.rules.specs.Packed.{byteAt}
 use Rattle.rules.specs.Diffusion.{Scan}
-use Rattle.rules.specs.Rule.{Rule, threshold, dither, ordered, dot, meaning}
-use Rattle.options.specs.declared.Quantize.{Quantize}
+use Rattle.rules.specs.Rule.{Rule, threshold, dither, ordered, dot}
 
 -- what samples are quantised for: at most so many frames of width × height
 pub record Setting : Type 0 where
@@ -21,8 +20,8 @@ pub record Setting : Type 0 where
   pub height : ℕ
   pub frames : ℕ
 
-abbrev pub setting : Quantize → ℕ → ℕ → ℕ → Setting
-setting rule w h frames = record { rule = meaning rule; width = w; height = h; frames = frames }
+abbrev pub setting : Rule → ℕ → ℕ → ℕ → Setting
+setting rule w h frames = record { rule = rule; width = w; height = h; frames = frames }
 
 -- how many bytes c samples of a begun row have finished, where the row is row y of its frame: the rule's say
 unfoldable pub begunBytes : Rule → ℕ → ℕ → ℕ

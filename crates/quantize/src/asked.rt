@@ -2,7 +2,7 @@
 use options::Quantize;
 use ordered::known_side;
 ghost use mathlib.Core.Path.{_≡_};
-ghost use Rattle.rules.specs.Rule.{meaning, knownRule, enoughWork};
+ghost use Rattle.rules.specs.Rule.{knownRule, enoughWork, ruleNamed, ruleGiven};
 
 // Whether the rule's side is one of document 01's.
 pub fn known_rule(rule: Quantize) -> bool
@@ -17,7 +17,7 @@ pub fn known_rule(rule: Quantize) -> bool
 
 // Whether a work buffer of so many numbers is long enough.
 pub fn enough_work(rule: Quantize, width: usize, work: usize) -> bool
-    ensures { λ r. ⌜ r ≡ enoughWork (meaning rule) width work ⌝ }
+    ensures { λ r. ⌜ r ≡ enoughWork (ruleGiven (ruleNamed rule)) width work ⌝ }
 {
     match rule {
         Quantize::Threshold(_) => true,

@@ -8,7 +8,7 @@ use crate::turn::take;
 use options::Quantize;
 use ordered::numbers;
 ghost use mathlib.Core.Path.{_≡_};
-ghost use Rattle.quantize.specs.Internal.Engine.{Opens, Runs, Tabled, ranTo, spotOf, roomFor, behindFrames};
+ghost use Rattle.quantize.specs.Internal.Engine.{NewQuantizer, Runs, Tabled, ranTo, spotOf, roomFor, behindFrames};
 ghost use Rattle.quantize.specs.Internal.Turn.{CanTake};
 
 // Samples of at most so many frames on their way to bytes.
@@ -70,7 +70,7 @@ fn table_of(rule: Quantize) -> [u8; 64]
 
 impl Quantizer {
     pub fn new(rule: Quantize, width: u32, height: u32, frames: u32) -> Quantizer
-        ensures { λ r. ⌜ Opens rule width height frames r ⌝ }
+        ensures { λ r. ⌜ NewQuantizer rule width height frames r ⌝ }
     {
         let table = table_of(rule);
         Quantizer {

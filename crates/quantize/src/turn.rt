@@ -11,8 +11,8 @@ ghost use mathlib.Core.Path.{_≡_};
 ghost use mathlib.Core.Bool.{true};
 ghost use Prim.Native.Nat.{_+_, _-_, _*_, _^_, _≤_, _<_};
 ghost use lib.ListN.{length};
-ghost use Rattle.quantize.specs.Internal.Turn.{Wholes, AtOnce, BytesFilling, SamplesForByte, Dotting, Dotted, Advancing, Advances};
-ghost use Rattle.quantize.specs.Internal.Turn.{Taking, Takes, Fills, RowFilling, RowFilled};
+ghost use Rattle.quantize.specs.Internal.Turn.{Wholes, AtOnce, BytesFilling, SamplesForByte, Dotting, Dotted, Advancing};
+ghost use Rattle.quantize.specs.Internal.Turn.{AdvancesPlace, Taking, Takes, Fills, RowFilling, RowFilled};
 
 // Where the next sample goes, and what is kept for it.
 pub struct Place {
@@ -33,7 +33,7 @@ pub struct BytesFilled {
 }
 
 // The place after some samples, the byte that they go into, and whether they finish it.
-pub struct Advanced {
+pub struct ByteTaken {
     pub place: Place,
     pub byte: u8,
     pub whole: bool,
@@ -160,10 +160,10 @@ fn pad(digits: u32, m: u32) -> u8
 }
 
 // A byte that is finished, and the place behind it.
-fn whole_byte(place: Place, byte: u8) -> Advanced
+fn whole_byte(place: Place, byte: u8) -> ByteTaken
     ensures { λ r. ⌜ r ≡ record { place = place; byte = byte; whole = true } ⌝ }
 {
-    Advanced {
+    ByteTaken {
         place: place,
         byte: byte,
         whole: true,
@@ -171,9 +171,9 @@ fn whole_byte(place: Place, byte: u8) -> Advanced
 }
 
 // The place after m samples more, which end no later than the begun byte; the byte, and whether they finish it.
-fn advance(width: usize, height: usize, p: Place, m: usize, digits: u32) -> Advanced
+fn advance(width: usize, height: usize, p: Place, m: usize, digits: u32) -> ByteTaken
     requires { ⌜ Advancing width height (p .frames) (p .row) (p .column) m digits ⌝ }
-    ensures { λ r. ⌜ Advances width height (p .frames) (p .row) (p .column) m digits r × (r .place .corner ≡ p .corner) ⌝ }
+    ensures { λ r. ⌜ AdvancesPlace width height (p .frames) (p .row) (p .column) m digits r × (r .place .corner ≡ p .corner) ⌝ }
 {
     let dots = p.column % 8 + m;
     let byte = pad(digits, dots as u32);
@@ -183,7 +183,7 @@ fn advance(width: usize, height: usize, p: Place, m: usize, digits: u32) -> Adva
     if place.column < width {
         if dots < 8 {
             place.begun = digits;
-            return Advanced {
+            return ByteTaken {
                 place: place,
                 byte: byte,
                 whole: false,
@@ -210,7 +210,7 @@ pub(crate) fn take(
     p: Place,
     gray: &[u8],
     work: &mut [i16],
-) -> Advanced
+) -> ByteTaken
     requires { ⌜ Taking rule width height p (length (now gray)) (length (now work)) ⌝ }
     ensures { λ r. ⌜ Takes rule (now (table .entry)) width height p (now (gray .entry)) (now (work .entry)) r (now (work .exit)) ⌝ }
 {

@@ -7,7 +7,6 @@ use error::BUFFER_TOO_SHORT;
 use error::GRAY_TOO_SHORT;
 use error::OUTPUT_TOO_SHORT;
 use error::UNKNOWN_SETTING;
-use error::WbmpError;
 use error::Written;
 use error::ZERO_DIMENSION;
 use options::Quantize;
@@ -116,14 +115,11 @@ pub fn quantize_gray8(
 {
     let code = refused(width, height, gray.len(), rule, work.len());
     if code != 0 {
-        return Written::Refused(WbmpError { code, offset: 0 });
+        return Written::refused(code);
     }
     let need = (width as usize + 7) / 8 * height as usize;
     if out.len() < need {
-        return Written::Refused(WbmpError {
-            code: OUTPUT_TOO_SHORT,
-            offset: 0,
-        });
+        return Written::refused(OUTPUT_TOO_SHORT);
     }
     match rule {
         Quantize::Threshold(bound) => {

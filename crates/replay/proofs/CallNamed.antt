@@ -13,12 +13,12 @@ use Rattle.laws.proofs.Tests.{if-true, if-false, zero-one}
 use Rattle.replay.specs.declared.call.Named.{Named}
 use Rattle.replay.specs.declared.call.Named.the-variants.{Close, Feed}
 use Rattle.replay.specs.declared.call.Next.{Next}
-use Rattle.replay.specs.declared.call.Part.{Part}
+use Rattle.replay.specs.declared.call.Lending.{Lending}
 use Rattle.replay.specs.Calls.{nameOf, roomOf, hasParts, isThere, named, Fits, Tests, There, Goes, Nexts}
 
 -- ---- the parts are there
 
-module _ (p : Part) (samples room work : ℕ) where
+module _ (p : Lending) (samples room work : ℕ) where
   tests-no : false ≡ hasParts p samples room work → Tests p samples room work false
   tests-no e = record { is = e; fits = λ f. zero-one (cc) }
 
@@ -33,7 +33,7 @@ module _ (p : Part) (samples room work : ℕ) where
 
 -- ---- the next call
 
-abbrev partOf : List ℕ → Part
+abbrev partOf : List ℕ → Lending
 partOf ns = record { start = getD ns 1 0; size = getD ns 2 0; room = getD ns 3 0; lent = getD ns 4 0 }
 
 abbrev firstOf : List ℕ → Named

@@ -12,16 +12,16 @@ use Rattle.decode_session.specs.Session.{fedMeaning, closedMeaning, Feeds, Clos
 use Rattle.decode_session.specs.declared.DecodeFed.{DecodeFed}
 use Rattle.decode_session.specs.declared.DecodeClosed.{DecodeClosed}
 use Rattle.decode_session.specs.declared.DecodeSession.{DecodeSession}
-use Rattle.replay.specs.declared.call.Answer.{Answer}
+use Rattle.replay.specs.declared.call.ThreeNumbers.{ThreeNumbers}
 use Rattle.replay.specs.declared.call.Named.{Named}
 use Rattle.replay.specs.declared.call.Named.the-variants.{Close, Feed}
-use Rattle.replay.specs.declared.call.Part.{Part}
+use Rattle.replay.specs.declared.call.Lending.{Lending}
 use Rattle.replay.specs.Calls.{threeOf}
 use Rattle.replay.specs.Decode.{numbersOf, output, FeedsPart, MakesCall}
 use Rattle.replay.proofs.Parts.{size-is, part-long, put-is}
 
 -- a feeding call over parts
-pub fed-part : (s : DecodeSession) (p : Part) (file out ext : List ℕ) (at : ℕ) (r : DecodeFed) (part front : List ℕ)
+pub fed-part : (s : DecodeSession) (p : Lending) (file out ext : List ℕ) (at : ℕ) (r : DecodeFed) (part front : List ℕ)
     → at + p .room ≤ length out → p .lent ≤ length ext
     → Feeds s (midOf (p .start) (p .start + p .size - p .start) file) (midOf at (at + p .room - at) out) (take (p .lent) ext) r part front
     → length part ≡ length (midOf at (at + p .room - at) out) → length front ≡ length (take (p .lent) ext)
@@ -45,7 +45,7 @@ fed-part s p file out ext at r part front h k F e f =
       extIs = refl;
     }
 
-module _ (s : DecodeSession) (file out ext : List ℕ) (at : ℕ) (a : Answer) (c : Named) where
+module _ (s : DecodeSession) (file out ext : List ℕ) (at : ℕ) (a : ThreeNumbers) (c : Named) where
   pub closed-makes : c ≡ Close → (closed : DecodeClosed) → Closes s closed → numbersOf (closedMeaning (closed .answer)) ≡ threeOf a
       → MakesCall s c file out ext at (record { session = closed .session; answer = a }) out ext
   closed-makes is closed C e =
@@ -67,7 +67,7 @@ module _ (s : DecodeSession) (file out ext : List ℕ) (at : ℕ) (a : Answer) (
         extIs = refl;
       })
 
-  pub fed-makes : (p : Part) → c ≡ Feed p → (fed : DecodeFed) (out′ ext′ : List ℕ) → FeedsPart s p file out ext at fed out′ ext′
+  pub fed-makes : (p : Lending) → c ≡ Feed p → (fed : DecodeFed) (out′ ext′ : List ℕ) → FeedsPart s p file out ext at fed out′ ext′
       → numbersOf (fedMeaning (fed .answer)) ≡ threeOf a
       → MakesCall s c file out ext at (record { session = fed .session; answer = a }) out′ ext′
   fed-makes p is fed out′ ext′ F e =

@@ -16,10 +16,10 @@ use Rattle.encode_session.specs.declared.EncodeFed.{EncodeFed}
 use Rattle.encode_session.specs.declared.EncodeClosed.{EncodeClosed}
 use Rattle.encode_session.specs.declared.EncodeSession.{EncodeSession}
 use Rattle.encode_session.proofs.OutcomeCases.{by-close}
-use Rattle.replay.specs.declared.call.Answer.{Answer}
+use Rattle.replay.specs.declared.call.ThreeNumbers.{ThreeNumbers}
 use Rattle.replay.specs.declared.call.Named.{Named}
 use Rattle.replay.specs.declared.call.Named.the-variants.{Close, Feed}
-use Rattle.replay.specs.declared.call.Part.{Part}
+use Rattle.replay.specs.declared.call.Lending.{Lending}
 use Rattle.replay.specs.Calls.{threeOf}
 use Rattle.replay.specs.Encode.{numbersOf, output}
 use Rattle.replay.specs.Encode.{FeedsPart, Tracks, MakesCall}
@@ -41,7 +41,7 @@ closed-tracks s m work q closed C st T =
     refused : {code place : ℕ} → closedMeaning (closed .answer) ≡ refuses code place → Tracks (closed .session) m work q
     refused e = subst (λ (z : EncodeSession). Tracks z m work q) (sym (C .refused _ _ e)) T
 
-module _ (s : EncodeSession) (samples : List ℕ) (work : List ℤ) (out : List ℕ) (at : ℕ) (a : Answer) (c : Named) where
+module _ (s : EncodeSession) (samples : List ℕ) (work : List ℤ) (out : List ℕ) (at : ℕ) (a : ThreeNumbers) (c : Named) where
   pub closed-makes : c ≡ Close → (closed : EncodeClosed) → Closes s closed → numbersOf (closedMeaning (closed .answer)) ≡ threeOf a
       → MakesCall s c samples work out at (record { session = closed .session; answer = a }) work out
   closed-makes is closed C e =
@@ -57,7 +57,7 @@ module _ (s : EncodeSession) (samples : List ℕ) (work : List ℤ) (out : List 
         beyond = refl;
       })
 
-  pub fed-makes : (p : Part) → c ≡ Feed p → (fed : EncodeFed) (work′ : List ℤ) (out′ : List ℕ)
+  pub fed-makes : (p : Lending) → c ≡ Feed p → (fed : EncodeFed) (work′ : List ℤ) (out′ : List ℕ)
       → FeedsPart s p samples work out at fed work′ out′
       → numbersOf (fedMeaning (fed .answer)) ≡ threeOf a
       → MakesCall s c samples work out at (record { session = fed .session; answer = a }) work′ out′

@@ -23,8 +23,8 @@ use Rattle.encode_session.specs.declared.EncodeFeed.{EncodeFeed}
 use Rattle.encode_session.specs.declared.EncodeFeed.the-variants.{Took}
 use Rattle.encode_session.specs.declared.EncodeSession.{EncodeSession}
 use Rattle.encode_session.proofs.OutcomeCases.{feed-refused}
-use Rattle.replay.specs.declared.call.Answer.{Answer}
-use Rattle.replay.specs.declared.call.Part.{Part}
+use Rattle.replay.specs.declared.call.ThreeNumbers.{ThreeNumbers}
+use Rattle.replay.specs.declared.call.Lending.{Lending}
 use Rattle.replay.specs.declared.encode.Called.{Called}
 use Rattle.replay.specs.Calls.{threeOf}
 use Rattle.replay.specs.Encode.{numbersOf, output, keptBy, Leaves}
@@ -35,7 +35,7 @@ use Rattle.replay.proofs.WorkLent.{lent-same, served-room, feed-served}
 use Rattle.replay.proofs.Parts.{size-is, part-long, put-is}
 
 -- a feeding call over parts
-pub fed-part : (s : EncodeSession) (p : Part) (samples : List ℕ) (work : List ℤ) (out : List ℕ) (at : ℕ) (r : EncodeFed) (front : List ℤ)
+pub fed-part : (s : EncodeSession) (p : Lending) (samples : List ℕ) (work : List ℤ) (out : List ℕ) (at : ℕ) (r : EncodeFed) (front : List ℤ)
     (part : List ℕ)
     → at + p .room ≤ length out → p .lent ≤ length work
     → Feeds s (midOf (p .start) (p .start + p .size - p .start) samples) (midOf at (at + p .room - at) out)
@@ -70,9 +70,10 @@ tracks-same s s′ m m′ work work′ q q′ a b c d T =
     (subst (λ (z : List ℤ). Tracks s m z q′) (sym c) (subst (λ (z : State). Tracks s m work z) (sym d) T)))
 
 -- what the model says of a feeding call
-module _ (s : EncodeSession) (p : Part) (samples : List ℕ) (work : List ℤ) (out : List ℕ) (at : ℕ) (fed : EncodeFed) (work′ : List ℤ)
+module _ (s : EncodeSession) (p : Lending) (samples : List ℕ) (work : List ℤ) (out : List ℕ) (at : ℕ) (fed : EncodeFed) (work′ : List ℤ)
     (out′ : List ℕ)
-    (F : FeedsPart s p samples work out at fed work′ out′) (a : Answer) (e : numbersOf (fedMeaning (fed .answer)) ≡ threeOf a) (m : Model)
+    (F : FeedsPart s p samples work out at fed work′ out′) (a : ThreeNumbers) (e : numbersOf (fedMeaning (fed .answer)) ≡ threeOf a)
+    (m : Model)
     (st : Stands s m) where
   abbrev pub xs : List ℕ
   xs = take (p .size) (drop (p .start) samples)

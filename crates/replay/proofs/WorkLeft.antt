@@ -12,12 +12,12 @@ use Rattle.error.specs.Choice.{if}
 use Rattle.laws.proofs.Tests.{zero-one}
 use Rattle.quantize.specs.declared.engine.Quantizer.{Quantizer}
 use Rattle.quantize.specs.declared.engine.RunEnded.{RunEnded}
-use Rattle.rules.specs.Rule.{meaning, carries}
+use Rattle.rules.specs.Rule.{carries}
 use Rattle.quantize.specs.Internal.Engine.{Machines}
 use Rattle.quantize.specs.Finished.{Setting}
 use Rattle.quantize.specs.Internal.Machine.{State, carried}
 use Rattle.quantize.specs.Internal.Turn.{stateOf}
-use Rattle.encode_session.specs.Model.{Opening, serves, Model, Call, feed, close, Outcome, taken, fedBy, unaltered, outcome}
+use Rattle.encode_session.specs.Model.{Opening, settingOf, serves, Model, Call, feed, close, Outcome, taken, fedBy, unaltered, outcome}
 use Rattle.encode_session.specs.Model as Machine
 use Rattle.encode_session.proofs.OutcomeCases.{by-feed, by-close}
 use Rattle.replay.specs.Encode.{Leaves}
@@ -77,6 +77,6 @@ pub leaves-on : (m n k : Model) (work work′ work″ : List ℤ) → n .opening
 leaves-on m n k work work′ work″ o l h L N =
     record {
       quiet = λ e. N .quiet (omega arith) ∙ L .quiet (omega arith);
-      spared = λ e. N .spared (ap (λ (a : Opening). carries (meaning (a .options .quantize))) o ∙ e) ∙ L .spared e;
+      spared = λ e. N .spared (ap (λ (a : Opening). carries (settingOf a .rule)) o ∙ e) ∙ L .spared e;
       beyond = subst (λ (a : Opening). drop (a .width) work″ ≡ drop (a .width) work′) o (N .beyond) ∙ L .beyond;
     }

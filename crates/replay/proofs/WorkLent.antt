@@ -16,7 +16,7 @@ use Rattle.error.specs.Choice.{if}
 use Rattle.laws.proofs.Tests.{if-true, zero-one}
 use Rattle.quantize.specs.declared.engine.Quantizer.{Quantizer}
 use Rattle.rules.specs.Rule.{carries, enoughWork, Rule, threshold, dither, ordered}
-use Rattle.quantize.specs.Internal.Engine.{Keeps, Holds as QHolds}
+use Rattle.quantize.specs.Internal.Engine.{KeptAfter, QuantizerAfter}
 use Rattle.quantize.specs.Finished.{Setting}
 use Rattle.dither.specs.Internal.Carry.{clamp}
 use Rattle.quantize.specs.Internal.Turn.{stateOf}
@@ -29,8 +29,8 @@ module _ (q : Quantizer) (s : Setting) (xs : List ℕ) (n : ℕ) (work work′ :
   at-same k h = ap clamp (sym (getD-take n work′ k (pos 0) h) ∙ ap (λ (l : List ℤ). getD l k (pos 0)) (sym same)
       ∙ getD-take n work k (pos 0) h)
 
-  keeps-same : 0 < s .width → (rule : Rule) → enoughWork rule (s .width) n ≡ true → Keeps rule s xs (stateOf (q .place) work)
-      → Keeps rule s xs (stateOf (q .place) work′)
+  keeps-same : 0 < s .width → (rule : Rule) → enoughWork rule (s .width) n ≡ true → KeptAfter rule s xs (stateOf (q .place) work)
+      → KeptAfter rule s xs (stateOf (q .place) work′)
   keeps-same w (threshold t) r k = k
   keeps-same w (ordered side table) r k = k
   keeps-same w dither r k =
@@ -44,7 +44,7 @@ module _ (q : Quantizer) (s : Setting) (xs : List ℕ) (n : ℕ) (work work′ :
         },
       )
 
-  pub holds-same : enoughWork (s .rule) (s .width) n ≡ true → QHolds q work s xs → QHolds q work′ s xs
+  pub holds-same : enoughWork (s .rule) (s .width) n ≡ true → QuantizerAfter q work s xs → QuantizerAfter q work′ s xs
   holds-same r h =
       let i = h .stands .at .inRow in
       record { stands = h .stands; keeps = keeps-same (omega arith) (s .rule) r (h .keeps) }

@@ -6,11 +6,11 @@ use mathlib.Core.List.{List, [], _∷_, _++_}
 use lib.Dec.{leb, eqb}
 use lib.ListN.{length, take, drop}
 use Rattle.error.specs.Choice.{if}
-use Rattle.replay.specs.declared.call.Answer.{Answer}
+use Rattle.replay.specs.declared.call.ThreeNumbers.{ThreeNumbers}
 use Rattle.replay.specs.declared.call.Named.{Named}
 use Rattle.replay.specs.declared.call.Named.the-variants.{Close, Feed}
 use Rattle.replay.specs.declared.call.Next.{Next}
-use Rattle.replay.specs.declared.call.Part.{Part}
+use Rattle.replay.specs.declared.call.Lending.{Lending}
 
 -- 0 closes, and closing looks at no other number; any other number feeds
 abbrev pub nameOf : ℕ → ℕ → ℕ → ℕ → ℕ → Named
@@ -26,7 +26,7 @@ lentOf Close = 0
 lentOf (Feed p) = p .lent
 
 -- so many samples, bytes of output and numbers of work have a call's parts
-abbrev pub hasParts : Part → ℕ → ℕ → ℕ → Bool
+abbrev pub hasParts : Lending → ℕ → ℕ → ℕ → Bool
 hasParts p samples room work = leb (p .start + p .size) samples && leb (p .room) room && leb (p .lent) work
 
 abbrev pub isThere : Named → ℕ → ℕ → ℕ → Bool
@@ -76,13 +76,13 @@ pub record Spares {A : Type 0} (cs : List Named) (calls : ℕ) (out answers : Li
 -- ---- what the private functions promise
 
 -- the parts are there
-pub record Fits (p : Part) (samples room work : ℕ) : Type 0 where
+pub record Fits (p : Lending) (samples room work : ℕ) : Type 0 where
   pub piece : p .start + p .size ≤ samples
   pub output : p .room ≤ room
   pub buffer : p .lent ≤ work
 
 -- the test of it
-pub record Tests (p : Part) (samples room work : ℕ) (r : Bool) : Type 0 where
+pub record Tests (p : Lending) (samples room work : ℕ) (r : Bool) : Type 0 where
   pub is : r ≡ hasParts p samples room work
   pub fits : r ≡ true → Fits p samples room work
 
@@ -103,7 +103,7 @@ pub record Nexts (numbers : List ℕ) (samples room work answers : ℕ) (r : Nex
   pub goes : (c : Named) → r ≡ Next.Call c → Goes numbers samples room work answers c
 
 -- the numbers that are stored
-abbrev pub threeOf : Answer → List ℕ
+abbrev pub threeOf : ThreeNumbers → List ℕ
 threeOf a = a .refusal ∷ a .taken ∷ a .written ∷ []
 
 -- a list with a part of it, from an index on, replaced by one that is as long

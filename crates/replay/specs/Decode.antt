@@ -11,7 +11,7 @@ use Rattle.decode_session.specs.declared.DecodeSession.{DecodeSession}
 use Rattle.replay.specs.declared.DecodeReplayed.{DecodeReplayed}
 use Rattle.replay.specs.declared.call.Named.{Named}
 use Rattle.replay.specs.declared.call.Named.the-variants.{Close, Feed}
-use Rattle.replay.specs.declared.call.Part.{Part}
+use Rattle.replay.specs.declared.call.Lending.{Lending}
 use Rattle.replay.specs.declared.decode.Called.{Called}
 use Rattle.replay.specs.Calls.{named, roomOf, lentOf, concatMap, over, Spares, threeOf, replaced}
 
@@ -68,7 +68,7 @@ Replays s numbers file out ext answers r out′ ext′ answers′ =
 -- ---- one call
 
 -- a feeding call that is lent a part of the output and the front of the extension buffer
-pub record FeedsPart (s : DecodeSession) (p : Part) (file out ext : List ℕ) (at : ℕ) (r : DecodeFed) (out′ ext′ : List ℕ) : Type 0 where
+pub record FeedsPart (s : DecodeSession) (p : Lending) (file out ext : List ℕ) (at : ℕ) (r : DecodeFed) (out′ ext′ : List ℕ) : Type 0 where
   pub part : List ℕ
   pub front : List ℕ
   pub does : Feeds s (take (p .size) (drop (p .start) file)) (take (p .room) (drop at out)) (take (p .lent) ext) r part front

@@ -6,7 +6,7 @@ use mathlib.Core.List.{List, [], _∷_, _++_}
 use lib.IntN.{ℤ}
 use lib.ListN.{length, take, drop}
 use Rattle.error.specs.Answer.{Answer, gives, refuses}
-use Rattle.rules.specs.Rule.{meaning, carries}
+use Rattle.rules.specs.Rule.{carries}
 use Rattle.quantize.specs.Internal.Machine.{State, carried}
 use Rattle.quantize.specs.Internal.Turn.{stateOf}
 use Rattle.encode_session.specs.Model.{settingOf, Model, Call, feed, close, Told, took, closed, Reply, outcome, replies, finally}
@@ -17,7 +17,7 @@ use Rattle.encode_session.specs.declared.EncodeSession.{EncodeSession}
 use Rattle.replay.specs.declared.EncodeReplayed.{EncodeReplayed}
 use Rattle.replay.specs.declared.call.Named.{Named}
 use Rattle.replay.specs.declared.call.Named.the-variants.{Close, Feed}
-use Rattle.replay.specs.declared.call.Part.{Part}
+use Rattle.replay.specs.declared.call.Lending.{Lending}
 use Rattle.replay.specs.declared.encode.Called.{Called}
 use Rattle.replay.specs.Calls.{named, roomOf, lentOf, concatMap, over, Spares, threeOf, replaced}
 
@@ -70,7 +70,7 @@ pub record WritesAs (m : Model) (cs : List Call) (out : List ℕ) (r : EncodeRep
 -- under a rule that keeps no carries; behind `width` numbers it always is.
 pub record Leaves (m after : Model) (work work′ : List ℤ) : Type 0 where
   pub quiet : length (after .samples) ≡ length (m .samples) → work′ ≡ work
-  pub spared : carries (meaning (m .opening .options .quantize)) ≡ false → work′ ≡ work
+  pub spared : carries (settingOf (m .opening) .rule) ≡ false → work′ ≡ work
   pub beyond : drop (m .opening .width) work′ ≡ drop (m .opening .width) work
 
 -- A run of the named calls. Of a session that stands for a model, answers and counts are the model's, and the work buffer ends with the
@@ -92,7 +92,7 @@ Replays s numbers samples work out answers r work′ out′ answers′ =
 -- ---- one call
 
 -- a feeding call that is lent the front of the work and a part of the output
-pub record FeedsPart (s : EncodeSession) (p : Part) (samples : List ℕ) (work : List ℤ) (out : List ℕ) (at : ℕ) (r : EncodeFed)
+pub record FeedsPart (s : EncodeSession) (p : Lending) (samples : List ℕ) (work : List ℤ) (out : List ℕ) (at : ℕ) (r : EncodeFed)
     (work′ : List ℤ) (out′ : List ℕ) : Type 0 where
   pub front : List ℤ
   pub part : List ℕ

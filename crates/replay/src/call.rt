@@ -6,7 +6,7 @@ ghost use lib.ListN.{length};
 ghost use Rattle.replay.specs.Calls.{Tests, Nexts, roomOf, threeOf, replaced};
 
 // What a feeding call is lent: the piece, so many bytes of output, and so many numbers of work.
-pub(crate) struct Part {
+pub(crate) struct Lending {
     pub(crate) start: usize,
     pub(crate) size: usize,
     pub(crate) room: usize,
@@ -15,7 +15,7 @@ pub(crate) struct Part {
 
 pub(crate) enum Named {
     Close,
-    Feed(Part),
+    Feed(Lending),
 }
 
 // The run ends, or makes one call more.
@@ -25,7 +25,7 @@ pub(crate) enum Next {
 }
 
 // Whether so many samples, bytes of output and numbers of work have the parts.
-fn is_there(part: Part, samples: usize, room: usize, work: usize) -> bool
+fn is_there(part: Lending, samples: usize, room: usize, work: usize) -> bool
     ensures { λ r. ⌜ Tests part samples room work r ⌝ }
 {
     if samples < part.start {
@@ -56,7 +56,7 @@ pub(crate) fn next_call(
     if answers < 3 {
         return Next::End;
     }
-    let part = Part {
+    let part = Lending {
         start: numbers[1],
         size: numbers[2],
         room: numbers[3],
@@ -82,16 +82,16 @@ pub(crate) fn room_of(call: Named) -> usize
 }
 
 // A call's answer as numbers.
-pub(crate) struct Answer {
+pub(crate) struct ThreeNumbers {
     pub(crate) refusal: usize,
     pub(crate) taken: usize,
     pub(crate) written: usize,
 }
 
-pub(crate) fn refused(e: WbmpError) -> Answer
+pub(crate) fn refused(e: WbmpError) -> ThreeNumbers
     ensures { λ r. ⌜ r ≡ record { refusal = e .code; taken = e .offset; written = 0 } ⌝ }
 {
-    Answer {
+    ThreeNumbers {
         refusal: e.code as usize,
         taken: e.offset,
         written: 0,
@@ -99,7 +99,7 @@ pub(crate) fn refused(e: WbmpError) -> Answer
 }
 
 // Stores an answer's three numbers from an index on.
-pub(crate) fn store(answers: &mut [usize], at: usize, answer: Answer)
+pub(crate) fn store(answers: &mut [usize], at: usize, answer: ThreeNumbers)
     requires { ⌜ at + 3 ≤ length (now answers) ⌝ }
     ensures { λ r. ⌜ now (answers .exit) ≡ replaced (now (answers .entry)) at (threeOf answer) ⌝ }
 {

@@ -1,9 +1,9 @@
 // A run of calls on a reading session.
 use crate::DecodeReplayed;
-use crate::call::Answer;
+use crate::call::Lending;
 use crate::call::Named;
 use crate::call::Next;
-use crate::call::Part;
+use crate::call::ThreeNumbers;
 use crate::call::next_call;
 use crate::call::refused;
 use crate::call::room_of;
@@ -22,14 +22,14 @@ ghost use Rattle.replay.specs.Decode.{numbersOf, FeedsPart, MakesCall, R
 // The session after a call, and the call's answer.
 struct Called {
     session: DecodeSession,
-    answer: Answer,
+    answer: ThreeNumbers,
 }
 
-fn fed_answer(answer: DecodeFeed) -> Answer
+fn fed_answer(answer: DecodeFeed) -> ThreeNumbers
     ensures { λ r. ⌜ numbersOf (fedMeaning answer) ≡ threeOf r ⌝ }
 {
     match answer {
-        DecodeFeed::Took { taken, written } => Answer {
+        DecodeFeed::Took { taken, written } => ThreeNumbers {
             refusal: 0,
             taken,
             written,
@@ -38,11 +38,11 @@ fn fed_answer(answer: DecodeFeed) -> Answer
     }
 }
 
-fn closed_answer(answer: DecodeClose) -> Answer
+fn closed_answer(answer: DecodeClose) -> ThreeNumbers
     ensures { λ r. ⌜ numbersOf (closedMeaning answer) ≡ threeOf r ⌝ }
 {
     match answer {
-        DecodeClose::Frames(n) => Answer {
+        DecodeClose::Frames(n) => ThreeNumbers {
             refusal: 0,
             taken: n as usize,
             written: 0,
@@ -54,7 +54,7 @@ fn closed_answer(answer: DecodeClose) -> Answer
 // A feeding call whose output starts at an index.
 fn feed_part(
     session: DecodeSession,
-    part: Part,
+    part: Lending,
     file: &[u8],
     out: &mut [u8],
     ext: &mut [u8],

@@ -1,9 +1,9 @@
 // A run of calls on a making session.
 use crate::EncodeReplayed;
-use crate::call::Answer;
+use crate::call::Lending;
 use crate::call::Named;
 use crate::call::Next;
-use crate::call::Part;
+use crate::call::ThreeNumbers;
 use crate::call::next_call;
 use crate::call::refused;
 use crate::call::room_of;
@@ -22,14 +22,14 @@ ghost use Rattle.replay.specs.Encode.{numbersOf, FeedsPart, MakesCall, R
 // The session after a call, and the call's answer.
 struct Called {
     session: EncodeSession,
-    answer: Answer,
+    answer: ThreeNumbers,
 }
 
-fn fed_answer(answer: EncodeFeed) -> Answer
+fn fed_answer(answer: EncodeFeed) -> ThreeNumbers
     ensures { λ r. ⌜ numbersOf (fedMeaning answer) ≡ threeOf r ⌝ }
 {
     match answer {
-        EncodeFeed::Took { taken, written } => Answer {
+        EncodeFeed::Took { taken, written } => ThreeNumbers {
             refusal: 0,
             taken,
             written,
@@ -38,11 +38,11 @@ fn fed_answer(answer: EncodeFeed) -> Answer
     }
 }
 
-fn closed_answer(answer: Checked) -> Answer
+fn closed_answer(answer: Checked) -> ThreeNumbers
     ensures { λ r. ⌜ numbersOf (closedMeaning answer) ≡ threeOf r ⌝ }
 {
     match answer {
-        Checked::Accepted => Answer {
+        Checked::Accepted => ThreeNumbers {
             refusal: 0,
             taken: 0,
             written: 0,
@@ -54,7 +54,7 @@ fn closed_answer(answer: Checked) -> Answer
 // A feeding call whose output starts at an index.
 fn feed_part(
     session: EncodeSession,
-    part: Part,
+    part: Lending,
     samples: &[u8],
     work: &mut [i16],
     out: &mut [u8],

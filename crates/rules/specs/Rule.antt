@@ -27,7 +27,7 @@ dot (threshold t) w scan x y = leb t (scan x y)
 dot dither w scan x y = white (valueAt rightwards w scan x y)
 dot (ordered side table) w scan x y = leb (bound side (cell side table x y)) (scan x y)
 
--- the rule that a setting names
+-- the rule that a setting names, where that is a known one
 abbrev pub meaning : Quantize → Rule
 meaning (Threshold t) = threshold t
 meaning Dither = dither
@@ -48,6 +48,15 @@ carries (ordered side table) = false
 abbrev pub enoughWork : Rule → ℕ → ℕ → Bool
 enoughWork rule w work = if (carries rule) (leb (2 * w) work) true
 
--- the rule that the settings of making ask for: 29 for an "unknown rule or side", place 0
+-- the rule that a setting asks for: 29 for an "unknown rule or side", place 0
+abbrev pub ruleNamed : Quantize → Answer Rule
+ruleNamed setting = if (knownRule setting) (gives (meaning setting)) (refuses 29 0)
+
+-- the rule that the settings of making ask for
 abbrev pub ruleAsked : EncodeOptions → Answer Rule
-ruleAsked o = if (knownRule (o .quantize)) (gives (meaning (o .quantize))) (refuses 29 0)
+ruleAsked o = ruleNamed (o .quantize)
+
+-- the rule that is given; where none is, nothing is made, and this one, which keeps no carries, stands for it
+abbrev pub ruleGiven : Answer Rule → Rule
+ruleGiven (gives rule) = rule
+ruleGiven (refuses code place) = threshold 0

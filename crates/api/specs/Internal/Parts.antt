@@ -35,7 +35,7 @@ eightEnds body row at =
     (bitOr (bitOr (bitOr (end (at + 4 * row)) (end (at + 5 * row))) (end (at + 6 * row))) (end (at + 7 * row)))
 
 -- sizes that sniffing takes for an image's
-pub record Small (width height : ℕ) : Type 0 where
+pub record SniffedSizes (width height : ℕ) : Type 0 where
   pub wide : 0 < width
   pub high : 0 < height
   pub narrow : width ≤ 16384

@@ -23,7 +23,7 @@ use Rattle.decode_session.specs.declared.DecodeFed.{DecodeFed}
 use Rattle.decode_session.specs.declared.DecodeClose.{DecodeClose}
 
 -- a reply and a session that are a plain machine's
-pub record Agrees (r : DecodeFed) (out′ ext′ : List ℕ) (x : Outcome) : Type 0 where
+pub record RepliesAs (r : DecodeFed) (out′ ext′ : List ℕ) (x : Outcome) : Type 0 where
   pub reply : x .reply ≡ record { answer = fedMeaning (r .answer); output = out′; extension = ext′ }
   pub stands : Stands (r .session) (x .next)
 
@@ -45,10 +45,10 @@ pub record Enters (m : Model) (piece : List ℕ) (from : ℕ) (h : Outline) (who
   pub earlier : length (sequence (ceilingOf (m .options)) (m .options) (m .bytes)) ≡ whole * planeOf h + begun
 
 -- the extension bytes of the piece are stored by then
-pub record Planes (o : DecodeOptions) (h : ParsedHeader) (whole begun from : ℕ) (piece out : List ℕ) (r : DecodeFed)
+pub record FeedsPlanes (o : DecodeOptions) (h : ParsedHeader) (whole begun from : ℕ) (piece out : List ℕ) (r : DecodeFed)
     (out′ : List ℕ) : Type 0 where
   pub does : (m : Model) (ext : List ℕ) → Settled (m .options) → decoding o ≡ m .options → Enters m piece from (parsed h) whole begun
-      → Agrees r out′ (stored m (m .bytes ++ piece) ext) (fedBy m piece out ext nothing)
+      → RepliesAs r out′ (stored m (m .bytes ++ piece) ext) (fedBy m piece out ext nothing)
 
 -- the header ends with the first bytes of a piece
 pub record Ended (m : Model) (piece : List ℕ) (from : ℕ) (h : Outline) : Type 0 where
@@ -61,7 +61,7 @@ pub record Begins (o : DecodeOptions) (f : FieldsSeen) (h : ParsedHeader) (from 
     : Type 0 where
   pub does : (m : Model) (ext : List ℕ) → Settled (m .options) → decoding o ≡ m .options
       → BeforeHeader m f → Ended m piece from (parsed h)
-      → Agrees r out′ (stored m (m .bytes ++ piece) ext) (fedBy m piece out ext (meets m piece))
+      → RepliesAs r out′ (stored m (m .bytes ++ piece) ext) (fedBy m piece out ext (meets m piece))
 
 -- what closing answers
 pub record Finishes (s : Stage) (r : DecodeClose) : Type 0 where

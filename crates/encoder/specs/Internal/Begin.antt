@@ -16,7 +16,7 @@ use Rattle.encoder.specs.Internal.Parts.{Heads}
 use Rattle.encoder.specs.Make.{Makes}
 use Rattle.encoder.specs.File.{fileOf}
 use Rattle.encoder.specs.Write.{wirePlanes, fileOfPlanes}
-use Rattle.options.specs.Settings.{madeFrames}
+use Rattle.options.specs.Defaults.{madeFrames}
 
 -- the header, in front of a body of so many bytes, which has room behind what is answered
 abbrev pub BeginsBefore : ℕ → ℕ → ℕ → EncodeOptions → List ℕ → FieldsCheck → List ℕ → List ℕ → PairsBegun → Type 0

@@ -6,13 +6,12 @@ use mathlib.Core.List.{List, _++_}
 use lib.IntN.{ℤ}
 use lib.ListN.{drop}
 use Rattle.image.specs.Geometry.{planeBytes}
-use Rattle.options.specs.declared.Quantize.{Quantize}
-use Rattle.rules.specs.Rule.{meaning, carries}
+use Rattle.rules.specs.Rule.{Rule, carries}
 use Rattle.encoder.specs.Make.{scanBytes}
 
 -- so many scans' planes at the front of an output; the work buffer as `Makes` says
-pub record PutsScans (rule : Quantize) (width height count : ℕ) (gray out : List ℕ) (work : List ℤ) (out′ : List ℕ)
+pub record PutsScans (rule : Rule) (width height count : ℕ) (gray out : List ℕ) (work : List ℤ) (out′ : List ℕ)
     (work′ : List ℤ) : Type 0 where
   pub bytes : out′ ≡ scanBytes rule width height gray count ++ drop (count * planeBytes width height) out
   pub beyond : drop width work′ ≡ drop width work
-  pub spared : carries (meaning rule) ≡ false → work′ ≡ work
+  pub spared : carries rule ≡ false → work′ ≡ work

@@ -9,10 +9,10 @@ use lib.ListN.{length, take, drop}
 use Rattle.options.specs.declared.Quantize.{Quantize}
 use Rattle.options.specs.declared.Quantize.the-variants.{Threshold, Dither, Ordered}
 use Rattle.dither.specs.declared.dots.RowDots.{RowDots}
-use Rattle.quantize.specs.declared.turn.Advanced.{Advanced}
+use Rattle.quantize.specs.declared.turn.ByteTaken.{ByteTaken}
 use Rattle.quantize.specs.declared.turn.Place.{Place}
 use Rattle.rules.specs.Bits.{digits}
-use Rattle.rules.specs.Rule.{Rule, threshold, dither, ordered, meaning, knownRule, enoughWork}
+use Rattle.rules.specs.Rule.{Rule, threshold, dither, ordered, knownRule, enoughWork, ruleNamed, ruleGiven}
 use Rattle.quantize.specs.Finished.{Setting}
 use Rattle.quantize.specs.Internal.Machine.{State}
 use Rattle.quantize.specs.Internal.Place.{At}
@@ -24,7 +24,7 @@ use Rattle.dither.specs.Internal.Row.{Bytes}
 -- samples can be taken: the rule is known, and the work buffer long enough
 pub record Served (rule : Quantize) (w work : ℕ) : Type 0 where
   pub known : knownRule rule ≡ true
-  pub room : enoughWork (meaning rule) w work ≡ true
+  pub room : enoughWork (ruleGiven (ruleNamed rule)) w work ≡ true
 
 -- the machine's state, from the numbers that the code keeps
 abbrev pub stateOf : Place → List ℤ → State
@@ -90,24 +90,24 @@ pub record Advancing (w h frames row column m digits : ℕ) : Type 0 where
   pub digitsSmall : digits < 2 ^ (column % 8 + m)
 
 -- they end the row or the byte: it is written, its digits first, and none is begun
-pub record Ended (w column m digits : ℕ) (r : Advanced) : Type 0 where
+pub record ByteEnded (w column m digits : ℕ) (r : ByteTaken) : Type 0 where
   pub ends : (w ≤ column + m) ⊎ (8 ≤ column % 8 + m)
   pub byteIs : r .byte ≡ digits * 2 ^ (8 - (column % 8 + m))
   pub begunIs : r .place .begun ≡ 0
 
 -- the byte goes on
-pub record Goes (w column m digits : ℕ) (r : Advanced) : Type 0 where
+pub record ByteGoesOn (w column m digits : ℕ) (r : ByteTaken) : Type 0 where
   pub inRow : column + m < w
   pub inByte : column % 8 + m < 8
   pub begunIs : r .place .begun ≡ digits
 
 -- the place after them, where n were taken before, and the byte
-pub record Advances (w h frames row column m digits : ℕ) (r : Advanced) : Type 0 where
+pub record AdvancesPlace (w h frames row column m digits : ℕ) (r : ByteTaken) : Type 0 where
   pub inRow : r .place .column < w
   pub inFrame : r .place .row < h
   pub begunSmall : r .place .begun < 2 ^ (r .place .column % 8)
-  pub ended : r .whole ≡ true → Ended w column m digits r
-  pub goes : r .whole ≡ false → Goes w column m digits r
+  pub ended : r .whole ≡ true → ByteEnded w column m digits r
+  pub goes : r .whole ≡ false → ByteGoesOn w column m digits r
   pub moves : (s : Setting) (n : ℕ) → s .width ≡ w → s .height ≡ h → At s n frames row column
       → At s (n + m) (r .place .frames) (r .place .row) (r .place .column)
 
@@ -120,13 +120,13 @@ pub record Taking (rule : Quantize) (w h : ℕ) (p : Place) (n work : ℕ) : Typ
   pub high : h < 2 ^ 64
   pub begunSmall : p .begun < 2 ^ (p .column % 8)
 
-pub record Takes (rule : Quantize) (table : List ℕ) (w h : ℕ) (p : Place) (gray : List ℕ) (work : List ℤ) (r : Advanced)
+pub record Takes (rule : Quantize) (table : List ℕ) (w h : ℕ) (p : Place) (gray : List ℕ) (work : List ℤ) (r : ByteTaken)
     (work′ : List ℤ) : Type 0 where
   -- the digits of the begun byte after them
   pub digits : ℕ
   pub dotted : Dotted rule table w (p .row) (p .column) gray (p .begun) (p .corner) work
       (record { digits = digits; corner = r .place .corner }) work′
-  pub advances : Advances w h (p .frames) (p .row) (p .column) (length gray) digits r
+  pub advances : AdvancesPlace w h (p .frames) (p .row) (p .column) (length gray) digits r
 
 -- samples and room for so many bytes, which do not end the row
 pub record BytesFilling (rule : Quantize) (w : ℕ) (p : Place) (samples count work : ℕ) : Type 0 where

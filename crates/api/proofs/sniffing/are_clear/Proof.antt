@@ -43,7 +43,8 @@ eight-in : (c : tie.In-loop Inv-loop μ-loop Inv-loop2 μ-loop2)
 eight-in c =
     let l = c .before in
     let s = l .before .before .before .before in
-    room (body s) (s .args .row) (s .args .mask) (rows s) (l .loop .y) (l .loop .at) (l .loop .inv) (length (body s)) 7 (s .pre .0) (in-body s)
+    room (body s) (s .args .row) (s .args .mask) (rows s) (l .loop .y) (l .loop .at) (l .loop .inv) (length (body s)) 7 (s .pre .0)
+    (in-body s)
     (omega (arith, c .loop-test .taken))
 
 one-in : (c : tie.In-loop2 Inv-loop μ-loop Inv-loop2 μ-loop2)

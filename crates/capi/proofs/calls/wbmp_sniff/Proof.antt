@@ -1,5 +1,5 @@
 use mathlib.Core.Path.{sym, ap, _∙_}
-use Rattle.capi.specs.Packed.{sniffNumber}
+use Rattle.capi.specs.Returned.{sniffNumber}
 use borrow.Author.Needs.{needs}
 use Rattle.capi.proofs.calls.wbmp_sniff.Statement.{statement}
 use Rattle.capi.proofs.calls.wbmp_sniff.Tie as tie

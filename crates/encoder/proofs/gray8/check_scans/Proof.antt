@@ -6,7 +6,7 @@ use borrow.Author.Tests.{not-true, not-false}
 use borrow.Author.Needs.{needs}
 use Rattle.error.specs.Answer.{checked, gives}
 use Rattle.laws.proofs.Products.{product-below}
-use Rattle.rules.specs.Rule.{meaning, enoughWork, knownRule}
+use Rattle.rules.specs.Rule.{enoughWork, knownRule, ruleAsked, ruleGiven}
 use Rattle.encoder.specs.File.{checkCount}
 use Rattle.encoder.proofs.CountTests.{counted}
 use Rattle.encoder.proofs.ScanTests.{not-counted, not-known, not-enough-work, too-short, long-enough}
@@ -22,7 +22,7 @@ known c = sym (c .before .known-rule .ensures) ∙ not-false _ (c .if1 .left)
 
 served : (c : tie.Else2)
     → let a = c .before .before .before .before .before .before .before .args in
-    enoughWork (meaning (a .options .quantize)) (a .width) (a .work) ≡ true
+    enoughWork (ruleGiven (ruleAsked (a .options))) (a .width) (a .work) ≡ true
 served c = sym (c .before .enough-work .ensures) ∙ not-false _ (c .if2 .left)
 
 check-count-requires : tie.Need-check-count-requires

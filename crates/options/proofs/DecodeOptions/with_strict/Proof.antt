@@ -1,7 +1,7 @@
 use mathlib.Core.Path.{ap, _∙_}
 use borrow.Author.Needs.{needs}
 use Rattle.options.specs.Limits.{Mode, decoding}
-use Rattle.options.specs.Settings.{withMode}
+use Rattle.options.specs.Defaults.{withMode}
 use Rattle.options.proofs.DecodeOptions.with_strict.Statement.{statement}
 use Rattle.options.proofs.DecodeOptions.with_strict.Tie as tie
 

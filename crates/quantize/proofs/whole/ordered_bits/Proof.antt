@@ -1,6 +1,6 @@
 -- `quantize::whole::ordered_bits` meets its contract: the rule needs no work buffer.
 -- Assumes nothing.
-use Rattle.quantize.specs.Whole.{quantized}
+use Rattle.quantize.proofs.WholePlanes.{ordered-workless}
 use borrow.Author.Needs.{needs}
 use Rattle.quantize.proofs.whole.ordered_bits.Statement.{statement}
 use Rattle.quantize.proofs.whole.ordered_bits.Tie as tie
@@ -15,8 +15,7 @@ same-length : tie.Need-same-length
 same-length c = search needs
 
 returns : tie.Need-returns
-unfolding quantized
-returns c = c .before .before .before .quantize-gray8 .ensures .emits
+returns c = ordered-workless _ _ _ _ _ _ _ 1 (c .before .before .before .quantize-gray8 .ensures .emits)
 
 pub ordered-bits-spec : {M : Type 1} → statement M
 ordered-bits-spec =

@@ -14,8 +14,13 @@ use Rattle.quantize.proofs.whole.quantize_gray8.Tie as tie
 refused-requires : tie.Need-refused-requires
 refused-requires c κs = search needs
 
+refused-requires-2 : tie.Need-refused-requires-2
+refused-requires-2 c κs = search needs
+
 returns : tie.Need-returns
-returns c = quantizes-refused _ _ _ _ _ _ _ (c .before .refused .ensures) (c .if1 .taken)
+returns c =
+    let t = c .before in
+    quantizes-refused _ _ _ _ _ _ _ (t .before .refused .ensures) (t .if1 .taken) _ (c .refused2 .ensures)
 
 add-need : tie.Need-add-need
 add-need c = search needs
@@ -25,8 +30,14 @@ mul-need c =
     let s = c .before .before .before .before in
     record { fits = product-below 32 32 {a = (s .args .width + 7) / 8} (omega arith) (s .fits .height .fits) }
 
+refused-requires-3 : tie.Need-refused-requires-3
+refused-requires-3 c κs = search needs
+
 returns-2 : tie.Need-returns-2
-returns-2 c = let g = c .before in quantizes-short _ _ _ _ _ _ _ (g .before .refused .ensures) (g .if1 .left) (c .if2 .taken)
+returns-2 c =
+    let t = c .before in
+    let g = t .before in
+    quantizes-short _ _ _ _ _ _ _ (g .before .refused .ensures) (g .if1 .left) (t .if2 .taken) _ (c .refused3 .ensures)
 
 enum-known-rule : tie.Need-enum-known-rule
 enum-known-rule c = search needs
@@ -90,9 +101,11 @@ quantize-gray8-spec =
     tie.close
     (tie.spec
     refused-requires
+    refused-requires-2
     returns
     add-need
     mul-need
+    refused-requires-3
     returns-2
     enum-known-rule
     threshold-plane-requires

@@ -1,6 +1,6 @@
 use mathlib.Core.Path.{_∙_}
 use borrow.Author.Needs.{needs}
-use Rattle.options.specs.Settings.{defaults}
+use Rattle.options.specs.Defaults.{defaults}
 use Rattle.options.proofs.SettingsSame.{settings-same, in-turn}
 use Rattle.options.proofs.limits.WbmpLimits.into_options.Statement.{statement}
 use Rattle.options.proofs.limits.WbmpLimits.into_options.Tie as tie
