@@ -51,6 +51,7 @@ module _ (first second left right : ℕ) (r : PairRow) where
   -- its samples are black and white, and nothing is handed to them
   pub pair-level : first < 256 → second < 256 → LevelPair first second left right
       → r .byte ≡ 128 * (first / 128) + 64 * (second / 128) → r .left ≡ 72 → r .right ≡ 72 → PairDithered first second left right r
+  unfolding either
   pair-level f s l b p q =
       let level : (x : ℕ) → x < 2 → sums x ≡ none = (λ x k. either-is left right none x (l .leftIs) (l .rightIs)) in
       let plain : (x : ℕ) → x < 2 → (shades x < 256) × (shades x % 255 ≡ 0) =
