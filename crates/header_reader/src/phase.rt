@@ -98,7 +98,7 @@ pub(crate) fn more_fields(phase: FieldsPhase) -> PhaseStep
 pub(crate) fn refuse(code: u8, offset: usize) -> PhaseStep
     ensures { λ r. ⌜ r ≡ PhaseStep.Refused (record { code = code; offset = offset }) ⌝ }
 {
-    PhaseStep::Refused(WbmpError { code, offset })
+    PhaseStep::Refused(WbmpError::new(code, offset))
 }
 
 impl PartialInteger {
@@ -193,26 +193,11 @@ impl FieldsPhase {
         ensures { λ r. ⌜ ((o : Settings) → refusal r ≡ resume o (fieldsState self) []) ⌝ }
     {
         match self {
-            FieldsPhase::InOctets { at, .. } => WbmpError {
-                code: EXT_TRUNCATED,
-                offset: at,
-            },
-            FieldsPhase::AtOctet { at, .. } => WbmpError {
-                code: EXT_TRUNCATED,
-                offset: at,
-            },
-            FieldsPhase::AtPair(chain) => WbmpError {
-                code: EXT_TRUNCATED,
-                offset: chain.at,
-            },
-            FieldsPhase::InIdentifier { part, .. } => WbmpError {
-                code: PAIR_TRUNCATED,
-                offset: part.begun,
-            },
-            FieldsPhase::InValue { part, .. } => WbmpError {
-                code: PAIR_TRUNCATED,
-                offset: part.begun,
-            },
+            FieldsPhase::InOctets { at, .. } => WbmpError::new(EXT_TRUNCATED, at),
+            FieldsPhase::AtOctet { at, .. } => WbmpError::new(EXT_TRUNCATED, at),
+            FieldsPhase::AtPair(chain) => WbmpError::new(EXT_TRUNCATED, chain.at),
+            FieldsPhase::InIdentifier { part, .. } => WbmpError::new(PAIR_TRUNCATED, part.begun),
+            FieldsPhase::InValue { part, .. } => WbmpError::new(PAIR_TRUNCATED, part.begun),
         }
     }
 }

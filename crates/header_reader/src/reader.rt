@@ -133,23 +133,11 @@ impl HeaderReader {
     {
         let phase = self.phase;
         match phase {
-            Phase::InType(integer) => WbmpError {
-                code: MBI_TRUNCATED,
-                offset: integer.at,
-            },
-            Phase::AtFix { at } => WbmpError {
-                code: FIX_HEADER_MISSING,
-                offset: at,
-            },
+            Phase::InType(integer) => WbmpError::new(MBI_TRUNCATED, integer.at),
+            Phase::AtFix { at } => WbmpError::new(FIX_HEADER_MISSING, at),
             Phase::InFields(fields) => fields.ended(),
-            Phase::InWidth { integer, .. } => WbmpError {
-                code: MBI_TRUNCATED,
-                offset: integer.at,
-            },
-            Phase::InHeight { integer, .. } => WbmpError {
-                code: MBI_TRUNCATED,
-                offset: integer.at,
-            },
+            Phase::InWidth { integer, .. } => WbmpError::new(MBI_TRUNCATED, integer.at),
+            Phase::InHeight { integer, .. } => WbmpError::new(MBI_TRUNCATED, integer.at),
         }
     }
 }
