@@ -6,6 +6,7 @@ pub mod StepReachable
 pub mod BytesTaken
 pub mod EndRefusal
 pub mod RefusalMet
+pub mod Ranges
 pub mod ReaderPromises
 pub mod Pieces
 pub mod Direct

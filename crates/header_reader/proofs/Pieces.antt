@@ -11,7 +11,7 @@ use Rattle.header.specs.Read.{Outline, outline, parsed, readHeader}
 use Rattle.header_reader.specs.Internal.Machine.{State, start, Step, more, done, refused, stepOf, steps, after, resume}
 use Rattle.header_reader.specs.Internal.Represents.{state, Represents, Answers, ReaderStepped}
 use Rattle.header_reader.specs.Internal.Pieces.{join, onward, Fed, nothing, byte, last, bad, Run, closed, piece, whole, met}
-use Rattle.header_reader.specs.Internal.Phase.{moved}
+use Rattle.header_reader.specs.Internal.Phase.{moved, asReader}
 use Rattle.header.specs.declared.HeaderMode.{HeaderMode}
 use Rattle.header.specs.declared.HeaderFields.{HeaderFields}
 use Rattle.header.specs.declared.ParsedHeader.{ParsedHeader}
@@ -22,7 +22,7 @@ use Rattle.header_reader.specs.declared.reader.HeaderReader.{HeaderReade
 use Rattle.header_reader.specs.declared.reader.HeaderStep.{HeaderStep}
 use Rattle.header_reader.proofs.Machine.{steps-cons, steps-law}
 use Rattle.header_reader.proofs.StepReachable.{reachable-start}
-use Rattle.header_reader.proofs.ReaderPromises.{asReader, stepped}
+use Rattle.header_reader.proofs.ReaderPromises.{stepped}
 use Rattle.header_reader.proofs.Direct.{direct}
 
 module _ (o : Settings) where
@@ -94,7 +94,7 @@ begun at = record { at = at; value = 0; count = 0 }
 
 takes : (p : Phase) (b : ℕ) (x : PhaseStep) → moved x ≡ stepOf (settings lenient) (state p) b
     → ReaderStepped (reader p) b (asReader lenient x)
-takes p b x e = stepped (reader p) b x x e refl
+takes p b x e = stepped (reader p) b x (asReader lenient x) e refl
 
 type : ReaderStepped (reader (Phase.InType (begun 0))) 0 (HeaderStep.More (reader (Phase.AtFix 1)))
 unfolding stepOf readByte

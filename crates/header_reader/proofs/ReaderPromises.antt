@@ -10,12 +10,14 @@ use Rattle.laws.proofs.Tests.{zero-one}
 use Rattle.header.specs.Settings.{Settings, settings}
 use Rattle.header_reader.specs.Internal.Machine.{State, inType, atFix, inOctets, atOctet, atPair, inIdentifier, inValue, inWidth}
 use Rattle.header_reader.specs.Internal.Machine.{inHeight, Step, inFields, stepOf, resume}
-use Rattle.header_reader.specs.Internal.Represents.{fieldsState, state, Reachable, Answers, ReaderStepped, ReaderEnded}
-use Rattle.header_reader.specs.Known.{unknown, knownIn}
-use Rattle.header_reader.specs.Internal.Phase.{moved, Bounded, Decides}
+use Rattle.header_reader.specs.Internal.Represents.{fieldsState, state, Reachable, Represents, Answers, ReaderStepped, ReaderEnded}
+use Rattle.header_reader.specs.Known.{unknown, knownIn, knownMeaning, Knows}
+use Rattle.header_reader.specs.Internal.Phase.{moved, asReader, Bounded, Decides}
 use Rattle.header.specs.declared.HeaderMode.{HeaderMode}
 use Rattle.header_reader.specs.declared.phase.FieldsPhase.{FieldsPhase}
+use Rattle.header_reader.specs.declared.phase.Phase.{Phase}
 use Rattle.header_reader.specs.declared.phase.PhaseStep.{PhaseStep}
+use Rattle.header_reader.specs.declared.FieldsSeen.{FieldsSeen}
 use Rattle.header_reader.specs.declared.reader.HeaderReader.{HeaderReader}
 use Rattle.header_reader.specs.declared.reader.HeaderStep.{HeaderStep}
 use Rattle.header_reader.proofs.StepReachable.{ReachableStep, reachable-step}
@@ -47,12 +49,6 @@ fields-unknown (FieldsPhase.AtPair c) = refl
 fields-unknown (FieldsPhase.InIdentifier c p size) = refl
 fields-unknown (FieldsPhase.InValue c p) = refl
 
--- a phase's step as the reader's
-abbrev pub asReader : HeaderMode → PhaseStep → HeaderStep
-asReader mode (PhaseStep.More p) = HeaderStep.More (record { mode = mode; phase = p })
-asReader mode (PhaseStep.Done h) = HeaderStep.Done h
-asReader mode (PhaseStep.Refused e) = HeaderStep.Refused e
-
 answers : (mode : HeaderMode) (o : Settings) (x : PhaseStep) → settings mode ≡ o → ReachableStep (moved x)
     → Answers o (asReader mode x) (moved x)
 answers mode o (PhaseStep.More p) m s = record { modeIs = m; phaseIs = refl; reachable = s }
@@ -60,17 +56,17 @@ answers mode o (PhaseStep.Done h) m s = refl
 answers mode o (PhaseStep.Refused e) m s = (refl, refl)
 
 module _ (r : HeaderReader) (b : ℕ) where
-  -- x is the case of the phase's step
-  pub stepped : (p x : PhaseStep) → moved p ≡ stepOf (settings (r .mode)) (state (r .phase)) b → p ≡ x
-      → ReaderStepped r b (asReader (r .mode) x)
+  -- as its phase's step
+  pub stepped : (p : PhaseStep) (x : HeaderStep) → moved p ≡ stepOf (settings (r .mode)) (state (r .phase)) b → x ≡ asReader (r .mode) p
+      → ReaderStepped r b x
   stepped p x e c =
       record {
         does = λ o st h.
-            let q : moved x ≡ stepOf o st b =
-            sym (ap moved c) ∙ e ∙ ap (λ (k : Settings). stepOf k (state (r .phase)) b) (h .modeIs)
-            ∙ ap (λ (k : State). stepOf o k b) (h .phaseIs) in
-            subst (λ (k : Step). Answers o (asReader (r .mode) x) k) q
-            (answers (r .mode) o x (h .modeIs) (subst⁻¹ ReachableStep q (reachable-step o st b (h .reachable))));
+            let q : moved p ≡ stepOf o st b =
+            e ∙ ap (λ (k : Settings). stepOf k (state (r .phase)) b) (h .modeIs) ∙ ap (λ (k : State). stepOf o k b) (h .phaseIs) in
+            subst⁻¹ (λ (k : HeaderStep). Answers o k (stepOf o st b)) c
+            (subst (λ (k : Step). Answers o (asReader (r .mode) p) k) q
+            (answers (r .mode) o p (h .modeIs) (subst⁻¹ ReachableStep q (reachable-step o st b (h .reachable)))));
       }
 
   -- a reader that is out of range stands for nothing
@@ -82,5 +78,16 @@ module _ (r : HeaderReader) (b : ℕ) where
             zero-one (cc);
       }
 
-pub ended-at : (r : HeaderReader) (e : WbmpError) → ((o : Settings) → refusal e ≡ resume o (state (r .phase)) []) → ReaderEnded r e
-ended-at r e p = record { does = λ o st h. p o ∙ ap (λ (k : State). resume o k []) (h .phaseIs) }
+-- what a reader tells in the phase that its own turned out to be
+module _ (r : HeaderReader) {p : Phase} (e : r .phase ≡ p) where
+  stands : (o : Settings) (st : State) → Represents r o st → state p ≡ st
+  stands o st h = ap state (sym e) ∙ h .phaseIs
+
+  pub tells-in : (t : Bool) → t ≡ inFields (state p) → (o : Settings) (st : State) → Represents r o st → t ≡ inFields st
+  tells-in t q o st h = q ∙ ap inFields (stands o st h)
+
+  pub tells-known : (f : FieldsSeen) → knownMeaning f ≡ knownIn (state p) → Knows r f
+  tells-known f q = record { does = λ o st h. q ∙ ap knownIn (stands o st h) }
+
+  pub tells-end : (x : WbmpError) → ((o : Settings) → refusal x ≡ resume o (state p) []) → ReaderEnded r x
+  tells-end x q = record { does = λ o st h. q o ∙ ap (λ (k : State). resume o k []) (stands o st h) }

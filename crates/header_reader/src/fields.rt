@@ -1,12 +1,13 @@
 // One byte more of the FixHeader byte and of the extension fields.
 use crate::faults::identifier_fault;
 use crate::faults::value_fault;
+use crate::integers::more_width;
 use crate::phase::FieldsPhase;
 use crate::phase::PairChain;
 use crate::phase::PairPart;
 use crate::phase::PartialInteger;
-use crate::phase::Phase;
 use crate::phase::PhaseStep;
+use crate::phase::more_fields;
 use crate::phase::refuse;
 use error::EXT_TOO_LONG;
 use error::FIX_HEADER_NOT_ZERO;
@@ -35,12 +36,7 @@ ghost use Rattle.header_reader.specs.declared.phase.FieldsPhase.{FieldsP
 fn to_width(fix: u8, fields: HeaderFields, at: usize) -> PhaseStep
     ensures { λ r. ⌜ moved r ≡ toWidth fix (extSpan fields) at ⌝ }
 {
-    let integer = PartialInteger::start(at);
-    PhaseStep::More(Phase::InWidth {
-        fix,
-        fields,
-        integer,
-    })
+    more_width(fix, fields, PartialInteger::start(at))
 }
 
 // The width comes next, after fields that stand from `start` to `end`.
@@ -64,18 +60,17 @@ fn to_fields(fix: u8, ext_type: ExtFieldType, at: usize) -> PhaseStep
     requires { ⌜ kindNumber «ext_type» ≡ kindBits fix ⌝ }
     ensures { λ r. ⌜ moved r ≡ toFields fix at ⌝ }
 {
-    let phase = match ext_type {
-        ExtFieldType::Bitfield00 => FieldsPhase::InOctets { fix, start: at, at },
-        ExtFieldType::Reserved01 => FieldsPhase::AtOctet { fix, at },
-        ExtFieldType::Reserved10 => FieldsPhase::AtOctet { fix, at },
-        ExtFieldType::ParameterPairs11 => FieldsPhase::AtPair(PairChain {
+    match ext_type {
+        ExtFieldType::Bitfield00 => more_fields(FieldsPhase::InOctets { fix, start: at, at }),
+        ExtFieldType::Reserved01 => more_fields(FieldsPhase::AtOctet { fix, at }),
+        ExtFieldType::Reserved10 => more_fields(FieldsPhase::AtOctet { fix, at }),
+        ExtFieldType::ParameterPairs11 => more_fields(FieldsPhase::AtPair(PairChain {
             fix,
             start: at,
             at,
             pairs: 0,
-        }),
-    };
-    PhaseStep::More(Phase::InFields(phase))
+        })),
+    }
 }
 
 // Fields or, without them, the width.
@@ -115,12 +110,11 @@ pub(crate) fn in_octets(fix: u8, start: usize, at: usize, byte: u8) -> PhaseStep
     if byte < 128 {
         return after_fields(fix, start, next, 0);
     }
-    let phase = FieldsPhase::InOctets {
+    more_fields(FieldsPhase::InOctets {
         fix,
         start,
         at: next,
-    };
-    PhaseStep::More(Phase::InFields(phase))
+    })
 }
 
 pub(crate) fn at_octet(fix: u8, at: usize) -> PhaseStep
@@ -153,7 +147,7 @@ pub(crate) fn at_pair(chain: PairChain, byte: u8) -> PhaseStep
     };
     let chain = chain.grown();
     let size = header.value_len;
-    PhaseStep::More(Phase::InFields(FieldsPhase::InIdentifier { chain, part, size }))
+    more_fields(FieldsPhase::InIdentifier { chain, part, size })
 }
 
 pub(crate) fn in_identifier(
@@ -170,7 +164,7 @@ pub(crate) fn in_identifier(
     let chain = chain.grown();
     if 1 < part.left {
         let part = part.shrunk(fault);
-        return PhaseStep::More(Phase::InFields(FieldsPhase::InIdentifier { chain, part, size }));
+        return more_fields(FieldsPhase::InIdentifier { chain, part, size });
     }
     let part = PairPart {
         begun: chain.at,
@@ -178,7 +172,7 @@ pub(crate) fn in_identifier(
         more: part.more,
         fault,
     };
-    PhaseStep::More(Phase::InFields(FieldsPhase::InValue { chain, part }))
+    more_fields(FieldsPhase::InValue { chain, part })
 }
 
 // After a pair that the chain counts: the refusal that waited for its end, one more pair, or the width.
@@ -188,7 +182,7 @@ fn after_pair(chain: PairChain, more: bool, fault: u8) -> PhaseStep
 {
     if fault == 0 {
         if more {
-            return PhaseStep::More(Phase::InFields(FieldsPhase::AtPair(chain)));
+            return more_fields(FieldsPhase::AtPair(chain));
         }
         return after_fields(chain.fix, chain.start, chain.at, chain.pairs);
     }
@@ -203,7 +197,7 @@ pub(crate) fn in_value(mode: HeaderMode, chain: PairChain, part: PairPart, byte:
     if 1 < part.left {
         let chain = chain.grown();
         let part = part.shrunk(fault);
-        return PhaseStep::More(Phase::InFields(FieldsPhase::InValue { chain, part }));
+        return more_fields(FieldsPhase::InValue { chain, part });
     }
     let counted = PairChain {
         fix: chain.fix,

@@ -15,8 +15,47 @@ ghost use Rattle.header.specs.Settings.{settings};
 ghost use Rattle.header.specs.Read.{extSpan};
 ghost use Rattle.header_reader.specs.Internal.Machine.{stepOf};
 ghost use Rattle.header_reader.specs.Internal.Represents.{state};
-ghost use Rattle.header_reader.specs.Internal.Phase.{moved, afterSizes, IntegerBound};
+ghost use Rattle.header_reader.specs.Internal.Phase.{moved, afterType, afterSizes, IntegerBound};
 ghost use Rattle.header_reader.specs.declared.phase.Phase.{Phase};
+ghost use Rattle.header_reader.specs.declared.phase.PhaseStep.{PhaseStep};
+
+// The type, the width or the height goes on.
+fn more_type(integer: PartialInteger) -> PhaseStep
+    ensures { λ r. ⌜ r ≡ PhaseStep.More (Phase.InType integer) ⌝ }
+{
+    PhaseStep::More(Phase::InType(integer))
+}
+
+pub(crate) fn more_width(fix: u8, fields: HeaderFields, integer: PartialInteger) -> PhaseStep
+    ensures { λ r. ⌜ r ≡ PhaseStep.More (Phase.InWidth fix fields integer) ⌝ }
+{
+    PhaseStep::More(Phase::InWidth {
+        fix,
+        fields,
+        integer,
+    })
+}
+
+fn more_height(fix: u8, fields: HeaderFields, width: u32, integer: PartialInteger) -> PhaseStep
+    ensures { λ r. ⌜ r ≡ PhaseStep.More (Phase.InHeight fix fields width integer) ⌝ }
+{
+    PhaseStep::More(Phase::InHeight {
+        fix,
+        fields,
+        width,
+        integer,
+    })
+}
+
+// After the type.
+fn typed(value: u32, at: usize) -> PhaseStep
+    ensures { λ r. ⌜ moved r ≡ afterType value at ⌝ }
+{
+    if value == 0 {
+        return PhaseStep::More(Phase::AtFix { at });
+    }
+    refuse(TYPE_UNSUPPORTED, at)
+}
 
 pub(crate) fn in_type(mode: HeaderMode, integer: PartialInteger, byte: u8) -> PhaseStep
     requires { ⌜ IntegerBound (integer .at) (integer .count) ⌝ }
@@ -29,15 +68,8 @@ pub(crate) fn in_type(mode: HeaderMode, integer: PartialInteger, byte: u8) -> Ph
         integer.count,
         byte,
     ) {
-        MbiStep::Goes(v) => PhaseStep::More(Phase::InType(integer.grown(v))),
-        MbiStep::Ends(v) => {
-            let at = integer.at + 1;
-            if v == 0 {
-                PhaseStep::More(Phase::AtFix { at })
-            } else {
-                refuse(TYPE_UNSUPPORTED, at)
-            }
-        }
+        MbiStep::Goes(v) => more_type(integer.grown(v)),
+        MbiStep::Ends(v) => typed(v, integer.at + 1),
         MbiStep::Refused(e) => PhaseStep::Refused(e),
     }
 }
@@ -59,23 +91,8 @@ pub(crate) fn in_width(
         integer.count,
         byte,
     ) {
-        MbiStep::Goes(v) => {
-            let integer = integer.grown(v);
-            PhaseStep::More(Phase::InWidth {
-                fix,
-                fields,
-                integer,
-            })
-        }
-        MbiStep::Ends(v) => {
-            let height = PartialInteger::start(integer.at + 1);
-            PhaseStep::More(Phase::InHeight {
-                fix,
-                fields,
-                width: v,
-                integer: height,
-            })
-        }
+        MbiStep::Goes(v) => more_width(fix, fields, integer.grown(v)),
+        MbiStep::Ends(v) => more_height(fix, fields, v, PartialInteger::start(integer.at + 1)),
         MbiStep::Refused(e) => PhaseStep::Refused(e),
     }
 }
@@ -117,15 +134,7 @@ pub(crate) fn in_height(
         integer.count,
         byte,
     ) {
-        MbiStep::Goes(v) => {
-            let integer = integer.grown(v);
-            PhaseStep::More(Phase::InHeight {
-                fix,
-                fields,
-                width,
-                integer,
-            })
-        }
+        MbiStep::Goes(v) => more_height(fix, fields, width, integer.grown(v)),
         MbiStep::Ends(v) => sized(fix, fields, width, v, integer.at + 1),
         MbiStep::Refused(e) => PhaseStep::Refused(e),
     }

@@ -1,8 +1,5 @@
 // Where a reading of a header stands between two bytes. `at` is how many bytes were taken.
-use crate::FieldsSeen;
 use error::EXT_TRUNCATED;
-use error::FIX_HEADER_MISSING;
-use error::MBI_TRUNCATED;
 use error::PAIR_TRUNCATED;
 use error::WbmpError;
 use header::HeaderFields;
@@ -12,9 +9,8 @@ ghost use mathlib.Core.List.{[]};
 ghost use Prim.Native.Nat.{_+_, _-_, _<_};
 ghost use Rattle.error.specs.Answer.{refusal};
 ghost use Rattle.header.specs.Settings.{Settings};
-ghost use Rattle.header_reader.specs.Internal.Machine.{inFields, resume};
+ghost use Rattle.header_reader.specs.Internal.Machine.{resume};
 ghost use Rattle.header_reader.specs.Internal.Represents.{state, fieldsState};
-ghost use Rattle.header_reader.specs.Known.{knownIn, knownMeaning};
 ghost use Rattle.header_reader.specs.Internal.Phase.{IntegerBound, FieldsBound, Chained, Bounded, Decides};
 
 // An integer so far: the value of its first `count` bytes.
@@ -92,10 +88,17 @@ pub enum PhaseStep {
 // No reading comes so far.
 const FAR: usize = 8192;
 
+// The fields go on.
+pub(crate) fn more_fields(phase: FieldsPhase) -> PhaseStep
+    ensures { λ r. ⌜ r ≡ PhaseStep.More (Phase.InFields phase) ⌝ }
+{
+    PhaseStep::More(Phase::InFields(phase))
+}
+
 pub(crate) fn refuse(code: u8, offset: usize) -> PhaseStep
     ensures { λ r. ⌜ r ≡ PhaseStep.Refused (record { code = code; offset = offset }) ⌝ }
 {
-    PhaseStep::Refused(WbmpError { code, offset })
+    PhaseStep::Refused(WbmpError::new(code, offset))
 }
 
 impl PartialInteger {
@@ -151,12 +154,6 @@ impl PairChain {
             pairs: self.pairs,
         }
     }
-
-    fn within(self) -> bool
-        ensures { λ r. ⌜ Decides (Chained self) r ⌝ }
-    {
-        fields_within(self.start, self.at, self.pairs)
-    }
 }
 
 impl PairPart {
@@ -181,37 +178,26 @@ impl FieldsPhase {
         match self {
             FieldsPhase::InOctets { start, at, .. } => fields_within(start, at, 0),
             FieldsPhase::AtOctet { at, .. } => at < FAR,
-            FieldsPhase::AtPair(chain) => chain.within(),
-            FieldsPhase::InIdentifier { chain, .. } => chain.within(),
-            FieldsPhase::InValue { chain, .. } => chain.within(),
+            FieldsPhase::AtPair(chain) => fields_within(chain.start, chain.at, chain.pairs),
+            FieldsPhase::InIdentifier { chain, .. } => fields_within(
+                chain.start,
+                chain.at,
+                chain.pairs,
+            ),
+            FieldsPhase::InValue { chain, .. } => fields_within(chain.start, chain.at, chain.pairs),
         }
     }
 
     // The input ends inside the fields.
-    fn ended(self) -> WbmpError
+    pub(crate) fn ended(self) -> WbmpError
         ensures { λ r. ⌜ ((o : Settings) → refusal r ≡ resume o (fieldsState self) []) ⌝ }
     {
         match self {
-            FieldsPhase::InOctets { at, .. } => WbmpError {
-                code: EXT_TRUNCATED,
-                offset: at,
-            },
-            FieldsPhase::AtOctet { at, .. } => WbmpError {
-                code: EXT_TRUNCATED,
-                offset: at,
-            },
-            FieldsPhase::AtPair(chain) => WbmpError {
-                code: EXT_TRUNCATED,
-                offset: chain.at,
-            },
-            FieldsPhase::InIdentifier { part, .. } => WbmpError {
-                code: PAIR_TRUNCATED,
-                offset: part.begun,
-            },
-            FieldsPhase::InValue { part, .. } => WbmpError {
-                code: PAIR_TRUNCATED,
-                offset: part.begun,
-            },
+            FieldsPhase::InOctets { at, .. } => WbmpError::new(EXT_TRUNCATED, at),
+            FieldsPhase::AtOctet { at, .. } => WbmpError::new(EXT_TRUNCATED, at),
+            FieldsPhase::AtPair(chain) => WbmpError::new(EXT_TRUNCATED, chain.at),
+            FieldsPhase::InIdentifier { part, .. } => WbmpError::new(PAIR_TRUNCATED, part.begun),
+            FieldsPhase::InValue { part, .. } => WbmpError::new(PAIR_TRUNCATED, part.begun),
         }
     }
 }
@@ -227,57 +213,6 @@ impl Phase {
             Phase::InFields(phase) => phase.within(),
             Phase::InWidth { integer, .. } => integer.within(),
             Phase::InHeight { integer, .. } => integer.within(),
-        }
-    }
-
-    // Whether the next byte is one of the extension fields.
-    pub(crate) fn in_fields(self) -> bool
-        ensures { λ r. ⌜ r ≡ inFields (state self) ⌝ }
-    {
-        match self {
-            Phase::InType(_) => false,
-            Phase::AtFix { .. } => false,
-            Phase::InFields(_) => true,
-            Phase::InWidth { .. } => false,
-            Phase::InHeight { .. } => false,
-        }
-    }
-
-    // The extension fields, once their last byte was taken.
-    pub(crate) fn fields(self) -> FieldsSeen
-        ensures { λ r. ⌜ knownMeaning r ≡ knownIn (state self) ⌝ }
-    {
-        match self {
-            Phase::InType(_) => FieldsSeen::Unread,
-            Phase::AtFix { .. } => FieldsSeen::Unread,
-            Phase::InFields(_) => FieldsSeen::Unread,
-            Phase::InWidth { fields, .. } => FieldsSeen::Seen(fields),
-            Phase::InHeight { fields, .. } => FieldsSeen::Seen(fields),
-        }
-    }
-
-    // The input ends before the header does.
-    pub(crate) fn ended(self) -> WbmpError
-        ensures { λ r. ⌜ ((o : Settings) → refusal r ≡ resume o (state self) []) ⌝ }
-    {
-        match self {
-            Phase::InType(integer) => WbmpError {
-                code: MBI_TRUNCATED,
-                offset: integer.at,
-            },
-            Phase::AtFix { at } => WbmpError {
-                code: FIX_HEADER_MISSING,
-                offset: at,
-            },
-            Phase::InFields(phase) => phase.ended(),
-            Phase::InWidth { integer, .. } => WbmpError {
-                code: MBI_TRUNCATED,
-                offset: integer.at,
-            },
-            Phase::InHeight { integer, .. } => WbmpError {
-                code: MBI_TRUNCATED,
-                offset: integer.at,
-            },
         }
     }
 }

@@ -3,8 +3,11 @@ use crate::FieldsSeen;
 use crate::phase::PartialInteger;
 use crate::phase::Phase;
 use crate::phase::PhaseStep;
+use crate::run::FieldsRun;
 use crate::run::run_fields;
 use crate::step::step_phase;
+use error::FIX_HEADER_MISSING;
+use error::MBI_TRUNCATED;
 use error::WbmpError;
 use header::HeaderMode;
 use header::ParsedHeader;
@@ -13,7 +16,9 @@ ghost use Rattle.header.specs.Settings.{Settings, settings};
 ghost use Rattle.header_reader.specs.Internal.Machine.{State, start, inFields};
 ghost use Rattle.header_reader.specs.Internal.Represents.{Represents, ReaderStepped, ReaderEnded};
 ghost use Rattle.header_reader.specs.Known.{Knows};
+ghost use Rattle.header_reader.specs.Internal.Phase.{asReader};
 ghost use Rattle.header_reader.specs.Internal.Run.{ReaderRuns};
+ghost use Rattle.header_reader.specs.declared.phase.Phase.{Phase};
 
 pub struct HeaderReader {
     mode: HeaderMode,
@@ -33,6 +38,29 @@ pub struct HeaderRun {
     pub reader: HeaderReader,
 }
 
+// The step of a phase, and a run of fields, as their reader's.
+fn as_reader(mode: HeaderMode, step: PhaseStep) -> HeaderStep
+    ensures { λ r. ⌜ r ≡ asReader mode step ⌝ }
+{
+    match step {
+        PhaseStep::More(phase) => HeaderStep::More(HeaderReader { mode, phase }),
+        PhaseStep::Done(header) => HeaderStep::Done(header),
+        PhaseStep::Refused(e) => HeaderStep::Refused(e),
+    }
+}
+
+fn ran(mode: HeaderMode, run: FieldsRun) -> HeaderRun
+    ensures { λ r. ⌜ r ≡ record { taken = run .taken; reader = record { mode = mode; phase = Phase.InFields (run .phase) } } ⌝ }
+{
+    let fields = run.phase;
+    let phase = Phase::InFields(fields);
+    let reader = HeaderReader { mode, phase };
+    HeaderRun {
+        taken: run.taken,
+        reader,
+    }
+}
+
 impl HeaderReader {
     pub fn new(mode: HeaderMode) -> HeaderReader
         ensures { λ r. ⌜ Represents r (settings mode) start ⌝ }
@@ -48,14 +76,9 @@ impl HeaderReader {
         let mode = self.mode;
         let phase = self.phase;
         if phase.within() {
-            match step_phase(phase, mode, byte) {
-                PhaseStep::More(next) => HeaderStep::More(HeaderReader { mode, phase: next }),
-                PhaseStep::Done(header) => HeaderStep::Done(header),
-                PhaseStep::Refused(e) => HeaderStep::Refused(e),
-            }
-        } else {
-            HeaderStep::More(self)
+            return as_reader(mode, step_phase(phase, mode, byte));
         }
+        HeaderStep::More(self)
     }
 
     // Many bytes of extension fields at once, if the fields go on behind them: octets, or whole pairs where no classes are tested. It may
@@ -67,14 +90,7 @@ impl HeaderReader {
         let phase = self.phase;
         if let Phase::InFields(fields) = phase {
             if fields.within() {
-                let run = run_fields(fields, mode, piece);
-                let next = run.phase;
-                let phase = Phase::InFields(next);
-                let reader = HeaderReader { mode, phase };
-                return HeaderRun {
-                    taken: run.taken,
-                    reader,
-                };
+                return ran(mode, run_fields(fields, mode, piece));
             }
         }
         HeaderRun {
@@ -88,7 +104,13 @@ impl HeaderReader {
         ensures { λ r. ⌜ ((o : Settings) (st : State) → Represents self o st → r ≡ inFields st) ⌝ }
     {
         let phase = self.phase;
-        phase.in_fields()
+        match phase {
+            Phase::InType(_) => false,
+            Phase::AtFix { .. } => false,
+            Phase::InFields(_) => true,
+            Phase::InWidth { .. } => false,
+            Phase::InHeight { .. } => false,
+        }
     }
 
     // The extension fields, once their last byte was taken.
@@ -96,7 +118,13 @@ impl HeaderReader {
         ensures { λ r. ⌜ Knows self r ⌝ }
     {
         let phase = self.phase;
-        phase.fields()
+        match phase {
+            Phase::InType(_) => FieldsSeen::Unread,
+            Phase::AtFix { .. } => FieldsSeen::Unread,
+            Phase::InFields(_) => FieldsSeen::Unread,
+            Phase::InWidth { fields, .. } => FieldsSeen::Seen(fields),
+            Phase::InHeight { fields, .. } => FieldsSeen::Seen(fields),
+        }
     }
 
     // The input ends before the header does.
@@ -104,6 +132,12 @@ impl HeaderReader {
         ensures { λ r. ⌜ ReaderEnded self r ⌝ }
     {
         let phase = self.phase;
-        phase.ended()
+        match phase {
+            Phase::InType(integer) => WbmpError::new(MBI_TRUNCATED, integer.at),
+            Phase::AtFix { at } => WbmpError::new(FIX_HEADER_MISSING, at),
+            Phase::InFields(fields) => fields.ended(),
+            Phase::InWidth { integer, .. } => WbmpError::new(MBI_TRUNCATED, integer.at),
+            Phase::InHeight { integer, .. } => WbmpError::new(MBI_TRUNCATED, integer.at),
+        }
     }
 }

@@ -30,6 +30,7 @@ pub record Reached (o : Settings) (bytes : List ℕ) (r : HeaderReader) (at kept
   pub atIs : at ≡ length bytes
   pub keptIs : kept ≡ length (fieldBytes o bytes)
 
+-- a header that is being read, of which these bytes were taken
 abbrev pub HasRead : Settings → List ℕ → HeadReading → Type 0
 HasRead o bytes h = Reached o bytes (h .reader) (h .at) (h .kept)
 

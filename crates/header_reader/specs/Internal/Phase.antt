@@ -6,24 +6,35 @@ use lib.Dec.{eqb}
 use Rattle.error.specs.Choice.{if}
 use Rattle.ext.specs.Kinds.{Span}
 use Rattle.header.specs.Read.{parsed}
+use Rattle.header.specs.declared.HeaderMode.{HeaderMode}
 use Rattle.header_reader.specs.Internal.Machine.{State, inType, atFix, inOctets, atOctet, atPair, inIdentifier, inValue, inWidth}
 use Rattle.header_reader.specs.Internal.Machine.{inHeight, Step, more, done, refused, found, toWidth}
 use Rattle.header_reader.specs.Internal.Represents.{fieldsState, state}
 use Rattle.header_reader.specs.declared.phase.FieldsPhase.{FieldsPhase}
 use Rattle.header_reader.specs.declared.phase.PairChain.{PairChain}
 use Rattle.header_reader.specs.declared.phase.PhaseStep.{PhaseStep}
+use Rattle.header_reader.specs.declared.reader.HeaderStep.{HeaderStep}
 
 abbrev pub moved : PhaseStep → Step
 moved (PhaseStep.More p) = more (state p)
 moved (PhaseStep.Done h) = done (parsed h)
 moved (PhaseStep.Refused e) = refused (e .code) (e .offset)
 
--- what follows the last of the pairs, its fault having waited, and both sizes
+-- the step as its reader's
+abbrev pub asReader : HeaderMode → PhaseStep → HeaderStep
+asReader mode (PhaseStep.More p) = HeaderStep.More (record { mode = mode; phase = p })
+asReader mode (PhaseStep.Done h) = HeaderStep.Done h
+asReader mode (PhaseStep.Refused e) = HeaderStep.Refused e
+
+-- what follows the last of the pairs, its fault having waited, the type, and both sizes
 abbrev pub afterPair : PairChain → Bool → ℕ → Step
 afterPair c again fault =
     if (eqb fault 0)
     (if again (more (fieldsState (FieldsPhase.AtPair c))) (toWidth (c .fix) (found (c .fix) (c .start) (c .at) (c .pairs)) (c .at)))
     (refused fault (c .at))
+
+abbrev pub afterType : ℕ → ℕ → Step
+afterType value at = if (eqb value 0) (more (atFix at)) (refused 5 at)
 
 abbrev pub afterSizes : ℕ → Span → ℕ → ℕ → ℕ → Step
 afterSizes fix f width height at =

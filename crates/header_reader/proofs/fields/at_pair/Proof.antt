@@ -59,10 +59,13 @@ returns-3 c =
 grown-requires : tie.Need-grown-requires
 grown-requires c κs = search needs
 
+more-fields-requires : tie.Need-more-fields-requires
+more-fields-requires c κs = search needs
+
 returns-4 : tie.Need-returns-4
 unfolding stepOf
 returns-4 c =
-    let v = c .before in
+    let v = c .before .before in
     let i = v .before .before in
     let h = i .before .before in
     let e = h .from-byte .ensures in
@@ -70,7 +73,8 @@ returns-4 c =
       lt-leb _ _ (past h),
       some-identifier (byte h) _ e (i .if2 .left),
       some-value (byte h) _ e (v .if3 .left),
-      c .grown .ensures,
+      c .before .grown .ensures,
+      c .more-fields .ensures,
       e,
     )
 
@@ -88,4 +92,5 @@ at-pair-spec =
     refuse-requires-3
     returns-3
     grown-requires
+    more-fields-requires
     returns-4)

@@ -24,11 +24,14 @@ returns-2 : tie.Need-returns-2
 unfolding stepOf
 returns-2 c = λ o. simp (lt-leb _ _ (c .before .before .if1 .left), lt-ltb _ _ (c .before .if2 .taken)) (c .after-fields .ensures)
 
+more-fields-requires : tie.Need-more-fields-requires
+more-fields-requires c κs = search needs
+
 returns-3 : tie.Need-returns-3
 unfolding stepOf
-returns-3 c = λ o. simp (lt-leb _ _ (c .before .if1 .left), le-ltb _ _ (c .if2 .left))
+returns-3 c = λ o. simp (lt-leb _ _ (c .before .before .if1 .left), le-ltb _ _ (c .before .if2 .left), c .more-fields .ensures)
 
 pub in-octets-spec : {M : Type 1} → statement M
 in-octets-spec =
     tie.close
-    (tie.spec add-if1 refuse-requires returns add-next after-fields-requires returns-2 returns-3)
+    (tie.spec add-if1 refuse-requires returns add-next after-fields-requires returns-2 more-fields-requires returns-3)

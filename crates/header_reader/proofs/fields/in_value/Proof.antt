@@ -13,21 +13,25 @@ grown-requires c κs = search needs
 shrunk-requires : tie.Need-shrunk-requires
 shrunk-requires c κs = search needs
 
+more-fields-requires : tie.Need-more-fields-requires
+more-fields-requires c κs = search needs
+
 returns : tie.Need-returns
 unfolding stepOf
 returns c =
     simp (
-      lt-ltb _ _ (c .before .before .if1 .taken),
-      c .before .before .before .before .value-fault .ensures,
-      c .before .grown .ensures,
-      c .shrunk .ensures,
+      lt-ltb _ _ (c .before .before .before .if1 .taken),
+      c .before .before .before .before .before .value-fault .ensures,
+      c .before .before .grown .ensures,
+      c .before .shrunk .ensures,
+      c .more-fields .ensures,
     )
+
+add-t11 : tie.Need-add-t11
+add-t11 c = search needs
 
 add-t12 : tie.Need-add-t12
 add-t12 c = search needs
-
-add-t13 : tie.Need-add-t13
-add-t13 c = search needs
 
 after-pair-requires : tie.Need-after-pair-requires
 after-pair-requires c κs = search needs
@@ -44,8 +48,9 @@ in-value-spec =
     value-fault-requires
     grown-requires
     shrunk-requires
+    more-fields-requires
     returns
+    add-t11
     add-t12
-    add-t13
     after-pair-requires
     returns-2)

@@ -14,6 +14,9 @@ enum-known-v c = search needs
 grown-requires : tie.Need-grown-requires
 grown-requires c κs = search needs
 
+more-height-requires : tie.Need-more-height-requires
+more-height-requires c κs = search needs
+
 enum-known-v-2 : tie.Need-enum-known-v-2
 enum-known-v-2 c = search needs
 
@@ -28,10 +31,12 @@ enum-known-e c = search needs
 
 returns : tie.Need-returns
 unfolding stepOf
-returns c = simp (
-  byte-is (c .before .before .before .before .mbi-step .ensures) (c .before .before .v .given .1) (omega arith),
-  c .grown .ensures,
-)
+returns c =
+    simp (
+      byte-is (c .before .before .before .before .before .mbi-step .ensures) (c .before .before .before .v .given .1) (omega arith),
+      c .before .grown .ensures,
+      c .more-height .ensures,
+    )
 
 returns-2 : tie.Need-returns-2
 unfolding stepOf
@@ -49,6 +54,7 @@ in-height-spec =
     mbi-step-requires
     enum-known-v
     grown-requires
+    more-height-requires
     enum-known-v-2
     add-sized
     sized-requires

@@ -1,7 +1,6 @@
 use Rattle.header_reader.proofs.IntegerByte.{byte-is}
 use Rattle.header_reader.specs.Internal.Machine.{stepOf}
 use native.Mathlib.Omega.{arith}
-use borrow.Author.Tests.{eq-eqb, ne-eqb}
 use borrow.Author.Needs.{needs}
 use Rattle.header_reader.proofs.integers.in_type.Statement.{statement}
 use Rattle.header_reader.proofs.integers.in_type.Tie as tie
@@ -15,46 +14,38 @@ enum-known-v c = search needs
 grown-requires : tie.Need-grown-requires
 grown-requires c κs = search needs
 
+more-type-requires : tie.Need-more-type-requires
+more-type-requires c κs = search needs
+
 enum-known-v-2 : tie.Need-enum-known-v-2
 enum-known-v-2 c = search needs
 
-add-at : tie.Need-add-at
-add-at c = search needs
+add-typed : tie.Need-add-typed
+add-typed c = search needs
 
-refuse-requires : tie.Need-refuse-requires
-refuse-requires c κs = search needs
+typed-requires : tie.Need-typed-requires
+typed-requires c κs = search needs
 
 enum-known-e : tie.Need-enum-known-e
 enum-known-e c = search needs
 
 returns : tie.Need-returns
 unfolding stepOf
-returns c = simp (
-  byte-is (c .before .before .before .before .mbi-step .ensures) (c .before .before .v .given .1) (omega arith),
-  c .grown .ensures,
-)
+returns c =
+    simp (
+      byte-is (c .before .before .before .before .before .mbi-step .ensures) (c .before .before .before .v .given .1) (omega arith),
+      c .before .grown .ensures,
+      c .more-type .ensures,
+    )
 
 returns-2 : tie.Need-returns-2
 unfolding stepOf
-returns-2 c = simp (
-  byte-is (c .before .before .before .before .before .mbi-step .ensures) (c .before .before .before .v2 .given .1)
-      (omega arith),
-  eq-eqb _ _ (c .if1 .taken),
-)
+returns-2 c = simp (byte-is (c .before .before .before .before .before .mbi-step .ensures) (c .before .before .before .v2 .given .1)
+    (omega arith)) (c .typed .ensures)
 
 returns-3 : tie.Need-returns-3
 unfolding stepOf
-returns-3 c =
-    simp (
-      byte-is (c .before .before .before .before .before .before .mbi-step .ensures) (c .before .before .before .before .v2 .given .1)
-          (omega arith),
-      ne-eqb _ _ (c .before .if1 .left),
-      c .refuse .ensures,
-    )
-
-returns-4 : tie.Need-returns-4
-unfolding stepOf
-returns-4 c = simp (byte-is (c .before .before .before .mbi-step .ensures) (c .before .e .given .1) (omega arith))
+returns-3 c = simp (byte-is (c .before .before .before .mbi-step .ensures) (c .before .e .given .1) (omega arith))
 
 pub in-type-spec : {M : Type 1} → statement M
 in-type-spec =
@@ -63,11 +54,11 @@ in-type-spec =
     mbi-step-requires
     enum-known-v
     grown-requires
+    more-type-requires
     enum-known-v-2
-    add-at
-    refuse-requires
+    add-typed
+    typed-requires
     enum-known-e
     returns
     returns-2
-    returns-3
-    returns-4)
+    returns-3)

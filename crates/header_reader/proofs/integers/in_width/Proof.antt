@@ -14,6 +14,9 @@ enum-known-v c = search needs
 grown-requires : tie.Need-grown-requires
 grown-requires c κs = search needs
 
+more-width-requires : tie.Need-more-width-requires
+more-width-requires c κs = search needs
+
 enum-known-v-2 : tie.Need-enum-known-v-2
 enum-known-v-2 c = search needs
 
@@ -23,23 +26,30 @@ add-start c = search needs
 start-requires : tie.Need-start-requires
 start-requires c κs = search needs
 
+more-height-requires : tie.Need-more-height-requires
+more-height-requires c κs = search needs
+
 enum-known-e : tie.Need-enum-known-e
 enum-known-e c = search needs
 
 returns : tie.Need-returns
 unfolding stepOf
-returns c = simp (
-  byte-is (c .before .before .before .before .mbi-step .ensures) (c .before .before .v .given .1) (omega arith),
-  c .grown .ensures,
-)
+returns c =
+    simp (
+      byte-is (c .before .before .before .before .before .mbi-step .ensures) (c .before .before .before .v .given .1) (omega arith),
+      c .before .grown .ensures,
+      c .more-width .ensures,
+    )
 
 returns-2 : tie.Need-returns-2
 unfolding stepOf
-returns-2 c = simp (
-  byte-is (c .before .before .before .before .before .mbi-step .ensures) (c .before .before .before .v2 .given .1)
-      (omega arith),
-  c .start .ensures,
-)
+returns-2 c =
+    simp (
+      byte-is (c .before .before .before .before .before .before .mbi-step .ensures) (c .before .before .before .before .v2 .given .1)
+          (omega arith),
+      c .before .start .ensures,
+      c .more-height .ensures,
+    )
 
 returns-3 : tie.Need-returns-3
 unfolding stepOf
@@ -52,9 +62,11 @@ in-width-spec =
     mbi-step-requires
     enum-known-v
     grown-requires
+    more-width-requires
     enum-known-v-2
     add-start
     start-requires
+    more-height-requires
     enum-known-e
     returns
     returns-2
