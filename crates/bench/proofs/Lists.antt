@@ -127,8 +127,7 @@ makes-list w h dithered numbers gray work out answers s o old new last work′ o
 -- ---- whole making and writing
 
 pub made-whole : (w h count : ℕ) (dithered : Bool) (gray out : List ℕ) (work : List ℤ) (s : EncodeOptions) (x : Answer ℕ) (r : ℕ)
-    (out′ : List ℕ)
-    (work′ : List ℤ) → s ≡ rule dithered → Makes 16 s w h count gray [] [] out work x out′ work′ → r ≡ codeOf x
+    (out′ : List ℕ) (work′ : List ℤ) → s ≡ rule dithered → Makes 16 s w h count gray [] [] out work x out′ work′ → r ≡ codeOf x
     → MadeWhole w h count dithered gray out work r out′ work′
 made-whole w h count dithered gray out work s x r out′ work′ e p q =
     record { told = x; code = q; makes = subst (λ (t : EncodeOptions). Makes 16 t w h count gray [] [] out work x out′ work′) e p }

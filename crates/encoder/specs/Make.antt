@@ -34,8 +34,8 @@ fileOfScans ceiling o width height count gray text lengths work =
     bind (checkScans ceiling o width height count (length gray) work)
     (λ _. fileOf o width height text lengths (scanBytes (ruleGiven (ruleAsked o)) width height gray count))
 
--- the file or the refusal; a work buffer is altered by a rule that keeps carries alone, where nothing is refused, in its first `width`
--- numbers
+-- the file or the refusal; a work buffer is altered in its first `width` numbers at most, and only by a rule that keeps carries, where
+-- nothing is refused
 pub record Makes (ceiling : ℕ) (o : EncodeOptions) (width height count : ℕ) (gray text lengths out : List ℕ) (work : List ℤ) (r : Answer ℕ)
     (out′ : List ℕ) (work′ : List ℤ) : Type 0 where
   pub emits : Emits (fileOfScans ceiling o width height count gray text lengths (length work)) r out out′

@@ -1,6 +1,5 @@
 -- Whole writing (document 01, encoder.rs and "Several frames"): "Writing takes planes end to end, each stride × (height - 1) + row bytes,
--- with
--- one stride and format. Surplus is ignored; a total past 64 bits is too short".
+-- with one stride and format. Surplus is ignored; a total past 64 bits is too short".
 use Prim.Native.Nat.{ℕ, zero, suc, _*_}
 use mathlib.Core.List.{List, [], _++_}
 use lib.Dec.{ltb}

@@ -24,7 +24,14 @@ ghost use Rattle.encoder.specs.Internal.Scans.{PutsScans};
 ghost use Rattle.encoder.specs.Internal.Begin.{BeginsMade};
 ghost use Rattle.ext_write.specs.Write.{flattened};
 
-// Scans of one size, end to end: their planes' layout, and how many they are.
+// Scans as they are lent, end to end: their size, and how many they are.
+struct LentScans {
+    width: u32,
+    height: u32,
+    count: usize,
+}
+
+// The same scans with their planes' layout.
 struct Scans {
     layout: PlaneLayout,
     count: usize,
@@ -125,9 +132,7 @@ fn begin_made(
 
 // A file of scans, up to the pairs of its header, which were checked before.
 fn begin_gray8(
-    width: u32,
-    height: u32,
-    count: usize,
+    lent: LentScans,
     gray: &[u8],
     options: EncodeOptions,
     text: &[u8],
@@ -135,9 +140,12 @@ fn begin_gray8(
     work: &mut [i16],
     out: &mut [u8],
 ) -> PairsBegun
-    ensures { λ r. ⌜ BeginsMade width height count (now (gray .entry)) options (now (text .entry)) found (now (work .entry))
-        (now (work .exit)) (now (out .entry)) (now (out .exit)) r ⌝ }
+    ensures { λ r. ⌜ BeginsMade (lent .width) (lent .height) (lent .count) (now (gray .entry)) options (now (text .entry)) found
+        (now (work .entry)) (now (work .exit)) (now (out .entry)) (now (out .exit)) r ⌝ }
 {
+    let width = lent.width;
+    let height = lent.height;
+    let count = lent.count;
     let layout = PlaneLayout::new(width, height);
     let scans = Scans { layout, count };
     match check_scans(width, height, count, options, gray.len(), work.len()) {
@@ -149,8 +157,8 @@ fn begin_gray8(
     }
 }
 
-// A file of `count` scans, each width × height samples; surplus gray is ignored. Nothing is written on a refusal. The pairs are lent as
-// records.
+// A file of `count` scans, each width × height samples; surplus gray is ignored. Nothing is written on a refusal.
+// The pairs are lent as records.
 pub fn encode_gray8(
     width: u32,
     height: u32,
@@ -165,18 +173,13 @@ pub fn encode_gray8(
     ensures { λ r. ⌜ Makes madeFrames options width height count (now (gray .entry)) (now (text .entry))
         (flattened (now (parameters .entry))) (now (out .entry)) (now (work .entry)) (written r) (now (out .exit)) (now (work .exit)) ⌝ }
 {
-    let found = ext_write::check_parameters(text, parameters, options.strict);
-    let begun = begin_gray8(
+    let lent = LentScans {
         width,
         height,
         count,
-        gray,
-        options,
-        text,
-        found,
-        work,
-        &mut *out,
-    );
+    };
+    let found = ext_write::check_parameters(text, parameters, options.strict);
+    let begun = begin_gray8(lent, gray, options, text, found, work, &mut *out);
     ext_write::put_parameters(text, parameters, begun, out)
 }
 
@@ -195,17 +198,12 @@ pub fn encode_gray8_lengths(
     ensures { λ r. ⌜ Makes madeFrames options width height count (now (gray .entry)) (now (text .entry)) (now (lengths .entry))
         (now (out .entry)) (now (work .entry)) (written r) (now (out .exit)) (now (work .exit)) ⌝ }
 {
-    let found = ext_write::check_lengths(text, lengths, options.strict);
-    let begun = begin_gray8(
+    let lent = LentScans {
         width,
         height,
         count,
-        gray,
-        options,
-        text,
-        found,
-        work,
-        &mut *out,
-    );
+    };
+    let found = ext_write::check_lengths(text, lengths, options.strict);
+    let begun = begin_gray8(lent, gray, options, text, found, work, &mut *out);
     ext_write::put_lengths(text, lengths, begun, out)
 }

@@ -23,7 +23,16 @@ ghost use Rattle.ext_write.specs.Write.{flattened};
 ghost use Rattle.encoder.specs.Internal.Begin.{BeginsFile, BeginsImages};
 ghost use Rattle.encoder.specs.Write.{checkPlanes, wirePlanes, fileOfPlanes};
 
-// Planes of one size, stride and format, end to end: their layout in a file, and how many they are.
+// Planes as they are lent, end to end: their size, how many they are, and the stride and format of each.
+struct LentPlanes {
+    width: u32,
+    height: u32,
+    count: usize,
+    stride: usize,
+    format: PixelFormat,
+}
+
+// The same planes with their layout in a file.
 struct Planes {
     layout: PlaneLayout,
     count: usize,
@@ -137,29 +146,30 @@ fn begin_file(
 
 // A file of planes, up to the pairs of its header, which were checked before.
 fn begin_images(
-    width: u32,
-    height: u32,
-    count: usize,
+    lent: LentPlanes,
     planes: &[u8],
-    stride: usize,
-    format: PixelFormat,
     options: EncodeOptions,
     text: &[u8],
     found: FieldsCheck,
     out: &mut [u8],
 ) -> PairsBegun
-    ensures { λ r. ⌜ BeginsImages width height count (now (planes .entry)) stride format options (now (text .entry)) found
-        (now (out .entry)) (now (out .exit)) r ⌝ }
+    ensures { λ r. ⌜ BeginsImages (lent .width) (lent .height) (lent .count) (now (planes .entry)) (lent .stride) (lent .format) options
+        (now (text .entry)) found (now (out .entry)) (now (out .exit)) r ⌝ }
 {
+    let width = lent.width;
+    let height = lent.height;
+    let count = lent.count;
+    let stride = lent.stride;
+    let format = lent.format;
     let layout = PlaneLayout::new(width, height);
-    let lent = Planes {
+    let laid = Planes {
         layout,
         count,
         stride,
         format,
     };
     match check_planes(width, height, count, stride, planes.len()) {
-        Checked::Accepted => begin_file(lent, planes, options, text, found, out),
+        Checked::Accepted => begin_file(laid, planes, options, text, found, out),
         Checked::Refused(e) => PairsBegun {
             to: out.len(),
             answer: Written::Refused(e),
@@ -184,19 +194,15 @@ pub fn encode_images(
     ensures { λ r. ⌜ Emits (fileOfPlanes madeFrames options format width height count stride (now (planes .entry)) (now (text .entry))
         (flattened (now (parameters .entry)))) (written r) (now (out .entry)) (now (out .exit)) ⌝ }
 {
-    let found = ext_write::check_parameters(text, parameters, options.strict);
-    let begun = begin_images(
+    let lent = LentPlanes {
         width,
         height,
         count,
-        planes,
         stride,
         format,
-        options,
-        text,
-        found,
-        &mut *out,
-    );
+    };
+    let found = ext_write::check_parameters(text, parameters, options.strict);
+    let begun = begin_images(lent, planes, options, text, found, &mut *out);
     ext_write::put_parameters(text, parameters, begun, out)
 }
 
@@ -216,18 +222,14 @@ pub fn encode_images_lengths(
     ensures { λ r. ⌜ Emits (fileOfPlanes madeFrames options format width height count stride (now (planes .entry)) (now (text .entry))
         (now (lengths .entry))) (written r) (now (out .entry)) (now (out .exit)) ⌝ }
 {
-    let found = ext_write::check_lengths(text, lengths, options.strict);
-    let begun = begin_images(
+    let lent = LentPlanes {
         width,
         height,
         count,
-        planes,
         stride,
         format,
-        options,
-        text,
-        found,
-        &mut *out,
-    );
+    };
+    let found = ext_write::check_lengths(text, lengths, options.strict);
+    let begun = begin_images(lent, planes, options, text, found, &mut *out);
     ext_write::put_lengths(text, lengths, begun, out)
 }

@@ -109,8 +109,7 @@ pub(crate) fn check_pairs(text: &[u8], lengths: &[usize], strict: bool) -> Pairs
     s
 }
 
-// What the end of a run of checks says of a text of `size` bytes and so many lengths: how many bytes the pairs are, or why they are
-// refused.
+// What a run of checks ends with, for a text of `size` bytes and so many lengths: how many bytes the pairs are, or their refusal.
 pub(crate) fn pairs_length(size: usize, number: usize, s: PairsCheck) -> FieldsCheck
     requires { ⌜ size + number < 2 ^ 64 ⌝ }
     ensures { λ r. ⌜ r ≡ pairsLength size number s ⌝ }

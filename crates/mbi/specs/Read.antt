@@ -27,8 +27,7 @@ readByte strict at value count b =
     (if (ltb b 128) (ends (value * 128 + b % 128))
     (goes (value * 128 + b % 128)))))
 
--- the rest of an integer: the bytes from `at` on; it gives the value and the offset after it. "Tests, per byte: input ended (1)", then the
--- byte
+-- the rest of an integer, the bytes from `at` on: its value and the offset after it; "tests, per byte: input ended (1)", then the byte
 unfoldable pub readRest : Bool → List ℕ → ℕ → ℕ → ℕ → Answer (ℕ × ℕ)
 readRest strict [] at value count = refuses 1 at
 readRest strict (b ∷ τ) at value count =

@@ -15,7 +15,8 @@ use Rattle.encoder.proofs.gray8.begin_gray8.Tie as tie
 -- what the tests say, by what they answered
 tested : (c : tie.After-check-scans) (x : Checked) → c .check-scans .result ≡ x
     → let a = c .before .before .before .before .before .args in
-    checkScans 16 (a .options) (a .width) (a .height) (a .count) (length (now (a .gray))) (length (now (a .work))) ≡ checked x
+    checkScans 16 (a .options) (a .lent .width) (a .lent .height) (a .lent .count) (length (now (a .gray))) (length (now (a .work)))
+    ≡ checked x
 tested c x e = sym (c .check-scans .ensures) ∙ ap checked e
 
 new-requires : tie.Need-new-requires
@@ -34,7 +35,7 @@ begin-made-requires c κs =
     let n = k .before in
     let a = n .before .before .before .before .args in (
       laid (n .new .ensures),
-      subst⁻¹ (λ (l : PlaneLayout). checkScans 16 (a .options) (l .width) (l .height) (a .count) (length (now (a .gray)))
+      subst⁻¹ (λ (l : PlaneLayout). checkScans 16 (a .options) (l .width) (l .height) (a .lent .count) (length (now (a .gray)))
           (length (now (a .work))) ≡ gives tt)
           (n .new .ensures) (tested k _ (t .enum-told .given .1)),
     )
@@ -54,7 +55,7 @@ returns c =
     let n = w .before .before .before .before .before .before in
     let a = n .before .before .before .before .args in
     let b = w .begin-made in
-    subst (λ (l : PlaneLayout). BeginsMade (l .width) (l .height) (a .count) (now (a .gray)) (a .options) (now (a .text)) (a .found)
+    subst (λ (l : PlaneLayout). BeginsMade (l .width) (l .height) (a .lent .count) (now (a .gray)) (a .options) (now (a .text)) (a .found)
     (now (a .work))
     (b .last .1 .1 .1 .1 .1 .0) (now (a .out)) (b .last .1 .1 .1 .1 .1 .1 .0) (b .result)) (n .new .ensures) (b .ensures)
 
@@ -62,7 +63,7 @@ returns-2 : tie.Need-returns-2
 returns-2 c lengths h =
     let t = c .before .before .before in
     let a = t .before .before .before .before .before .args in
-    untested-left (a .options) (a .width) (a .height) (a .count) (now (a .gray)) (now (a .text)) lengths (now (a .work))
+    untested-left (a .options) (a .lent .width) (a .lent .height) (a .lent .count) (now (a .gray)) (now (a .text)) lengths (now (a .work))
     (now (a .out)) _ _ refl refl (tested t _ (c .before .e .given .1))
 
 pub begin-gray8-spec : {M : Type 1} → statement M

@@ -1,6 +1,6 @@
--- `encoder::gray8::encode_gray8` meets its contract: a walk of its MIR, by hand. It calls `check_parameters`, `begin_gray8` and
--- `put_parameters`; out is lent again to the last two, and
--- work, which is not needed after it, goes to `begin_gray8` for good. All that the proof knows of them is that each meets its contract.
+-- `encoder::gray8::encode_gray8` meets its contract: a walk of its MIR, by hand. It builds the struct of the scans' numbers and calls
+-- `check_parameters`, `begin_gray8` and `put_parameters`; out is lent again to the last two, and work, which is not needed after it, goes
+-- to `begin_gray8` for good. All that the proof knows of them is that each meets its contract.
 -- Assumes nothing.
 use mathlib.Core.Path.{_≡_, refl, sym, _∙_, ap, subst}
 use Prim.Native.Nat.{ℕ, _<_, _^_}
@@ -74,6 +74,9 @@ use Rattle.options.proofs.EncodeOptions as O
 use Rattle.options.proofs.EncodeOptions.Laws as O′
 use Rattle.encoder.specs.Make.{Makes}
 use Rattle.encoder.specs.Internal.Begin.{BeginsMade}
+use Rattle.encoder.specs.declared.gray8.LentScans.{LentScans}
+use Rattle.encoder.proofs.gray8.LentScans as S
+use Rattle.encoder.proofs.gray8.LentScans.Laws as S′
 use Rattle.encoder.proofs.PairsLeft.{made-put}
 use Rattle.encoder.proofs.gray8.begin_gray8 as begin
 use Rattle.encoder.proofs.gray8.begin_gray8.Symbol as begin-def
@@ -127,7 +130,7 @@ spelled = record {
       (sliceTy (tyRef (named 1) imm (tyInt w8))) valueLocal
       ∷ local (sliceTy (tyRef (named 2) imm (pointee (T.the-row .written)))) valueLocal ∷ local
       (sliceTy (tyRef (named 3) mut (tyInt w16))) valueLocal ∷ local
-      (sliceTy (tyRef (named 4) mut (tyInt w8))) valueLocal ∷ local F′.mir valueLocal ∷ local B′.mir valueLocal
+      (sliceTy (tyRef (named 4) mut (tyInt w8))) valueLocal ∷ local S′.mir valueLocal ∷ local F′.mir valueLocal ∷ local B′.mir valueLocal
       ∷ local ref₁₆ valueLocal ∷ local (sliceTy ref₁₆) valueLocal ∷ local ref valueLocal ∷ local
       (sliceTy ref) valueLocal ∷ local ref valueLocal ∷ local (sliceTy ref) valueLocal ∷ [];
   body = body.t-1;
@@ -158,6 +161,13 @@ module _ {M : Type 1} (𝓤 : URA M) (H : Heap 𝓤) (A : Atoms 𝓤) (W : Given
 
   abbrev m : ℕ
   m = length os
+
+  -- the scans as they are lent
+  abbrev lent : LentScans
+  lent = record { width = wd; height = ht; count = n }
+
+  is-lent : Is S.the-row lent (S′.lowered lent ∷ [])
+  is-lent = LL.owes S.the-type S′.the-laws lent ((refl, wd-fits), ((refl, ht-fits), ((refl, n-fits), tt)))
 
   -- out, under the name δ at the list l
   abbrev z : GName → List ℕ → RefT (List ℕ)
@@ -257,7 +267,7 @@ module _ {M : Type 1} (𝓤 : URA M) (H : Heap 𝓤) (A : Atoms 𝓤) (W : Given
   -- the call of `begin_gray8`, with out lent again for the lifetime ν under the name δ, and work given up
   module _ (ν : ℕ) (δ : GName) (r : FieldsCheck) where
     abbrev passed : Args begin.signature (κg, (κ₀, (κw, (ν ∷ [], tt))))
-    passed = (wd, (ht, (n, (g, (c, (y, (r, (k, (z δ os, tt)))))))))
+    passed = (lent, (g, (c, (y, (r, (k, (z δ os, tt)))))))
 
     abbrev to : Begin 𝓤 H A mem run .Ghost
     to = (
@@ -266,13 +276,7 @@ module _ {M : Type 1} (𝓤 : URA M) (H : Heap 𝓤) (A : Atoms 𝓤) (W : Given
         (qg, (q₀, (qw, (fullShare, tt)))),
         tt,
         passed,
-        (
-          vint w32 wd ∷ [],
-          (
-            vint w32 ht ∷ [],
-            (vint w64 n ∷ [], (vg ∷ [], (O′.lowered c ∷ [], (vy ∷ [], (F′.lowered r ∷ [], (vk ∷ [], (vz ∷ [], tt))))))),
-          ),
-        ),
+        (S′.lowered lent ∷ [], (vg ∷ [], (O′.lowered c ∷ [], (vy ∷ [], (F′.lowered r ∷ [], (vk ∷ [], (vz ∷ [], tt))))))),
       ),
       tt,
     )
@@ -288,8 +292,7 @@ module _ {M : Type 1} (𝓤 : URA M) (H : Heap 𝓤) (A : Atoms 𝓤) (W : Given
         nothing ! $ move ! (8 ∷ 0 ∷ []) $ fjoin ! $ move ! (7 ∷ 0 ∷ []) $ fjoin ! $ owned ! F.the-row (Is F.the-row)
         (EL.makes F.the-type F′.the-plain 𝓤 H A) r _ is $ fjoin ! $ move ! (6 ∷ 0 ∷ []) $ fjoin ! $
         owned ! O.the-row (Is O.the-row) (LL.makes O.the-type O′.the-plain 𝓤 H A) c _ is-c $ fjoin ! $ move ! (5 ∷ 0 ∷ []) $ fjoin ! $
-        owned ! usize (Is usize) (uint-makes 𝓤 H A W w64) n _ (refl, n-fits) $ fjoin ! $ owned ! u32 (Is u32) (uint-makes 𝓤 H A W w32) ht _
-        (refl, ht-fits) $ fjoin ! $ owned ! u32 (Is u32) (uint-makes 𝓤 H A W w32) wd _ (refl, wd-fits) $ fjoin ! $
+        owned ! S.the-row (Is S.the-row) (LL.makes S.the-type S′.the-plain 𝓤 H A) lent _ is-lent $ fjoin ! $
         nothing ! $ move ! (5 ∷ 0 ∷ []) $ join ! $ move ! (4 ∷ 0 ∷ []) $ join ! $ move ! (3 ∷ 0 ∷ []) $ join ! $ move !
         (2 ∷ 0 ∷ []) $ join ! $ join ! $ frame ! $ done !
 
@@ -301,6 +304,9 @@ module _ {M : Type 1} (𝓤 : URA M) (H : Heap 𝓤) (A : Atoms 𝓤) (W : Given
       → BeginsMade wd ht n gs c ts r ks j os l₁ s
       → (w ≡ s .answer) × (l₂ ≡ putPairs ts (flattened ys) l₁ (putStart (s .to))) → Promise w l₂ j
   together r s w l₁ l₂ j e₁ e₂ e₃ = made-put c wd ht n gs ts (flattened ys) os l₁ l₂ ks j s w (e₂ (flattened ys) e₁) e₃
+
+  lent-typed : IsTrue (hasTy S′.mir (S′.lowered lent)) × WT (S′.lowered lent)
+  lent-typed = LL.lawful S.the-type S′.the-laws 𝓤 H A W .typed lent _ is-lent .0
 
   options-typed : IsTrue (hasTy O′.mir (O′.lowered c)) × WT (O′.lowered c)
   options-typed = LL.lawful O.the-type O′.the-laws 𝓤 H A W .typed c _ is-c .0
@@ -325,49 +331,53 @@ module _ {M : Type 1} (𝓤 : URA M) (H : Heap 𝓤) (A : Atoms 𝓤) (W : Given
         (λ l₅. alloc1 ! (λ l₆. alloc1 !
         (λ l₇. alloc1 ! (λ l₈. alloc1 !
         (λ l₉. alloc1 ! (λ l₁₀. alloc1 !
-        (λ l₁₁. alloc1 ! (λ l₁₂. alloc1 ! (λ l₁₃. alloc1 ! (λ l₁₄. alloc1 ! (λ l₁₅. alloc1 ! (λ l₁₆. alloc1 ! (λ l₁₇. alloc0 ! $ params1 ! $
-        pass1 ! (init ! 32 refl (tt, record { fits = wd-fits })) $ pass1 ! (init ! 30 refl (tt, record { fits = ht-fits })) $ pass1 !
-        (init ! 28 refl (tt, record { fits = n-fits })) $ pass1 ! (init ! 26 refl (tt, (tt, (record { fits = room-g .0 }, tt)))) $ pass1 !
-        (init ! 24 refl options-typed) $
-        pass1 ! (init ! 22 refl (tt, (tt, (record { fits = room₀ .0 }, tt)))) $ pass1 !
-        (init ! 20 refl (tt, (tt, (record { fits = room₁ .0 }, tt)))) $ pass1 !
-        (init ! 18 refl (tt, (tt, (record { fits = room-k .0 }, tt)))) $ pass1 !
-        (init ! 16 refl (tt, (tt, (record { fits = room .0 }, tt)))) $ pass0 ! $
-        move ! (36 ∷ 37 ∷ []) $ cut (Toks ∷ ‵ Owns ∷ []) (Apart os Ks) _ apart $
-        -- [text's token; text; records' token; records; out's token; out; gray's token; gray; work's token; work; _17; …; _16; …]: local i
-        -- stands at 10 + 2 * (17 - i)
+        (λ l₁₁. alloc1 ! (λ l₁₂. alloc1 ! (λ l₁₃. alloc1 ! (λ l₁₄. alloc1 ! (λ l₁₅. alloc1 ! (λ l₁₆. alloc1 ! (λ l₁₇. alloc1 ! (λ l₁₈.
+        alloc0 ! $ params1 ! $
+        pass1 ! (init ! 34 refl (tt, record { fits = wd-fits })) $ pass1 ! (init ! 32 refl (tt, record { fits = ht-fits })) $ pass1 !
+        (init ! 30 refl (tt, record { fits = n-fits })) $ pass1 ! (init ! 28 refl (tt, (tt, (record { fits = room-g .0 }, tt)))) $ pass1 !
+        (init ! 26 refl options-typed) $
+        pass1 ! (init ! 24 refl (tt, (tt, (record { fits = room₀ .0 }, tt)))) $ pass1 !
+        (init ! 22 refl (tt, (tt, (record { fits = room₁ .0 }, tt)))) $ pass1 !
+        (init ! 20 refl (tt, (tt, (record { fits = room-k .0 }, tt)))) $ pass1 !
+        (init ! 18 refl (tt, (tt, (record { fits = room .0 }, tt)))) $ pass0 ! $
+        move ! (38 ∷ 39 ∷ []) $ cut (Toks ∷ ‵ Owns ∷ []) (Apart os Ks) _ apart $
+        -- [text's token; text; records' token; records; out's token; out; gray's token; gray; work's token; work; _18; …; _17; …]: local i
+        -- stands at 10 + 2 * (18 - i)
+        assigns ! (agg ! (and-then ! (load ! (from ! (stop !)) (look ! 44 refl))
+        (and-then ! (load ! (from ! (stop !)) (look ! 42 refl)) (and-then ! (load ! (from ! (stop !)) (look ! 40 refl)) (no-more !)))))
+        (from ! (stop !)) (init ! 26 refl lent-typed) $
         checks κ₀ κ₁ q₀ q₁ y x mem run ! fm k-check (c .strict)
-        (λ i₀ i₁ i₂. and-then ! (load ! (from ! (stop !)) (look ! 31 refl))
-        (and-then ! (load ! (from ! (stop !)) (look ! 29 refl))
-        (and-then ! (load ! (from ! (fld ! refl (stop !))) (look-in ! 33 (sub ! 2 refl (whole !)))) (no-more !)))) (λ r is-r e₁.
+        (λ i₀ i₁ i₂. and-then ! (load ! (from ! (stop !)) (look ! 33 refl))
+        (and-then ! (load ! (from ! (stop !)) (look ! 31 refl))
+        (and-then ! (load ! (from ! (fld ! refl (stop !))) (look-in ! 35 (sub ! 2 refl (whole !)))) (no-more !)))) (λ r is-r e₁.
         land ! (from ! (stop !)) (init ! 24 refl (found-typed r is-r)) $
         -- `begin_gray8`
-        assigns ! (addr ! (from ! (fld ! refl (hop ! (look-in ! 28 (sub ! 0 refl (whole !))) (stop !))))) (from ! (stop !))
+        assigns ! (addr ! (from ! (fld ! refl (hop ! (look-in ! 30 (sub ! 0 refl (whole !))) (stop !))))) (from ! (stop !))
         (init ! 20 refl (tt, tt)) $
         assigns ! (agg ! (and-then ! (load ! (from ! (stop !)) (look ! 20 refl))
-        (and-then ! (load ! (from ! (fld ! refl (stop !))) (look-in ! 28 (sub ! 1 refl (whole !)))) (no-more !)))) (from ! (stop !))
+        (and-then ! (load ! (from ! (fld ! refl (stop !))) (look-in ! 30 (sub ! 1 refl (whole !)))) (no-more !)))) (from ! (stop !))
         (init ! 18 refl (tt, (tt, (record { fits = room-k .0 }, tt)))) $
-        assigns ! (addr ! (from ! (fld ! refl (hop ! (look-in ! 26 (sub ! 0 refl (whole !))) (stop !))))) (from ! (stop !))
+        assigns ! (addr ! (from ! (fld ! refl (hop ! (look-in ! 28 (sub ! 0 refl (whole !))) (stop !))))) (from ! (stop !))
         (init ! 16 refl (tt, tt)) $
         assigns ! (agg ! (and-then ! (load ! (from ! (stop !)) (look ! 16 refl))
-        (and-then ! (load ! (from ! (fld ! refl (stop !))) (look-in ! 26 (sub ! 1 refl (whole !)))) (no-more !)))) (from ! (stop !))
+        (and-then ! (load ! (from ! (fld ! refl (stop !))) (look-in ! 28 (sub ! 1 refl (whole !)))) (no-more !)))) (from ! (stop !))
         (init ! 14 refl (tt, (tt, (record { fits = room .0 }, tt)))) $
         move ! (1 ∷ []) $ use1 W (‵ (Ys κ₀ κ₁ q₀ q₁ y x) ⊛ ‵ (Ys κ₀ κ₁ q₀ q₁ y x))
         (shr-slice-copy 𝓤 H A W (named 0) κ₀ u8 .twice y _) $ split ! $ move ! (8 ∷ []) $ use1 W (‵ Gs ⊛ ‵ Gs)
         (shr-slice-copy 𝓤 H A W (named 0) κg u8 .twice g _) $ split ! $
         move ! (7 ∷ 8 ∷ []) $ lends κ₂ q₂ b o γ m ! tt os refl (λ ν δ.
-        -- [ν; out; what lends it; gray; gray; text; text; text's token; records' token; records; gray's token; work's token; work; _17; …]
+        -- [ν; out; what lends it; gray; gray; text; text; text's token; records' token; records; gray's token; work's token; work; _18; …]
         move ! (10 ∷ 7 ∷ 11 ∷ 0 ∷ 3 ∷ 5 ∷ 12 ∷ 1 ∷ []) $ cut (Asked ν δ r) (raw (Begin 𝓤 H A mem run .pre (to ν δ r)) ∷ []) _
         (asks ν δ r is-r) $
-        -- [what `begin_gray8` asks; what lends out; gray; text; records' token; records; _17; …]: local i stands at 6 + 2 * (17 - i)
+        -- [what `begin_gray8` asks; what lends out; gray; text; records' token; records; _18; …]: local i stands at 6 + 2 * (18 - i)
         calls-at ! fm (Begin 𝓤 H A mem run) k-begin (to ν δ r)
-        (and-then ! (load ! (from ! (stop !)) (look ! 38 refl))
-        (and-then ! (load ! (from ! (stop !)) (look ! 36 refl))
+        (and-then ! (load ! (from ! (stop !)) (look ! 22 refl))
         (and-then ! (load ! (from ! (stop !)) (look ! 34 refl))
-        (and-then ! (load ! (from ! (stop !)) (look ! 32 refl)) (and-then ! (load ! (from ! (stop !)) (look ! 30 refl))
-        (and-then ! (load ! (from ! (stop !)) (look ! 28 refl))
+        (and-then ! (load ! (from ! (stop !)) (look ! 32 refl))
+        (and-then ! (load ! (from ! (stop !)) (look ! 30 refl))
         (and-then ! (load ! (from ! (stop !)) (look ! 20 refl))
-        (and-then ! (load ! (from ! (stop !)) (look ! 14 refl)) (and-then ! (load ! (from ! (stop !)) (look ! 10 refl)) (no-more !))))))))))
+        (and-then ! (load ! (from ! (stop !)) (look ! 14 refl))
+        (and-then ! (load ! (from ! (stop !)) (look ! 10 refl)) (no-more !))))))))
         (λ u.
         use1 W (later (some (λ (s : PairsBegun).
         ((‵ (flft κg qg) ⊛ ‵ (flft κ₀ q₀) ⊛ ‵ (flft κw qw) ⊛ ‵ (flft (ν ∷ []) fullShare) ⊛ ‵ ftrue) ⊛ ‵ (B.the-row .own s (u ∷ []))) ⊛ raw
@@ -376,45 +386,46 @@ module _ {M : Type 1} (𝓤 : URA M) (H : Heap 𝓤) (A : Atoms 𝓤) (W : Given
         split ! $ move ! (1 ∷ []) $ use1 W
         (some (λ (ws : Lasts begin.ended (κg, (κ₀, (κw, (ν ∷ [], tt)))) (passed ν δ r)). ‵
         (lasts begin.ended (κg, (κ₀, (κw, (ν ∷ [], tt)))) (passed ν δ r) ws) ⊛ raw
-        (fact 𝓤 (Said ν δ r s (ws .1 .1 .1 .1 .1 .1 .1 .1 .0) (ws .1 .1 .1 .1 .1 .1 .1 .0))))) (id⊢ 𝓤 _) $ pick ! (λ ws.
-        split ! $ move ! (1 ∷ []) $ heard ! (Said ν δ r s (ws .1 .1 .1 .1 .1 .1 .1 .1 .0) (ws .1 .1 .1 .1 .1 .1 .1 .0)) (λ e₂.
-        fsplit ! $ drop ! $ fsplit ! $ drop ! $ fsplit ! $ drop ! $ fsplit ! $ drop ! $ fsplit ! $ drop ! $ fsplit ! $ drop ! $ fsplit ! $
-        drop ! $ fsplit ! $ fsplit ! $ move ! (1 ∷ []) $ feqL !
+        (fact 𝓤 (Said ν δ r s (ws .1 .1 .1 .1 .1 .1 .0) (ws .1 .1 .1 .1 .1 .0))))) (id⊢ 𝓤 _) $ pick ! (λ ws.
+        split ! $ move ! (1 ∷ []) $ heard ! (Said ν δ r s (ws .1 .1 .1 .1 .1 .1 .0) (ws .1 .1 .1 .1 .1 .0)) (λ e₂.
+        fsplit ! $ drop ! $ fsplit ! $ drop ! $ fsplit ! $ drop ! $ fsplit ! $ drop ! $ fsplit ! $ drop ! $
+        fsplit ! $ fsplit ! $ move ! (1 ∷ []) $ feqL !
         (λ lk. move ! (1 ∷ []) $ fsplit ! $ fsplit ! $ move ! (1 ∷ []) $ feqL ! (λ l. move ! (1 ∷ []) $ drop ! $
-        -- [out's last list; work's last list; the tokens and the result; what lends out; gray; text; records' token; records; _17; …]
+        -- [out's last list; work's last list; the tokens and the result; what lends out; gray; text; records' token; records; _18; …]
         move ! (2 ∷ []) $ split ! $ move ! (1 ∷ []) $ peeks ! B.the-row (Is B.the-row) (shows 𝓤 H A B.the-row) s (u ∷ [])
         (λ is. drop ! $ split ! $ move ! (1 ∷ []) $ split ! $ move ! (1 ∷ []) $ split ! $ move ! (1 ∷ []) $ split ! $ move !
         (1 ∷ []) $ drop ! $
         -- [ν; work's token; text's token; gray's token; out's last list; work's last list; what lends out; gray; text; records' token;
-        -- records; _17; …]
-        move ! (0 ∷ 4 ∷ 6 ∷ []) $ backs κ₂ q₂ b o γ m ! tt os (ws .1 .1 .1 .1 .1 .1 .1 .1 .0) refl l room $ move !
+        -- records; _18; …]
+        move ! (0 ∷ 4 ∷ 6 ∷ []) $ backs κ₂ q₂ b o γ m ! tt os (ws .1 .1 .1 .1 .1 .1 .0) refl l room $ move !
         (3 ∷ 7 ∷ 8 ∷ 9 ∷ 0 ∷ 1 ∷ 4 ∷ 6 ∷ 2 ∷ 5 ∷ []) $
         land ! (from ! (stop !)) (init ! 22 refl (LL.lawful B.the-type B′.the-laws 𝓤 H A W .typed s _ is .0)) $ rewrite ! 22
-        (λ (w : Val). ‵ (fat fullShare B′.mir l₁₁ 0 w)) (ap only (B′.lowers .val-is s _ is)) refl $
+        (λ (w : Val). ‵ (fat fullShare B′.mir l₁₂ 0 w)) (ap only (B′.lowers .val-is s _ is)) refl $
         -- `put_parameters`
-        assigns ! (addr ! (from ! (fld ! refl (hop ! (look-in ! 26 (sub ! 0 refl (whole !))) (stop !))))) (from ! (stop !))
+        assigns ! (addr ! (from ! (fld ! refl (hop ! (look-in ! 28 (sub ! 0 refl (whole !))) (stop !))))) (from ! (stop !))
         (init ! 12 refl (tt, tt)) $
         assigns ! (agg ! (and-then ! (load ! (from ! (stop !)) (look ! 12 refl))
-        (and-then ! (load ! (from ! (fld ! refl (stop !))) (look-in ! 26 (sub ! 1 refl (whole !)))) (no-more !)))) (from ! (stop !))
+        (and-then ! (load ! (from ! (fld ! refl (stop !))) (look-in ! 28 (sub ! 1 refl (whole !)))) (no-more !)))) (from ! (stop !))
         (init ! 10 refl (tt, (tt, (record { fits = room .0 }, tt)))) $
-        puts κ₀ κ₁ q₀ q₁ y x κ₂ q₂ b o γ m mem run ! fm k-put room (ws .1 .1 .1 .1 .1 .1 .1 .1 .0) l s
+        puts κ₀ κ₁ q₀ q₁ y x κ₂ q₂ b o γ m mem run ! fm k-put room (ws .1 .1 .1 .1 .1 .1 .0) l s
         (subst (Is B.the-row s) (B′.lowers .val-is s _ is) is)
-        (λ i₀ i₁ i₂ i₃. and-then ! (load ! (from ! (stop !)) (look ! 30 refl))
-        (and-then ! (load ! (from ! (stop !)) (look ! 28 refl))
+        (λ i₀ i₁ i₂ i₃. and-then ! (load ! (from ! (stop !)) (look ! 32 refl))
+        (and-then ! (load ! (from ! (stop !)) (look ! 30 refl))
         (and-then ! (load ! (from ! (stop !)) (look ! 20 refl)) (and-then ! (load ! (from ! (stop !)) (look ! 8 refl)) (no-more !)))))
         (λ w l₂′ is-w len e₃.
-        land ! (from ! (stop !)) (init ! 44 refl (answer-typed w is-w)) $
-        returns ! (look ! 44 refl) $ forget ! 10 refl $ forget ! 12 refl $ forget ! 14 refl $ forget ! 16 refl $ forget ! 18 refl $ forget
+        land ! (from ! (stop !)) (init ! 46 refl (answer-typed w is-w)) $
+        returns ! (look ! 46 refl) $ forget ! 10 refl $ forget ! 12 refl $ forget ! 14 refl $ forget ! 16 refl $ forget ! 18 refl $ forget
         ! 20 refl $ forget ! 22 refl $ forget ! 24 refl $ forget ! 26 refl $ forget ! 28 refl $ forget ! 30 refl $ forget ! 32 refl $
-        forget ! 34 refl $ forget ! 36 refl $ forget ! 38 refl $ forget ! 40 refl $ forget ! 42 refl $ forget ! 44 refl $
+        forget ! 34 refl $ forget ! 36 refl $ forget ! 38 refl $ forget ! 40 refl $ forget ! 42 refl $ forget ! 44 refl $ forget ! 46 refl $
+        move ! (46 ∷ 47 ∷ []) $ free1 ! $
         move ! (44 ∷ 45 ∷ []) $ free1 ! $ move ! (42 ∷ 43 ∷ []) $ free1 ! $ move ! (40 ∷ 41 ∷ []) $ free1 ! $ move !
         (38 ∷ 39 ∷ []) $ free1 ! $ move ! (36 ∷ 37 ∷ []) $ free1 ! $ move ! (34 ∷ 35 ∷ []) $ free1 ! $ move !
         (32 ∷ 33 ∷ []) $ free1 ! $ move ! (30 ∷ 31 ∷ []) $ free1 ! $ move ! (28 ∷ 29 ∷ []) $ free1 ! $ move !
         (26 ∷ 27 ∷ []) $ free1 ! $ move ! (24 ∷ 25 ∷ []) $ free1 ! $ move ! (22 ∷ 23 ∷ []) $ free1 ! $ move !
         (20 ∷ 21 ∷ []) $ free1 ! $ move ! (18 ∷ 19 ∷ []) $ free1 ! $ move ! (16 ∷ 17 ∷ []) $ free1 ! $ move !
         (14 ∷ 15 ∷ []) $ free1 ! $ move ! (12 ∷ 13 ∷ []) $ free1 ! $ move ! (10 ∷ 11 ∷ []) $ free1 ! $ free0 ! $
-        by ! (exits w l₂′ (ws .1 .1 .1 .1 .1 .1 .1 .0) is-w len lk
-        (together r s w (ws .1 .1 .1 .1 .1 .1 .1 .1 .0) l₂′ (ws .1 .1 .1 .1 .1 .1 .1 .0) e₁ e₂ e₃))))))))))))))))))))))))))))))
+        by ! (exits w l₂′ (ws .1 .1 .1 .1 .1 .0) is-w len lk
+        (together r s w (ws .1 .1 .1 .1 .1 .1 .0) l₂′ (ws .1 .1 .1 .1 .1 .0) e₁ e₂ e₃)))))))))))))))))))))))))))))))
 
     walk : ent 𝓤 (onEntry 𝓤 H A f.signature (κg, (κ₀, (κ₁, (κw, (κ₂, tt))))) (qg, (q₀, (q₁, (qw, (q₂, tt))))) a at)
         (WpFn 𝓤 H (𝓣 .C) (𝓣 .Λ) code.function vals Post)

@@ -14,7 +14,7 @@ use Rattle.encoder.proofs.planes.begin_images.Tie as tie
 
 tests-are : (c : tie.After-check-planes) (x : Checked) → c .check-planes .result ≡ x
     → let a = c .before .before .before .before .before .args in
-    checkPlanes 16 (a .width) (a .height) (a .count) (a .stride) (length (now (a .planes))) ≡ checked x
+    checkPlanes 16 (a .lent .width) (a .lent .height) (a .lent .count) (a .lent .stride) (length (now (a .planes))) ≡ checked x
 tests-are c x e = sym (c .check-planes .ensures) ∙ ap checked e
 
 new-requires : tie.Need-new-requires
@@ -33,7 +33,8 @@ begin-file-requires c κs =
     let n = k .before in
     let a = n .before .before .before .before .args in (
       laid (n .new .ensures),
-      subst⁻¹ (λ (l : PlaneLayout). checkPlanes 16 (l .width) (l .height) (a .count) (a .stride) (length (now (a .planes))) ≡ gives tt)
+      subst⁻¹ (λ (l : PlaneLayout).
+          checkPlanes 16 (l .width) (l .height) (a .lent .count) (a .lent .stride) (length (now (a .planes))) ≡ gives tt)
           (n .new .ensures)
           (tests-are k _ (t .enum-told .given .1)),
     )
@@ -52,19 +53,19 @@ returns c lengths h =
     let n = k .before in
     let a = n .before .before .before .before .args in
     let b = w .begin-file in
-    tested-left (a .options) (a .format) (a .width) (a .height) (a .count) (a .stride) (now (a .planes)) (now (a .text)) lengths
-    (now (a .out)) _ _
+    tested-left (a .options) (a .lent .format) (a .lent .width) (a .lent .height) (a .lent .count) (a .lent .stride) (now (a .planes))
+    (now (a .text)) lengths (now (a .out)) _ _
     (tests-are k _ (t .enum-told .given .1))
-    (subst (λ (l : PlaneLayout). BeginsFile (l .width) (l .height) (a .count) (now (a .planes)) (a .stride) (a .format) (a .options)
-    (now (a .text)) (a .found)
+    (subst (λ (l : PlaneLayout). BeginsFile (l .width) (l .height) (a .lent .count) (now (a .planes)) (a .lent .stride) (a .lent .format)
+    (a .options) (now (a .text)) (a .found)
     (now (a .out)) (b .last .1 .1 .1 .1 .1 .0) (b .result)) (n .new .ensures) (b .ensures) lengths h)
 
 returns-2 : tie.Need-returns-2
 returns-2 c lengths h =
     let k = c .before .before .before in
     let a = k .before .before .before .before .before .args in
-    unplaned-left (a .options) (a .format) (a .width) (a .height) (a .count) (a .stride) (now (a .planes)) (now (a .text)) lengths
-    (now (a .out)) _ _ _ refl refl
+    unplaned-left (a .options) (a .lent .format) (a .lent .width) (a .lent .height) (a .lent .count) (a .lent .stride) (now (a .planes))
+    (now (a .text)) lengths (now (a .out)) _ _ _ refl refl
     (tests-are k _ (c .before .e .given .1)) refl
 
 pub begin-images-spec : {M : Type 1} → statement M

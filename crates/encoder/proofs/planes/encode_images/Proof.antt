@@ -1,6 +1,6 @@
--- `encoder::planes::encode_images` meets its contract: a walk of its MIR, by hand. It calls `check_parameters`, `begin_images` and
--- `put_parameters`, and lends out again to the last
--- two. All that the proof knows of them is that each meets its contract.
+-- `encoder::planes::encode_images` meets its contract: a walk of its MIR, by hand. It builds the struct of the planes' numbers, calls
+-- `check_parameters`, `begin_images` and `put_parameters`, and lends out again to the last two. All that the proof knows of them is that
+-- each meets its contract.
 -- Assumes nothing.
 use mathlib.Core.Path.{_≡_, refl, sym, _∙_, ap, subst}
 use Prim.Native.Nat.{ℕ, _<_, _^_}
@@ -71,6 +71,7 @@ use Rattle.ext_write.proofs.put_parameters.Symbol as put-def
 use Rattle.ext_write.proofs.put_parameters.Symbol.{name as #put}
 use Rattle.ext_write.proofs.put_parameters.Met as put-thm
 use Rattle.image.specs.declared.PixelFormat.{PixelFormat}
+use Rattle.image.specs.declared.PixelFormat.the-variants.{MonoBlack, MonoWhite}
 use Rattle.image.proofs.PixelFormat as Px
 use Rattle.image.proofs.PixelFormat.Laws as Px′
 use Rattle.options.specs.declared.EncodeOptions.{EncodeOptions}
@@ -78,6 +79,9 @@ use Rattle.options.proofs.EncodeOptions as O
 use Rattle.options.proofs.EncodeOptions.Laws as O′
 use Rattle.encoder.specs.Write.{fileOfPlanes}
 use Rattle.encoder.specs.Internal.Begin.{BeginsImages}
+use Rattle.encoder.specs.declared.planes.LentPlanes.{LentPlanes}
+use Rattle.encoder.proofs.planes.LentPlanes as S
+use Rattle.encoder.proofs.planes.LentPlanes.Laws as S′
 use Rattle.encoder.proofs.planes.begin_images as begin
 use Rattle.encoder.proofs.planes.begin_images.Symbol as begin-def
 use Rattle.encoder.proofs.planes.begin_images.Symbol.{name as #begin}
@@ -131,7 +135,7 @@ spelled = record {
       (sliceTy (tyRef (named 1) imm (tyInt w8))) valueLocal
       ∷ local (sliceTy (tyRef (named 2) imm (pointee (T.the-row .written)))) valueLocal ∷ local
       (sliceTy (tyRef (named 3) mut
-      (tyInt w8))) valueLocal ∷ local F′.mir valueLocal ∷ local B′.mir valueLocal ∷ local ref valueLocal ∷ local
+      (tyInt w8))) valueLocal ∷ local S′.mir valueLocal ∷ local F′.mir valueLocal ∷ local B′.mir valueLocal ∷ local ref valueLocal ∷ local
       (sliceTy ref) valueLocal ∷ local ref valueLocal ∷ local (sliceTy ref) valueLocal ∷ [];
   body = body.t-1;
 }
@@ -142,6 +146,20 @@ is-spelled = refl
 -- the contract that the proof cites, beside `Calls.antt`'s
 abbrev Begin : {M : Type 1} (𝓤 : URA M) (H : Heap 𝓤) (A : Atoms 𝓤) (mem : Memory → SProp 𝓤) (run : Routine → Fun 𝓤) → Contract 𝓤
 Begin 𝓤 H A mem run = tripleOf 𝓤 H A begin.signature (begin.spec 𝓤 H A mem run)
+
+-- the planes as they are lent, by their format
+module _ (wd : ℕ) (wd-fits : wd < 2 ^ 32) (ht : ℕ) (ht-fits : ht < 2 ^ 32) (n : ℕ) (n-fits : n < 2 ^ 64) (sd : ℕ) (sd-fits : sd < 2 ^ 64)
+  where
+    abbrev planesOf : PixelFormat → LentPlanes
+    planesOf p = record { width = wd; height = ht; count = n; stride = sd; format = p }
+
+    lends-planes : (p : PixelFormat) → Is Px.the-row p (Px′.lowered p ∷ []) → Is S.the-row (planesOf p) (S′.lowered (planesOf p) ∷ [])
+    lends-planes MonoBlack is =
+        LL.owes S.the-type S′.the-laws (planesOf MonoBlack)
+        ((refl, wd-fits), ((refl, ht-fits), ((refl, n-fits), ((refl, sd-fits), (is, tt)))))
+    lends-planes MonoWhite is =
+        LL.owes S.the-type S′.the-laws (planesOf MonoWhite)
+        ((refl, wd-fits), ((refl, ht-fits), ((refl, n-fits), ((refl, sd-fits), (is, tt)))))
 
 module _ {M : Type 1} (𝓤 : URA M) (H : Heap 𝓤) (A : Atoms 𝓤) (W : Given 𝓤 H A) (mem : Memory → SProp 𝓤) (run : Routine → Fun 𝓤)
     (κg κ₀ κ₁ κ₂ : Lft) (qg q₀ q₁ q₂ : Share) (wd : ℕ) (wd-fits : wd < 2 ^ 32) (ht : ℕ) (ht-fits : ht < 2 ^ 32) (n : ℕ)
@@ -159,6 +177,13 @@ module _ {M : Type 1} (𝓤 : URA M) (H : Heap 𝓤) (A : Atoms 𝓤) (W : Given
 
   abbrev m : ℕ
   m = length os
+
+  -- the planes as they are lent
+  abbrev lent : LentPlanes
+  lent = record { width = wd; height = ht; count = n; stride = sd; format = p }
+
+  is-lent : Is S.the-row lent (S′.lowered lent ∷ [])
+  is-lent = lends-planes wd wd-fits ht ht-fits n n-fits sd sd-fits p is-p
 
   -- out, under the name δ at the list l
   abbrev z : GName → List ℕ → RefT (List ℕ)
@@ -250,7 +275,7 @@ module _ {M : Type 1} (𝓤 : URA M) (H : Heap 𝓤) (A : Atoms 𝓤) (W : Given
   -- the call of `begin_images`, with out lent again for the lifetime ν under the name δ
   module _ (ν : ℕ) (δ : GName) (r : FieldsCheck) where
     abbrev passed : Args begin.signature (κg, (κ₀, (ν ∷ [], tt)))
-    passed = (wd, (ht, (n, (g, (sd, (p, (c, (y, (r, (z δ os, tt))))))))))
+    passed = (lent, (g, (c, (y, (r, (z δ os, tt))))))
 
     abbrev to : Begin 𝓤 H A mem run .Ghost
     to = (
@@ -259,19 +284,7 @@ module _ {M : Type 1} (𝓤 : URA M) (H : Heap 𝓤) (A : Atoms 𝓤) (W : Given
         (qg, (q₀, (fullShare, tt))),
         tt,
         passed,
-        (
-          vint w32 wd ∷ [],
-          (
-            vint w32 ht ∷ [],
-            (
-              vint w64 n ∷ [],
-              (
-                vg ∷ [],
-                (vint w64 sd ∷ [], (Px′.lowered p ∷ [], (O′.lowered c ∷ [], (vy ∷ [], (F′.lowered r ∷ [], (vz ∷ [], tt)))))),
-              ),
-            ),
-          ),
-        ),
+        (S′.lowered lent ∷ [], (vg ∷ [], (O′.lowered c ∷ [], (vy ∷ [], (F′.lowered r ∷ [], (vz ∷ [], tt)))))),
       ),
       tt,
     )
@@ -285,11 +298,8 @@ module _ {M : Type 1} (𝓤 : URA M) (H : Heap 𝓤) (A : Atoms 𝓤) (W : Given
         qed W Asked ∵
         nothing ! $ move ! (6 ∷ 0 ∷ []) $ fjoin ! $ owned ! F.the-row (Is F.the-row)
         (EL.makes F.the-type F′.the-plain 𝓤 H A) r _ is $ fjoin ! $ move ! (5 ∷ 0 ∷ []) $ fjoin ! $
-        owned ! O.the-row (Is O.the-row) (LL.makes O.the-type O′.the-plain 𝓤 H A) c _ is-c $ fjoin ! $ owned ! Px.the-row (Is Px.the-row)
-        (EL.makes Px.the-type Px′.the-plain 𝓤 H A) p _ is-p $ fjoin ! $ owned ! usize (Is usize) (uint-makes 𝓤 H A W w64) sd _
-        (refl, sd-fits) $ fjoin ! $ move ! (4 ∷ 0 ∷ []) $ fjoin ! $
-        owned ! usize (Is usize) (uint-makes 𝓤 H A W w64) n _ (refl, n-fits) $ fjoin ! $ owned ! u32 (Is u32) (uint-makes 𝓤 H A W w32) ht _
-        (refl, ht-fits) $ fjoin ! $ owned ! u32 (Is u32) (uint-makes 𝓤 H A W w32) wd _ (refl, wd-fits) $ fjoin ! $
+        owned ! O.the-row (Is O.the-row) (LL.makes O.the-type O′.the-plain 𝓤 H A) c _ is-c $ fjoin ! $ move ! (4 ∷ 0 ∷ []) $ fjoin ! $
+        owned ! S.the-row (Is S.the-row) (LL.makes S.the-type S′.the-plain 𝓤 H A) lent _ is-lent $ fjoin ! $
         nothing ! $ move ! (4 ∷ 0 ∷ []) $ join ! $ move ! (3 ∷ 0 ∷ []) $ join ! $ move ! (2 ∷ 0 ∷ []) $ join ! $ join ! $ frame ! $ done !
 
     abbrev Said : PairsBegun → List ℕ → Type 0
@@ -304,6 +314,9 @@ module _ {M : Type 1} (𝓤 : URA M) (H : Heap 𝓤) (A : Atoms 𝓤) (W : Given
 
   format-typed : IsTrue (hasTy Px′.mir (Px′.lowered p)) × WT (Px′.lowered p)
   format-typed = EL.lawful Px.the-type Px′.the-laws 𝓤 H A W tt .typed p _ is-p .0
+
+  lent-typed : IsTrue (hasTy S′.mir (S′.lowered lent)) × WT (S′.lowered lent)
+  lent-typed = LL.lawful S.the-type S′.the-laws 𝓤 H A W .typed lent _ is-lent .0
 
   options-typed : IsTrue (hasTy O′.mir (O′.lowered c)) × WT (O′.lowered c)
   options-typed = LL.lawful O.the-type O′.the-laws 𝓤 H A W .typed c _ is-c .0
@@ -327,87 +340,90 @@ module _ {M : Type 1} (𝓤 : URA M) (H : Heap 𝓤) (A : Atoms 𝓤) (W : Given
         (λ l₅. alloc1 ! (λ l₆. alloc1 !
         (λ l₇. alloc1 ! (λ l₈. alloc1 !
         (λ l₉. alloc1 ! (λ l₁₀. alloc1 !
-        (λ l₁₁. alloc1 ! (λ l₁₂. alloc1 ! (λ l₁₃. alloc1 ! (λ l₁₄. alloc1 ! (λ l₁₅. alloc1 ! (λ l₁₆. alloc0 ! $ params1 ! $
-        pass1 ! (init ! 30 refl (tt, record { fits = wd-fits })) $ pass1 ! (init ! 28 refl (tt, record { fits = ht-fits })) $ pass1 !
-        (init ! 26 refl (tt, record { fits = n-fits })) $ pass1 ! (init ! 24 refl (tt, (tt, (record { fits = room-g .0 }, tt)))) $ pass1 !
-        (init ! 22 refl (tt, record { fits = sd-fits })) $
-        pass1 ! (init ! 20 refl format-typed) $ pass1 ! (init ! 18 refl options-typed) $ pass1 !
-        (init ! 16 refl (tt, (tt, (record { fits = room₀ .0 }, tt)))) $ pass1 !
-        (init ! 14 refl (tt, (tt, (record { fits = room₁ .0 }, tt)))) $ pass1 !
-        (init ! 12 refl (tt, (tt, (record { fits = room .0 }, tt)))) $ pass0 ! $
-        move ! (34 ∷ 35 ∷ []) $ cut (Toks ∷ ‵ Owns ∷ []) (Apart os) _ apart $
-        -- [text's token; text; records' token; records; out's token; out; planes' token; planes; _16; …; _15; …]: local i stands at 8 + 2
-        -- * (16 - i)
+        (λ l₁₁. alloc1 ! (λ l₁₂. alloc1 ! (λ l₁₃. alloc1 ! (λ l₁₄. alloc1 ! (λ l₁₅. alloc1 ! (λ l₁₆. alloc1 ! (λ l₁₇.
+        alloc0 ! $ params1 ! $
+        pass1 ! (init ! 32 refl (tt, record { fits = wd-fits })) $ pass1 ! (init ! 30 refl (tt, record { fits = ht-fits })) $ pass1 !
+        (init ! 28 refl (tt, record { fits = n-fits })) $ pass1 ! (init ! 26 refl (tt, (tt, (record { fits = room-g .0 }, tt)))) $ pass1 !
+        (init ! 24 refl (tt, record { fits = sd-fits })) $
+        pass1 ! (init ! 22 refl format-typed) $ pass1 ! (init ! 20 refl options-typed) $ pass1 !
+        (init ! 18 refl (tt, (tt, (record { fits = room₀ .0 }, tt)))) $ pass1 !
+        (init ! 16 refl (tt, (tt, (record { fits = room₁ .0 }, tt)))) $ pass1 !
+        (init ! 14 refl (tt, (tt, (record { fits = room .0 }, tt)))) $ pass0 ! $
+        move ! (36 ∷ 37 ∷ []) $ cut (Toks ∷ ‵ Owns ∷ []) (Apart os) _ apart $
+        -- [text's token; text; records' token; records; out's token; out; planes' token; planes; _17; …; _16; …]: local i stands at 8 + 2
+        -- * (17 - i)
+        assigns ! (agg ! (and-then ! (load ! (from ! (stop !)) (look ! 40 refl))
+        (and-then ! (load ! (from ! (stop !)) (look ! 38 refl)) (and-then ! (load ! (from ! (stop !)) (look ! 36 refl))
+        (and-then ! (load ! (from ! (stop !)) (look ! 32 refl)) (and-then ! (load ! (from ! (stop !)) (look ! 30 refl)) (no-more !)))))))
+        (from ! (stop !)) (init ! 20 refl lent-typed) $
         checks κ₀ κ₁ q₀ q₁ y x mem run ! fm k-check (c .strict)
-        (λ i₀ i₁ i₂. and-then ! (load ! (from ! (stop !)) (look ! 23 refl))
-        (and-then ! (load ! (from ! (stop !)) (look ! 21 refl))
-        (and-then ! (load ! (from ! (fld ! refl (stop !))) (look-in ! 25 (sub ! 2 refl (whole !)))) (no-more !)))) (λ r is-r e₁.
+        (λ i₀ i₁ i₂. and-then ! (load ! (from ! (stop !)) (look ! 25 refl))
+        (and-then ! (load ! (from ! (stop !)) (look ! 23 refl))
+        (and-then ! (load ! (from ! (fld ! refl (stop !))) (look-in ! 27 (sub ! 2 refl (whole !)))) (no-more !)))) (λ r is-r e₁.
         land ! (from ! (stop !)) (init ! 18 refl (found-typed r is-r)) $
         -- `begin_images`
-        assigns ! (addr ! (from ! (fld ! refl (hop ! (look-in ! 20 (sub ! 0 refl (whole !))) (stop !))))) (from ! (stop !))
+        assigns ! (addr ! (from ! (fld ! refl (hop ! (look-in ! 22 (sub ! 0 refl (whole !))) (stop !))))) (from ! (stop !))
         (init ! 14 refl (tt, tt)) $
         assigns ! (agg ! (and-then ! (load ! (from ! (stop !)) (look ! 14 refl))
-        (and-then ! (load ! (from ! (fld ! refl (stop !))) (look-in ! 20 (sub ! 1 refl (whole !)))) (no-more !)))) (from ! (stop !))
+        (and-then ! (load ! (from ! (fld ! refl (stop !))) (look-in ! 22 (sub ! 1 refl (whole !)))) (no-more !)))) (from ! (stop !))
         (init ! 12 refl (tt, (tt, (record { fits = room .0 }, tt)))) $
         move ! (1 ∷ []) $ use1 W (‵ (Ys κ₀ κ₁ q₀ q₁ y x) ⊛ ‵ (Ys κ₀ κ₁ q₀ q₁ y x))
         (shr-slice-copy 𝓤 H A W (named 0) κ₀ u8 .twice y _) $ split ! $ move ! (8 ∷ []) $ use1 W (‵ Gs ⊛ ‵ Gs)
         (shr-slice-copy 𝓤 H A W (named 0) κg u8 .twice g _) $ split ! $
         move ! (7 ∷ 8 ∷ []) $ lends κ₂ q₂ b o γ m ! tt os refl (λ ν δ.
-        -- [ν; out; what lends it; planes; planes; text; text; text's token; records' token; records; planes' token; _16; …]
+        -- [ν; out; what lends it; planes; planes; text; text; text's token; records' token; records; planes' token; _17; …]
         move ! (10 ∷ 7 ∷ 0 ∷ 3 ∷ 5 ∷ 1 ∷ []) $ cut (Asked ν δ r) (raw (Begin 𝓤 H A mem run .pre (to ν δ r)) ∷ []) _ (asks ν δ r is-r) $
-        -- [what `begin_images` asks; what lends out; planes; text; records' token; records; _16; …]: local i stands at 6 + 2 * (16 - i)
+        -- [what `begin_images` asks; what lends out; planes; text; records' token; records; _17; …]: local i stands at 6 + 2 * (17 - i)
         calls-at ! fm (Begin 𝓤 H A mem run) k-begin (to ν δ r)
-        (and-then ! (load ! (from ! (stop !)) (look ! 36 refl))
-        (and-then ! (load ! (from ! (stop !)) (look ! 34 refl))
+        (and-then ! (load ! (from ! (stop !)) (look ! 18 refl))
         (and-then ! (load ! (from ! (stop !)) (look ! 32 refl))
-        (and-then ! (load ! (from ! (stop !)) (look ! 30 refl)) (and-then ! (load ! (from ! (stop !)) (look ! 28 refl))
         (and-then ! (load ! (from ! (stop !)) (look ! 26 refl))
         (and-then ! (load ! (from ! (stop !)) (look ! 24 refl))
-        (and-then ! (load ! (from ! (stop !)) (look ! 22 refl))
         (and-then ! (load ! (from ! (stop !)) (look ! 16 refl))
-        (and-then ! (load ! (from ! (stop !)) (look ! 10 refl)) (no-more !))))))))))) (λ u.
+        (and-then ! (load ! (from ! (stop !)) (look ! 10 refl)) (no-more !))))))) (λ u.
         use1 W (later (some (λ (s : PairsBegun).
         ((‵ (flft κg qg) ⊛ ‵ (flft κ₀ q₀) ⊛ ‵ (flft (ν ∷ []) fullShare) ⊛ ‵ ftrue) ⊛ ‵ (B.the-row .own s (u ∷ []))) ⊛ raw
         (ensured 𝓤 H A begin.ended (begin.clauses 𝓤 H A mem run) (κg, (κ₀, (ν ∷ [], tt))) (passed ν δ r) tt s))))
         (id⊢ 𝓤 _) $ await ! tt $ pick ! (λ s.
         split ! $ move ! (1 ∷ []) $ use1 W
         (some (λ (ws : Lasts begin.ended (κg, (κ₀, (ν ∷ [], tt))) (passed ν δ r)). ‵
-        (lasts begin.ended (κg, (κ₀, (ν ∷ [], tt))) (passed ν δ r) ws) ⊛ raw (fact 𝓤 (Said ν δ r s (ws .1 .1 .1 .1 .1 .1 .1 .1 .1 .0)))))
+        (lasts begin.ended (κg, (κ₀, (ν ∷ [], tt))) (passed ν δ r) ws) ⊛ raw (fact 𝓤 (Said ν δ r s (ws .1 .1 .1 .1 .1 .0)))))
         (id⊢ 𝓤 _) $ pick ! (λ ws.
-        split ! $ move ! (1 ∷ []) $ heard ! (Said ν δ r s (ws .1 .1 .1 .1 .1 .1 .1 .1 .1 .0)) (λ e₂.
-        fsplit ! $ drop ! $ fsplit ! $ drop ! $ fsplit ! $ drop ! $ fsplit ! $ drop ! $ fsplit ! $ drop ! $ fsplit ! $ drop ! $ fsplit ! $
-        drop ! $ fsplit ! $ drop ! $ fsplit ! $ drop ! $ fsplit ! $ fsplit ! $ move ! (1 ∷ []) $ feqL ! (λ l. move ! (1 ∷ []) $ drop ! $
-        -- [out's last list; the tokens and the result; what lends out; planes; text; records' token; records; _16; …]
+        split ! $ move ! (1 ∷ []) $ heard ! (Said ν δ r s (ws .1 .1 .1 .1 .1 .0)) (λ e₂.
+        fsplit ! $ drop ! $ fsplit ! $ drop ! $ fsplit ! $ drop ! $ fsplit ! $ drop ! $ fsplit ! $ drop ! $
+        fsplit ! $ fsplit ! $ move ! (1 ∷ []) $ feqL ! (λ l. move ! (1 ∷ []) $ drop ! $
+        -- [out's last list; the tokens and the result; what lends out; planes; text; records' token; records; _17; …]
         move ! (1 ∷ []) $ split ! $ move ! (1 ∷ []) $ peeks ! B.the-row (Is B.the-row) (shows 𝓤 H A B.the-row) s (u ∷ [])
         (λ is. drop ! $ split ! $ move ! (1 ∷ []) $ split ! $ move ! (1 ∷ []) $ split ! $ move ! (1 ∷ []) $ drop ! $
-        -- [ν; text's token; planes' token; out's last list; what lends out; planes; text; records' token; records; _16; …]
-        move ! (0 ∷ 3 ∷ 4 ∷ []) $ backs κ₂ q₂ b o γ m ! tt os (ws .1 .1 .1 .1 .1 .1 .1 .1 .1 .0) refl l room $ move !
+        -- [ν; text's token; planes' token; out's last list; what lends out; planes; text; records' token; records; _17; …]
+        move ! (0 ∷ 3 ∷ 4 ∷ []) $ backs κ₂ q₂ b o γ m ! tt os (ws .1 .1 .1 .1 .1 .0) refl l room $ move !
         (2 ∷ 5 ∷ 6 ∷ 7 ∷ 0 ∷ 1 ∷ 3 ∷ 4 ∷ []) $
         land ! (from ! (stop !)) (init ! 16 refl (LL.lawful B.the-type B′.the-laws 𝓤 H A W .typed s _ is .0)) $ rewrite ! 16
-        (λ (w : Val). ‵ (fat fullShare B′.mir l₁₂ 0 w)) (ap only (B′.lowers .val-is s _ is)) refl $
+        (λ (w : Val). ‵ (fat fullShare B′.mir l₁₃ 0 w)) (ap only (B′.lowers .val-is s _ is)) refl $
         -- `put_parameters`
-        assigns ! (addr ! (from ! (fld ! refl (hop ! (look-in ! 20 (sub ! 0 refl (whole !))) (stop !))))) (from ! (stop !))
+        assigns ! (addr ! (from ! (fld ! refl (hop ! (look-in ! 22 (sub ! 0 refl (whole !))) (stop !))))) (from ! (stop !))
         (init ! 10 refl (tt, tt)) $
         assigns ! (agg ! (and-then ! (load ! (from ! (stop !)) (look ! 10 refl))
-        (and-then ! (load ! (from ! (fld ! refl (stop !))) (look-in ! 20 (sub ! 1 refl (whole !)))) (no-more !)))) (from ! (stop !))
+        (and-then ! (load ! (from ! (fld ! refl (stop !))) (look-in ! 22 (sub ! 1 refl (whole !)))) (no-more !)))) (from ! (stop !))
         (init ! 8 refl (tt, (tt, (record { fits = room .0 }, tt)))) $
-        puts κ₀ κ₁ q₀ q₁ y x κ₂ q₂ b o γ m mem run ! fm k-put room (ws .1 .1 .1 .1 .1 .1 .1 .1 .1 .0) l s
+        puts κ₀ κ₁ q₀ q₁ y x κ₂ q₂ b o γ m mem run ! fm k-put room (ws .1 .1 .1 .1 .1 .0) l s
         (subst (Is B.the-row s) (B′.lowers .val-is s _ is) is)
-        (λ i₀ i₁ i₂ i₃. and-then ! (load ! (from ! (stop !)) (look ! 22 refl))
-        (and-then ! (load ! (from ! (stop !)) (look ! 20 refl))
+        (λ i₀ i₁ i₂ i₃. and-then ! (load ! (from ! (stop !)) (look ! 24 refl))
+        (and-then ! (load ! (from ! (stop !)) (look ! 22 refl))
         (and-then ! (load ! (from ! (stop !)) (look ! 14 refl)) (and-then ! (load ! (from ! (stop !)) (look ! 6 refl)) (no-more !)))))
         (λ w l₂′ is-w len e₃.
-        land ! (from ! (stop !)) (init ! 40 refl (answer-typed w is-w)) $
-        returns ! (look ! 40 refl) $ forget ! 8 refl $ forget ! 10 refl $ forget ! 12 refl $ forget ! 14 refl $ forget ! 16 refl $ forget !
+        land ! (from ! (stop !)) (init ! 42 refl (answer-typed w is-w)) $
+        returns ! (look ! 42 refl) $ forget ! 8 refl $ forget ! 10 refl $ forget ! 12 refl $ forget ! 14 refl $ forget ! 16 refl $ forget !
         18 refl $ forget ! 20 refl $ forget ! 22 refl $ forget ! 24 refl $ forget ! 26 refl $ forget ! 28 refl $ forget ! 30 refl $
-        forget ! 32 refl $ forget ! 34 refl $ forget ! 36 refl $ forget ! 38 refl $ forget ! 40 refl $
+        forget ! 32 refl $ forget ! 34 refl $ forget ! 36 refl $ forget ! 38 refl $ forget ! 40 refl $ forget ! 42 refl $
+        move ! (42 ∷ 43 ∷ []) $ free1 ! $
         move ! (40 ∷ 41 ∷ []) $ free1 ! $ move ! (38 ∷ 39 ∷ []) $ free1 ! $ move ! (36 ∷ 37 ∷ []) $ free1 ! $ move !
         (34 ∷ 35 ∷ []) $ free1 ! $ move ! (32 ∷ 33 ∷ []) $ free1 ! $ move ! (30 ∷ 31 ∷ []) $ free1 ! $ move !
         (28 ∷ 29 ∷ []) $ free1 ! $ move ! (26 ∷ 27 ∷ []) $ free1 ! $ move ! (24 ∷ 25 ∷ []) $ free1 ! $ move !
         (22 ∷ 23 ∷ []) $ free1 ! $ move ! (20 ∷ 21 ∷ []) $ free1 ! $ move ! (18 ∷ 19 ∷ []) $ free1 ! $ move !
         (16 ∷ 17 ∷ []) $ free1 ! $ move ! (14 ∷ 15 ∷ []) $ free1 ! $ move ! (12 ∷ 13 ∷ []) $ free1 ! $ move !
         (10 ∷ 11 ∷ []) $ free1 ! $ move ! (8 ∷ 9 ∷ []) $ free1 ! $ free0 ! $
-        by ! (exits w l₂′ is-w len (together r s w (ws .1 .1 .1 .1 .1 .1 .1 .1 .1 .0) l₂′ e₁ e₂ e₃))))))))))))))))))))))))))))
+        by ! (exits w l₂′ is-w len (together r s w (ws .1 .1 .1 .1 .1 .0) l₂′ e₁ e₂ e₃)))))))))))))))))))))))))))))
 
     walk : ent 𝓤 (onEntry 𝓤 H A f.signature (κg, (κ₀, (κ₁, (κ₂, tt)))) (qg, (q₀, (q₁, (q₂, tt)))) a at)
         (WpFn 𝓤 H (𝓣 .C) (𝓣 .Λ) code.function vals Post)

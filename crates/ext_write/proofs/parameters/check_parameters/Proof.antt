@@ -1,8 +1,8 @@
 -- `ext_write::parameters::check_parameters` meets its contract: a walk of its MIR, by hand, with a loop. At each turn the k-th record is
 -- read, and `check_pair` is called on its two lengths and a copy of what text owns. All that the proof knows of the functions called is
 -- that each meets its contract.
---     State        a turn's state: k and the check so far, and what holds of them.        I        the invariant, the whole context of a
---     turn
+--     State        a turn's state: k and the check so far, and what holds of them.
+--     I            the invariant, the whole context of a turn
 -- Assumes nothing.
 use mathlib.Core.Path.{_≡_, refl, sym, _∙_, ap, subst}
 use Prim.Native.Nat.{ℕ, _+_, _-_, _*_, _<_, _≤_, _^_}

@@ -1,8 +1,8 @@
 -- `ext_write::parameters::put_parameters` meets its contract: a walk of its MIR, by hand, with a loop. At each turn the k-th record is
 -- read, out is lent again to `put_pair` for a lifetime that is made for the call, and comes back at the list that `put_pair` left
 -- (`LendAgain.antt`). text is Copy: a copy of what it owns goes to the callee.
---     State        a turn's state: k, the place, the output, and what holds of them.        I        the invariant, the whole context of a
---     turn
+--     State        a turn's state: k, the place, the output, and what holds of them.
+--     I            the invariant, the whole context of a turn
 -- Assumes nothing.
 use mathlib.Core.Path.{_≡_, refl, sym, _∙_, ap, subst}
 use Prim.Native.Nat.{ℕ, _+_, _-_, _*_, _<_, _≤_, _^_}
