@@ -71,8 +71,8 @@ fn check_planes(width: u32, height: u32, count: usize, stride: usize, bytes: usi
     Checked::Accepted
 }
 
-// Planes that were tested, as a file has them, each in its own stretch of the lent output.
-fn write_planes(lent: Planes, planes: &[u8], out: &mut [u8])
+// Planes that were tested, as a file has them, each in its own stretch of the lent output, which starts at index `start` of the file.
+fn write_planes(lent: Planes, planes: &[u8], start: usize, out: &mut [u8])
     requires { ⌜ Laid (lent .layout) ⌝ }
     requires { ⌜ checkPlanes madeFrames (lent .layout .width) (lent .layout .height) (lent .count) (lent .stride) (length (now planes))
         ≡ gives tt ⌝ }
@@ -99,6 +99,7 @@ fn write_planes(lent: Planes, planes: &[u8], out: &mut [u8])
             height,
             stride,
             format,
+            start % 16 + to % 16,
             &mut out[to..],
         );
         k += 1;
@@ -130,7 +131,7 @@ fn begin_file(
     let answer = begun.answer;
     match answer {
         Written::Bytes(start) => {
-            write_planes(lent, planes, &mut out[start..]);
+            write_planes(lent, planes, start, &mut out[start..]);
             let end = start + body;
             PairsBegun {
                 to,

@@ -1,6 +1,8 @@
 // Work on bytes: those of a row, or of many.
 ghost use mathlib.Core.Path.{_≡_};
-ghost use lib.ListN.{length, replicate};
+ghost use mathlib.Core.List.{_++_};
+ghost use Prim.Native.Nat.{_≤_};
+ghost use lib.ListN.{length, replicate, take, drop};
 ghost use Rattle.image.specs.Internal.Parts.{maskLast};
 ghost use Rattle.image.specs.Rows.{invert};
 
@@ -36,6 +38,17 @@ fn block(from: &[u8]) -> [u8; 16]
     b
 }
 
+// The first block of another list.
+fn copy_front(from: &[u8], to: &mut [u8])
+    requires { ⌜ (length (now from) ≡ length (now to)) × (16 ≤ length (now to)) ⌝ }
+    ensures { λ r. ⌜ now (to .exit) ≡ take 16 (now (from .entry)) ++ drop 16 (now (to .entry)) ⌝ }
+{
+    let start: usize = 0;
+    let end: usize = 16;
+    let b = block(&from[start..end]);
+    copy_bytes(&b, &mut to[start..end]);
+}
+
 // The bytes of another list: block by block, each read whole before it is stored, and then the rest.
 pub(crate) fn copy(from: &[u8], to: &mut [u8])
     requires { ⌜ length (now from) ≡ length (now to) ⌝ }
@@ -50,6 +63,21 @@ pub(crate) fn copy(from: &[u8], to: &mut [u8])
         i = end;
     }
     copy_bytes(&from[i..], &mut to[i..]);
+}
+
+// The same for a stretch that starts at index `at` of its buffer: the blocks are stored at multiples of 16 of it, over the end of one at
+// the front.
+pub(crate) fn copy_at(from: &[u8], at: usize, to: &mut [u8])
+    requires { ⌜ length (now from) ≡ length (now to) ⌝ }
+    ensures { λ r. ⌜ now (to .exit) ≡ now (from .entry) ⌝ }
+{
+    if to.len() < 16 {
+        copy_bytes(from, to);
+        return;
+    }
+    copy_front(from, to);
+    let next = 16 - at % 16;
+    copy(&from[next..], &mut to[next..]);
 }
 
 // The inverted bytes of another list.

@@ -5,6 +5,7 @@ use crate::RowStart;
 use crate::geometry::row_start;
 use crate::packed::clear_rows;
 use crate::rows::copy;
+use crate::rows::copy_at;
 use crate::rows::invert;
 use crate::rows::invert_from;
 use crate::rows::mask_last;
@@ -78,13 +79,13 @@ fn wire_rows(plane: &[u8], layout: PlaneLayout, stride: usize, format: PixelForm
 }
 
 // The bytes of a plane, in the native format.
-fn native_from(format: PixelFormat, from: &[u8], to: &mut [u8])
+fn native_from(format: PixelFormat, from: &[u8], at: usize, to: &mut [u8])
     requires { ⌜ length (now from) ≡ length (now to) ⌝ }
     ensures { λ r. ⌜ now (to .exit) ≡ toNative format (now (from .entry)) ⌝ }
 {
     match format {
         PixelFormat::MonoBlack => {
-            copy(from, to);
+            copy_at(from, at, to);
         }
         PixelFormat::MonoWhite => {
             invert_from(from, to);
@@ -93,23 +94,25 @@ fn native_from(format: PixelFormat, from: &[u8], to: &mut [u8])
 }
 
 // All rows of a plane without gaps at once.
-fn wire_packed(plane: &[u8], layout: PlaneLayout, format: PixelFormat, out: &mut [u8])
+fn wire_packed(plane: &[u8], layout: PlaneLayout, format: PixelFormat, at: usize, out: &mut [u8])
     requires { ⌜ Laid layout ⌝ }
     requires { ⌜ length (now plane) ≡ planeBytes (layout .width) (layout .height) ⌝ }
     requires { ⌜ length (now out) ≡ planeBytes (layout .width) (layout .height) ⌝ }
     ensures { λ r. ⌜ now (out .exit) ≡ clearRows (layout .width) (layout .height) (toNative format (now (plane .entry))) ⌝ }
 {
-    native_from(format, plane, out);
+    native_from(format, plane, at, out);
     clear_rows(out, layout);
 }
 
-// Rows end to end without gaps, 1 for white and padding 0; nothing is written where they do not fit.
+// Rows end to end without gaps, 1 for white and padding 0; nothing is written where they do not fit. `at` is where the output starts in
+// its buffer: stores hang on it, bytes do not.
 pub fn wire_bits(
     plane: &[u8],
     width: u32,
     height: u32,
     stride: usize,
     format: PixelFormat,
+    at: usize,
     out: &mut [u8],
 ) -> Written
     ensures { λ r. ⌜ Emits (gives (wireBits format width height stride (now (plane .entry)))) (written r) (now (out .entry))
@@ -123,7 +126,7 @@ pub fn wire_bits(
     }
     if stride == row {
         if total <= plane.len() {
-            wire_packed(&plane[..total], layout, format, &mut out[..total]);
+            wire_packed(&plane[..total], layout, format, at, &mut out[..total]);
             return Written::Bytes(total);
         }
     }

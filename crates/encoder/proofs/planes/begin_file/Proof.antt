@@ -79,9 +79,9 @@ returns c lengths q =
     let b = w .begin-header-before in
     written-left (a .options) (a .lent .layout .width) (a .lent .layout .height) (now (a .text)) lengths (now (a .out)) (a .lent .format)
     (a .lent .count) (a .lent .stride) (now (a .planes)) _ (total-is (s .pre .0))
-    (b .last .1 .1 .1 .1 .1 .1 .0) (b .result) _ refl (k .before .answer .given .0 .0) (p .write-planes .last .1 .1 .0)
+    (b .last .1 .1 .1 .1 .1 .1 .0) (b .result) _ refl (k .before .answer .given .0 .0) (p .write-planes .last .1 .1 .1 .0)
     (ap written (k .before .answer .given .1)) refl (omega (arith, behind k))
-    (p .write-planes .kept .1 .1 .0) (p .write-planes .ensures) (b .ensures .2 lengths q)
+    (p .write-planes .kept .1 .1 .1 .0) (p .write-planes .ensures) (b .ensures .2 lengths q)
 
 same-length-2 : tie.Need-same-length-2
 same-length-2 c = search needs

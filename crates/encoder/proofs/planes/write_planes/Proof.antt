@@ -11,11 +11,11 @@ use Rattle.encoder.proofs.planes.write_planes.Statement.{statement}
 use Rattle.encoder.proofs.planes.write_planes.Tie as tie
 
 abbrev Inv-loop : tie.InvT-loop
-Inv-loop planes out₀ width height plane count stride format needed k₀ out k =
+Inv-loop planes start out₀ width height plane count stride format needed k₀ out k =
     Planing format width height stride planes out₀ count plane needed out k
 
 abbrev μ-loop : tie.MeasureT-loop
-μ-loop planes out₀ width height plane count stride format needed k₀ out k = count - k
+μ-loop planes start out₀ width height plane count stride format needed k₀ out k = count - k
 
 -- the planes passed their tests
 passed : (s : tie.Start Inv-loop μ-loop)
@@ -66,6 +66,9 @@ part-wire-bits-start c = omega arith
 part-wire-bits-end : tie.Need-part-wire-bits-end Inv-loop μ-loop
 part-wire-bits-end c = omega (arith, there c .0)
 
+add-wire-bits : tie.Need-add-wire-bits Inv-loop μ-loop
+add-wire-bits c = search needs
+
 sub-wire-bits-2 : tie.Need-sub-wire-bits-2 Inv-loop μ-loop
 sub-wire-bits-2 c = omega (arith, there (c .before) .1)
 
@@ -110,6 +113,7 @@ write-planes-spec =
     sub-wire-bits
     part-wire-bits-start
     part-wire-bits-end
+    add-wire-bits
     sub-wire-bits-2
     part-wire-bits-start-2
     part-wire-bits-end-2
