@@ -122,7 +122,10 @@ module _ (t : ℕ) (f : ℕ → ℕ) (small : Below 256 f) where
   lowered : (g : ℕ → ℕ) → Below 256 g → ((i : ℕ) → bitAnd (g i) 128 ≡ dots i * 128) → bitAnd (bytes g 8) tops / 128 ≡ bytes dots 8
   lowered g h e =
       ap (λ (n : ℕ). n / 128)
-      (ap (bitAnd (bytes g 8)) tops-are ∙ bytes-and g (λ i. 128) 8 h tops-small ∙ bytes-ext (λ i. bitAnd (g i) 128) (λ i. dots i * 128) 8 (λ i l. e i) ∙ bytes-times 128 dots 8)
+      (ap (bitAnd (bytes g 8)) tops-are
+      ∙ bytes-and g (λ i. 128) 8 h tops-small
+      ∙ bytes-ext (λ i. bitAnd (g i) 128) (λ i. dots i * 128) 8 (λ i l. e i)
+      ∙ bytes-times 128 dots 8)
       ∙ mul-div-cancel (bytes dots 8) (omega arith)
 
   pub dots-below : t < 128 → bitAnd (bitOr (bytes f 8) (bitOr (bytes f 8) tops - t % 128 * ones)) tops / 128 ≡ bytes dots 8

@@ -81,7 +81,8 @@ module _ (f : ℕ → ℕ) (small : Below 256 f) where
   next : (a n k : ℕ) → 8 + k ≤ 64 → a ≡ bytes f n * 2 ^ (8 + k) → bitOr a (f n * 2 ^ k % 2 ^ 64) ≡ bytes f (suc n) * 2 ^ k
   unfolding bytes
   next a n k l e =
-      let up : bytes f n * 2 ^ (8 + k) ≡ bytes f n * 256 * 2 ^ k = ap (λ (m : ℕ). bytes f n * m) (pow-add 2 8 k) ∙ sym (mul-assoc (bytes f n) 256 (2 ^ k)) in
+      let up : bytes f n * 2 ^ (8 + k) ≡ bytes f n * 256 * 2 ^ k =
+      ap (λ (m : ℕ). bytes f n * m) (pow-add 2 8 k) ∙ sym (mul-assoc (bytes f n) 256 (2 ^ k)) in
       ap₂ bitOr e (shl-exact 8 k 64 (small n) l)
       ∙ or-shifted (bytes f n) (8 + k) (f n * 2 ^ k) (shl-lt 8 k (small n))
       ∙ ap (λ (m : ℕ). m + f n * 2 ^ k) up
@@ -89,7 +90,8 @@ module _ (f : ℕ → ℕ) (small : Below 256 f) where
 
   -- eight bytes, x the first, each shifted to its place
   pub joined : (x : ℕ) → x ≡ f 0
-      → bitOr (bitOr (bitOr (bitOr (bitOr (bitOr (bitOr (x * 2 ^ 56 % 2 ^ 64) (f 1 * 2 ^ 48 % 2 ^ 64)) (f 2 * 2 ^ 40 % 2 ^ 64)) (f 3 * 2 ^ 32 % 2 ^ 64)) (f 4 * 2 ^ 24 % 2 ^ 64)) (f 5 * 2 ^ 16 % 2 ^ 64)) (f 6 * 2 ^ 8 % 2 ^ 64)) (f 7)
+      → bitOr (bitOr (bitOr (bitOr (bitOr (bitOr (bitOr (x * 2 ^ 56 % 2 ^ 64) (f 1 * 2 ^ 48 % 2 ^ 64)) (f 2 * 2 ^ 40 % 2 ^ 64))
+      (f 3 * 2 ^ 32 % 2 ^ 64)) (f 4 * 2 ^ 24 % 2 ^ 64)) (f 5 * 2 ^ 16 % 2 ^ 64)) (f 6 * 2 ^ 8 % 2 ^ 64)) (f 7)
       ≡ bytes f 8
   unfolding bytes
   joined x e =
