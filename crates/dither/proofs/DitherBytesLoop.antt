@@ -91,13 +91,13 @@ module _ (w y x : ℕ) (samples : List ℕ) (corner : ℕ) (work₀ : List ℤ) 
   module _ (out : List ℕ) (work : List ℤ) (n : Neighbours) (k : ℕ) (C : Chain out work n k) (more : k < count)
       (there : 8 * k + 8 ≤ length samples)
       (r : DitheredByte) (work′ : List ℤ) (d : Diffused w y (x + 8 * k) (piece samples (8 * k) 8) (n .corner) work r work′) where
-    eight : length (piece samples (8 * k) 8) ≡ 8
-    eight = piece-length samples (8 * k) 8 there
+    piece-long : length (piece samples (8 * k) 8) ≡ 8
+    piece-long = piece-length samples (8 * k) 8 there
 
     pub byte-small : r .digits < 256
     byte-small =
         dots-small dither w y (x + 8 * k) (piece samples (8 * k) 8) 0 (n .corner) work (r .digits) (r .next .corner) work′ 0 8 (d .dots)
-        (omega arith) eight
+        (omega arith) piece-long
 
     same : cornerOf (subℕ (n .corner) 128) (x + 8 * k) ≡ cornerOf (subℕ (C .last) 128) (x + 8 * k)
     same = near-own w y (x + 8 * k) (C .last) work n (C .near) .cornerIs .is ∙ sym (C .near .cornerIs .is)
@@ -125,11 +125,11 @@ module _ (w y x : ℕ) (samples : List ℕ) (corner : ℕ) (work₀ : List ℤ) 
                 before = C .bytes;
                 dots =
                     dots-corner w y (x + 8 * k) (piece samples (8 * k) 8) work (n .corner) (C .last) same 0 (r .digits) (r .next .corner)
-                    work′ (omega (arith, eight)) (d .dots);
+                    work′ (omega (arith, piece-long)) (d .dots);
                 more = take-suc-set out k (r .digits) (omega (arith, C .outLong));
               });
           near = subst (λ (i : ℕ). Near w y i (r .next .corner) work′ (r .next)) e
-              (subst (λ (i : ℕ). Near w y (x + 8 * k + i) (r .next .corner) work′ (r .next)) eight (d .near));
+              (subst (λ (i : ℕ). Near w y (x + 8 * k + i) (r .next .corner) work′ (r .next)) piece-long (d .near));
           lastIs = λ _. refl;
         }
 

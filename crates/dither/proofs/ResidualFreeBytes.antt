@@ -34,26 +34,26 @@ module _ (w y x corner : ℕ) (samples : List ℕ) (from : ℕ) (work : List ℤ
     (octets : (i : ℕ) → getD samples i 0 < 256) (plain : (i : ℕ) → i < 8 → getD samples (from + i) 0 % 255 ≡ 0)
     (near : Near w y x corner work (record { left = 128; corner = 128; above = 128 }))
     (over : (i : ℕ) → i ≤ 8 → Biased (overOf w y work (x + i)) 128) where
-  abbrev eight : List ℕ
-  eight = piece samples from 8
+  abbrev grays : List ℕ
+  grays = piece samples from 8
 
-  turns : (i : ℕ) → i ≤ 8 → Inv w y x eight 0 corner work work 128 (appended 0 (thresholdFrom 128 samples from) i) 128 128 i
+  kept-to : (i : ℕ) → i ≤ 8 → Inv w y x grays 0 corner work work 128 (appended 0 (thresholdFrom 128 samples from) i) 128 128 i
   unfolding appended
-  turns zero h = inv-start w y x eight 0 corner work 128 128 128 (near .leftIs) (near .cornerIs) (near .aboveIs)
-  turns (suc i) h =
+  kept-to zero h = inv-start w y x grays 0 corner work 128 128 128 (near .leftIs) (near .cornerIs) (near .aboveIs)
+  kept-to (suc i) h =
       let e = piece-at samples from 8 i (omega arith) in
-      let g : getD eight i 0 < 256 = subst (λ (n : ℕ). n < 256) e (octets (from + i)) in
-      let p : getD eight i 0 % 255 ≡ 0 = subst (λ (n : ℕ). n % 255 ≡ 0) e (plain i (omega arith)) in
-      let d : getD eight i 0 / 128 ≡ thresholdFrom 128 samples from i = half (getD eight i 0) g ∙ ap (λ (n : ℕ). bit (leb 128 n)) (sym e) in
+      let g : getD grays i 0 < 256 = subst (λ (n : ℕ). n < 256) e (octets (from + i)) in
+      let p : getD grays i 0 % 255 ≡ 0 = subst (λ (n : ℕ). n % 255 ≡ 0) e (plain i (omega arith)) in
+      let d : getD grays i 0 / 128 ≡ thresholdFrom 128 samples from i = half (getD grays i 0) g ∙ ap (λ (n : ℕ). bit (leb 128 n)) (sym e) in
       let o : Biased (overOf w y work (x + i + 1)) 128 = subst (λ (n : ℕ). Biased (overOf w y work n) 128) (omega arith) (over (suc i) h) in
       rw (← add-one i, ← d)
-      (inv-residual-free w y x eight 0 corner work work (appended 0 (thresholdFrom 128 samples from) i) i (turns i (omega arith)) o below
+      (inv-residual-free w y x grays 0 corner work work (appended 0 (thresholdFrom 128 samples from) i) i (kept-to i (omega arith)) o below
       (omega arith) room (omega (arith, piece-length samples from 8 there)) g p)
 
-  pub residual-free-byte : Dots dither w y x eight 0 corner work (digits (thresholdFrom 128 samples from) 8) 128 work
+  pub residual-free-byte : Dots dither w y x grays 0 corner work (digits (thresholdFrom 128 samples from) 8) 128 work
   residual-free-byte =
       let n = piece-length samples from 8 there in
-      inv-end w y x eight 0 corner work work 128 (appended 0 (thresholdFrom 128 samples from) 8) 128 128 8 (turns 8 (omega arith))
+      inv-end w y x grays 0 corner work work 128 (appended 0 (thresholdFrom 128 samples from) 8) 128 128 8 (kept-to 8 (omega arith))
       (omega arith) (omega arith)
 
 -- so many bytes

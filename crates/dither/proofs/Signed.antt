@@ -1,4 +1,4 @@
--- Signed arithmetic: what `lift` and `lower` compute, by the sign of their argument.
+-- Signed arithmetic: what `to_held` and `from_held` compute, by the sign of their argument.
 -- Assumes nothing.
 use mathlib.Core.Path.{_≡_, sym, ap, _∙_}
 use mathlib.Core.Bool.{true, false}
@@ -22,7 +22,7 @@ pub wider : (z : ℤ) → SFits w16 z → SFits w32 z
 wider (pos n) f = let h = f .sfits in record { sfits = omega arith }
 wider (negsuc n) f = let h = f .sfits in record { sfits = omega arith }
 
--- `lift`: below the range, above it, and within
+-- `to_held`: below the range, above it, and within
 pub to-held-low : (z : ℤ) → ltZ z (negsuc 127) ≡ true → Biased (clamp z) 0
 to-held-low (pos n) t = never t
 to-held-low (negsuc n) t = let h = ltb-true 127 n t in record { is = ap negsuc (omega arith); small = omega arith }
@@ -35,17 +35,21 @@ pub to-held-add : (z : ℤ) → ltZ z (negsuc 127) ≡ false → ltZ (pos 128) z
 to-held-add (pos n) t u = let h = ltb-false 128 n u in record { sfits = omega arith }
 to-held-add (negsuc n) t u = let h = ltb-false 127 n t in rw (sub-pos 128 (suc n) (omega arith)) (record { sfits = omega arith })
 
-pub to-held-cast : (z : ℤ) → ltZ z (negsuc 127) ≡ false → ltZ (pos 128) z ≡ false → T (nonNeg (z +ℤ pos 128)) × Fits w32 (natAbs (z +ℤ pos 128))
+pub to-held-cast : (z : ℤ) → ltZ z (negsuc 127) ≡ false → ltZ (pos 128) z ≡ false
+    → T (nonNeg (z +ℤ pos 128)) × Fits w32 (natAbs (z +ℤ pos 128))
 to-held-cast (pos n) t u = let h = ltb-false 128 n u in (tt, record { fits = omega arith })
 to-held-cast (negsuc n) t u = let h = ltb-false 127 n t in rw (sub-pos 128 (suc n) (omega arith)) (tt, record { fits = omega arith })
 
 pub to-held-mid : (z : ℤ) → ltZ z (negsuc 127) ≡ false → ltZ (pos 128) z ≡ false → Biased (clamp z) (natAbs (z +ℤ pos 128))
-to-held-mid (pos n) t u = let h = ltb-false 128 n u in record { is = sym (sub-pos (n + 128) 128 (omega arith) ∙ ap pos (omega arith)); small = omega arith }
+to-held-mid (pos n) t u =
+    let h = ltb-false 128 n u in
+    record { is = sym (sub-pos (n + 128) 128 (omega arith) ∙ ap pos (omega arith)); small = omega arith }
 to-held-mid (negsuc n) t u =
     let h = ltb-false 127 n t in
-    rw (sub-pos 128 (suc n) (omega arith)) (record { is = sym (sub-neg (128 - suc n) 128 (omega arith) ∙ ap negsuc (omega arith)); small = omega arith })
+    rw (sub-pos 128 (suc n) (omega arith))
+    (record { is = sym (sub-neg (128 - suc n) 128 (omega arith) ∙ ap negsuc (omega arith)); small = omega arith })
 
--- `lower`
+-- `from_held`
 pub from-held-fits : (b : ℕ) → b ≤ 256 → SFits w16 (subℕ b 128)
 from-held-fits b h =
     ⊎-elim

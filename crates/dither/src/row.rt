@@ -160,13 +160,10 @@ pub(crate) fn dither_bytes(
     if count == 0 {
         return corner;
     }
-    let left = left_of(work, column);
-    let above_left = corner_of(corner, column);
-    let above = over(work, reach(width, y), column);
     let mut near = Neighbours {
-        left: left,
-        corner: above_left,
-        above: above,
+        left: left_of(work, column),
+        corner: corner_of(corner, column),
+        above: over(work, reach(width, y), column),
     };
     if residual_free(y, column, samples, 8 * count, near, work) {
         threshold_row_bytes(128, samples, out);

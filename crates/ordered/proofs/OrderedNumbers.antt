@@ -71,8 +71,8 @@ cell-one x y = record { small = omega arith; is = λ k e. go k e }
     go zero e = refl
     go (suc k) e = let q = pow-suc 2 k in absurd (omega arith)
 
-four : (h : ℕ) → 4 * (h * h) ≡ (2 * h) * (2 * h)
-four h =
+square-doubled : (h : ℕ) → 4 * (h * h) ≡ (2 * h) * (2 * h)
+square-doubled h =
     let a : 2 * (2 * (h * h)) ≡ 4 * (h * h) = omega arith in
     let b : h * (2 * h) ≡ 2 * (h * h) = sym (mul-assoc h 2 h) ∙ ap (λ (t : ℕ). t * h) (mul-comm h 2) ∙ mul-assoc 2 h h in
     sym a ∙ sym (mul-assoc 2 h (2 * h) ∙ ap (λ (t : ℕ). 2 * t) b)
@@ -80,7 +80,7 @@ four h =
 area-half : (side : ℕ) → 4 * (side / 2 * (side / 2)) ≤ side * side
 area-half side =
     let h = side / 2 in
-    let e : 4 * (h * h) ≡ (2 * h) * (2 * h) = four h in
+    let e : 4 * (h * h) ≡ (2 * h) * (2 * h) = square-doubled h in
     rw e (mul-le-mul {n₁ = 2 * h} {m₁ = 2 * h} {n₂ = side} {m₂ = side} (omega arith) (omega arith))
 
 pub cell-more : (side x y n q : ℕ) → (side ≡ 1 → ⊥) → 0 < side → Cell (side / 2) (x % (side / 2)) (y % (side / 2)) n → q ≤ 3

@@ -70,7 +70,8 @@ digits-tail f m zero h = rw add-zero (sym (mul-one (digits f m)))
 digits-tail f m (suc k) h =
     let p = digits-tail f m k h in
     let q = h (m + k) (omega arith) in
-    let r : digits f m * 2 ^ suc k ≡ digits f m * 2 ^ k * 2 = ap (λ (n : ℕ). digits f m * n) (pow-suc 2 k) ∙ sym (mul-assoc (digits f m) (2 ^ k) 2) in
+    let r : digits f m * 2 ^ suc k ≡ digits f m * 2 ^ k * 2 =
+    ap (λ (n : ℕ). digits f m * n) (pow-suc 2 k) ∙ sym (mul-assoc (digits f m) (2 ^ k) 2) in
     rw add-suc (omega arith)
 
 pub appended-ext : (begun : ℕ) (f g : ℕ → ℕ) (m : ℕ) → ((i : ℕ) → i < m → f i ≡ g i) → appended begun f m ≡ appended begun g m

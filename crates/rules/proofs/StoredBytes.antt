@@ -15,9 +15,11 @@ use Rattle.rules.proofs.ListPiece.{piece, piece-length, piece-at}
 
 module _ (t : ℕ) (gray : List ℕ) where
   -- a byte of dots after others
-  pub byte-more : (begun byte n : ℕ) → n ≡ 8 → byte ≡ digits (thresholdFrom t gray 0) 8 → begun * 256 + byte ≡ appended begun (thresholdBit t gray) n
+  pub byte-more : (begun byte n : ℕ) → n ≡ 8 → byte ≡ digits (thresholdFrom t gray 0) 8
+      → begun * 256 + byte ≡ appended begun (thresholdBit t gray) n
   byte-more begun byte n e h =
-      let f : digits (thresholdFrom t gray 0) 8 ≡ digits (thresholdBit t gray) 8 = appended-ext 0 (thresholdFrom t gray 0) (thresholdBit t gray) 8 (λ i _. ap (thresholdBit t gray) (zero-add i)) in
+      let f : digits (thresholdFrom t gray 0) 8 ≡ digits (thresholdBit t gray) 8 =
+      appended-ext 0 (thresholdFrom t gray 0) (thresholdBit t gray) 8 (λ i _. ap (thresholdBit t gray) (zero-add i)) in
       rw (e, h, f) (sym (appended-split begun (thresholdBit t gray) 8))
 
   -- the dots of m samples from an index on
@@ -49,4 +51,5 @@ module _ (t : ℕ) (gray : List ℕ) where
 
   pub stored-all : (out : List ℕ) → stored t gray 0 out 0 (length out) ≡ thresholdBytes t gray (length out)
   stored-all out =
-      sym (take-all (length out) (stored t gray 0 out 0 (length out)) (omega (arith, stored-length 0 out 0 (length out)))) ∙ stored-front out (length out) (omega arith)
+      sym (take-all (length out) (stored t gray 0 out 0 (length out)) (omega (arith, stored-length 0 out 0 (length out))))
+      ∙ stored-front out (length out) (omega arith)

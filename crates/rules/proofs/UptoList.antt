@@ -46,6 +46,7 @@ module _ {A : Type 0} (f : ℕ → A) where
           getD-at (upto n f) (f n) [] d j (length-upto n ∙ sym h) ∙ ap f (sym h)
 
 -- a list that is filled with the values, one after the other
-pub take-more : (t : List ℕ) (i v : ℕ) (f : ℕ → ℕ) → i < length t → take i t ≡ upto i f → v ≡ f i → take (i + 1) (set t i v) ≡ upto (i + 1) f
+pub take-more : (t : List ℕ) (i v : ℕ) (f : ℕ → ℕ) → i < length t → take i t ≡ upto i f → v ≡ f i
+    → take (i + 1) (set t i v) ≡ upto (i + 1) f
 unfolding upto
 take-more t i v f h e k = rw (add-one i, take-suc-set t i v h, e, k)

@@ -7,11 +7,11 @@ use mathlib.Core.Logic.{⊎-elim}
 use mathlib.Core.List.{List}
 use native.Mathlib.Omega.{arith}
 use lib.Bits.{bitAnd, and-mask}
-use lib.Dec.{eqb, leb, ltb}
-use lib.ListN.{length, getD}
+use lib.Dec.{eqb, leb}
+use lib.ListN.{getD}
 use lib.Pow.{shl-exact}
 use borrow.Author.Tests.{eqb-true, eq-eqb, lt-ltb, le-ltb}
-use Rattle.rules.specs.Bits.{bit, digits}
+use Rattle.rules.specs.Bits.{bit}
 use Rattle.rules.specs.Internal.Planes.{rowSample}
 use Rattle.rules.specs.Internal.Words.{bytes, Below, samplesFrom, TellsPlain}
 use Rattle.laws.proofs.Tests.{lt-or-le}

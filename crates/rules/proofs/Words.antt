@@ -81,7 +81,8 @@ module _ (f : ℕ → ℕ) (small : Below 256 f) where
   next : (a n k : ℕ) → 8 + k ≤ 64 → a ≡ bytes f n * 2 ^ (8 + k) → bitOr a (f n * 2 ^ k % 2 ^ 64) ≡ bytes f (suc n) * 2 ^ k
   unfolding bytes
   next a n k l e =
-      let up : bytes f n * 2 ^ (8 + k) ≡ bytes f n * 256 * 2 ^ k = ap (λ (m : ℕ). bytes f n * m) (pow-add 2 8 k) ∙ sym (mul-assoc (bytes f n) 256 (2 ^ k)) in
+      let up : bytes f n * 2 ^ (8 + k) ≡ bytes f n * 256 * 2 ^ k =
+      ap (λ (m : ℕ). bytes f n * m) (pow-add 2 8 k) ∙ sym (mul-assoc (bytes f n) 256 (2 ^ k)) in
       ap₂ bitOr e (shl-exact 8 k 64 (small n) l)
       ∙ or-shifted (bytes f n) (8 + k) (f n * 2 ^ k) (shl-lt 8 k (small n))
       ∙ ap (λ (m : ℕ). m + f n * 2 ^ k) up

@@ -16,11 +16,11 @@ use Rattle.dither.proofs.row.dither_bytes.Statement.{statement}
 use Rattle.dither.proofs.row.dither_bytes.Tie as tie
 
 abbrev Inv-loop : tie.InvT-loop
-Inv-loop width y column samples out₀ corner work₀ count left above-left above near₀ k₀ out work near k =
+Inv-loop width y column samples out₀ corner work₀ count near₀ k₀ out work near k =
     Chain width y column samples corner work₀ count out work near k
 
 abbrev μ-loop : tie.MeasureT-loop
-μ-loop width y column samples out₀ corner work₀ count left above-left above near₀ k₀ out work near k =
+μ-loop width y column samples out₀ corner work₀ count near₀ k₀ out work near k =
     count - k
 
 -- the function's entry, from where the residuals next to the first dot are known

@@ -5,7 +5,6 @@ use mathlib.Core.Path.{_≡_, refl, sym, ap, _∙_, subst}
 use native.Mathlib.Nat.{lt-of-lt-of-le}
 use native.Mathlib.Omega.{arith}
 use denote.Ref.{now}
-use lib.ListN.{length, getD}
 use lib.Pow.{pow-mono}
 use Rattle.rules.specs.Internal.Words.{bytes, samplesFrom, Below}
 use Rattle.rules.proofs.Words.{bytes-lt, bytes-next}

@@ -22,7 +22,8 @@ low : (l : tie.At-loop Inv-loop μ-loop) → l .loop .digits < 65536
 low l =
     let a = l .before .before .before .args in
     subst (λ (n : ℕ). n < 65536) (sym (l .loop .inv .1))
-    (appended-fits (a .begun) (thresholdBit (a .bound) (now (a .gray))) (λ i. bit-le (leb (a .bound) (getD (now (a .gray)) i 0))) (length (now (a .gray))) (l .loop .i) (l .before .before .before .pre) (l .loop .inv .0))
+    (appended-fits (a .begun) (thresholdBit (a .bound) (now (a .gray))) (λ i. bit-le (leb (a .bound) (getD (now (a .gray)) i 0)))
+    (length (now (a .gray))) (l .loop .i) (l .before .before .before .pre) (l .loop .inv .0))
 
 mul-result : tie.Need-mul-result Inv-loop μ-loop
 mul-result c = omega (arith, c .before .before .pre .1)
@@ -64,13 +65,16 @@ loop-again : tie.Need-loop-again Inv-loop μ-loop
 loop-again c =
     let l = c .before .before in
     let a = l .before .before .before .args in
-    (omega arith, one-more (a .begun) (thresholdBit (a .bound) (now (a .gray))) (l .loop .i) (l .loop .digits) (c .dot .result) (l .loop .inv .1) (c .dot .ensures .0))
+    let more = one-more (a .begun) (thresholdBit (a .bound) (now (a .gray))) (l .loop .i) (l .loop .digits) (c .dot .result)
+    (l .loop .inv .1) (c .dot .ensures .0) in
+    (omega arith, more)
 
 returns-2 : tie.Need-returns-2 Inv-loop μ-loop
 returns-2 c =
     let l = c .before in
-    let e : l .loop .i ≡ length (now (l .before .before .before .args .gray)) = omega arith in
-    l .loop .inv .1 ∙ ap (appended (l .before .before .before .args .begun) (thresholdBit (l .before .before .before .args .bound) (now (l .before .before .before .args .gray)))) e
+    let a = l .before .before .before .args in
+    let e : l .loop .i ≡ length (now (a .gray)) = omega arith in
+    l .loop .inv .1 ∙ ap (appended (a .begun) (thresholdBit (a .bound) (now (a .gray)))) e
 
 pub threshold-dots-spec : {M : Type 1} → statement M
 threshold-dots-spec =
