@@ -15,7 +15,7 @@ use Rattle.header.specs.Read.{readHeader}
 use Rattle.options.specs.Limits.{Mode, lenient, strict, Decoding}
 use Rattle.rules.specs.Rule.{carries}
 use Rattle.quantize.specs.Internal.Engine.{QuantizerAt}
-use Rattle.quantize.specs.Internal.Machine.{State, carried}
+use Rattle.quantize.specs.Internal.Machine.{MachineState, carried}
 use Rattle.quantize.proofs.DotsByRule.{carries-same}
 use Rattle.quantize.proofs.Places.{column-is}
 use Rattle.decoder.specs.Image.{headerOf}
@@ -125,7 +125,7 @@ module _ (a : Making.Opening) (samples out out′ : List ℕ) (work work′ : Li
       record {
         corner = c;
         kept =
-            sym (ap (λ (z : State). z .carry .kept)
+            sym (ap (λ (z : MachineState). z .carry .kept)
             (ap (λ (k : ℕ). carried S 0 (record { begun = k; carry = record { corner = c; kept = work } }) samples n) (sym clean)
             ∙ R .machine S 0 engine .keeps));
         spared = λ g.

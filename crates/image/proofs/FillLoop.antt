@@ -20,11 +20,11 @@ pub filled-over : {target l : List ℕ} (l₀ : List ℕ) (n i : ℕ) → length
 filled-over {target} {l} l₀ n i e p q r =
     let h : length (take n target) ≡ n = length-take-le n target (omega arith) in
     let same : length target ≡ length l =
-        omega (arith, ap length r, length-append (take n target) (drop n l₀), length-drop n l₀) in
+    omega (arith, ap length r, length-append (take n target) (drop n l₀), length-drop n l₀) in
     let front : take i l ≡ take i target =
-        ap (λ (k : List ℕ). take i k) r
-        ∙ take-append-le i (take n target) (drop n l₀) (omega arith)
-        ∙ take-take i n target q in
+    ap (λ (k : List ℕ). take i k) r
+    ∙ take-append-le i (take n target) (drop n l₀) (omega arith)
+    ∙ take-take i n target q in
     record {
       same = same;
       within = omega arith;

@@ -18,7 +18,7 @@ use Rattle.rules.specs.Ordered.{bound, cell}
 use Rattle.rules.specs.Rule.{Rule, threshold, dither, ordered, rightwards, dot, enoughWork}
 use Rattle.quantize.specs.Finished.{Setting, Bytewise, count, frame, dotOf, finished}
 use Rattle.rules.specs.Packed.{byteAt}
-use Rattle.quantize.specs.Internal.Machine.{State, Step, byteStep, stepOf, carried, emitted}
+use Rattle.quantize.specs.Internal.Machine.{MachineState, MachineStep, byteStep, machineStep, carried, machineBytes}
 use Rattle.dither.specs.Internal.Carry.{machineDot, next}
 use Rattle.quantize.specs.Internal.Place.{begunBy, Begun}
 use Rattle.quantize.specs.Internal.Engine.{BeginsByte, KeptAfter}
@@ -32,14 +32,14 @@ use Rattle.quantize.proofs.DiffusionKept.{here, value-next, corner-next
 
 -- ---- its byte, where the row is finished byte after byte
 
-module _ (s : Setting) (xs : List ℕ) (g : ℕ) (wide : 0 < s .width) (high : 0 < s .height) (st : State) where
+module _ (s : Setting) (xs : List ℕ) (g : ℕ) (wide : 0 < s .width) (high : 0 < s .height) (st : MachineState) where
   abbrev joint : List ℕ
   joint = xs ++ (g ∷ [])
 
   abbrev n : ℕ
   n = length xs
 
-  abbrev step : Step
+  abbrev step : MachineStep
   step = byteStep (s .rule) (s .width) (n / s .width % s .height) (n % s .width) g st
 
   long : length joint ≡ n + 1
@@ -65,7 +65,7 @@ module _ (s : Setting) (xs : List ℕ) (g : ℕ) (wide : 0 < s .width) (high : 0
         begun-more s n wide (dotOf s joint) (st .begun)
         (bit (machineDot (s .rule) (s .width) (n / s .width % s .height) (n % s .width) g (st .carry))) begun-same (ap bit dotIs)
 
-    abbrev Done : Step → Type 0
+    abbrev Done : MachineStep → Type 0
     Done p = BeginsByte s joint (p .state) × (finished s joint ≡ finished s xs ++ p .bytes)
 
     -- the byte is finished, or goes on
@@ -105,18 +105,18 @@ module _ (s : Setting) (xs : List ℕ) (g : ℕ) (wide : 0 < s .width) (high : 0
 -- ---- under every rule
 
 -- what a sample of the rule leaves, and the bytes that it finishes
-record Follows (rule : Rule) (w h frames : ℕ) (xs : List ℕ) (g : ℕ) (st : State) : Type 0 where
+record Follows (rule : Rule) (w h frames : ℕ) (xs : List ℕ) (g : ℕ) (st : MachineState) : Type 0 where
   keeps : KeptAfter rule (record { rule = rule; width = w; height = h; frames = frames }) (xs ++ (g ∷ []))
-      (stepOf rule w (length xs / w % h) (length xs % w) g st .state)
-  cornerHeld : Held (stepOf rule w (length xs / w % h) (length xs % w) g st .state .carry .corner)
+      (machineStep rule w (length xs / w % h) (length xs % w) g st .state)
+  cornerHeld : Held (machineStep rule w (length xs / w % h) (length xs % w) g st .state .carry .corner)
   bytesAre : finished (record { rule = rule; width = w; height = h; frames = frames }) (xs ++ (g ∷ []))
       ≡ finished (record { rule = rule; width = w; height = h; frames = frames }) xs
-      ++ stepOf rule w (length xs / w % h) (length xs % w) g st .bytes
+      ++ machineStep rule w (length xs / w % h) (length xs % w) g st .bytes
 
-follow : (rule : Rule) (w h frames : ℕ) (xs : List ℕ) (g : ℕ) (st : State) → 0 < w → 0 < h → g < 256
+follow : (rule : Rule) (w h frames : ℕ) (xs : List ℕ) (g : ℕ) (st : MachineState) → 0 < w → 0 < h → g < 256
     → enoughWork rule w (length (st .carry .kept)) ≡ true → Held (st .carry .corner)
     → KeptAfter rule (record { rule = rule; width = w; height = h; frames = frames }) xs st → Follows rule w h frames xs g st
-unfolding stepOf next machineDot dot
+unfolding machineStep next machineDot dot
 follow (threshold t) w h frames xs g st wide high byte room small k =
     let s : Setting = record { rule = threshold t; width = w; height = h; frames = frames } in
     let D =
@@ -147,11 +147,11 @@ follow (ordered side table) w h frames xs g st wide high byte room small k =
 
 -- ---- a list of samples
 
-module _ (s : Setting) (xs samples : List ℕ) (st : State) (wide : 0 < s .width) (high : 0 < s .height)
+module _ (s : Setting) (xs samples : List ℕ) (st : MachineState) (wide : 0 < s .width) (high : 0 < s .height)
     (octets : (i : ℕ) → getD samples i 0 < 256)
     (room : enoughWork (s .rule) (s .width) (length (st .carry .kept)) ≡ true) (small : Held (st .carry .corner))
     (k : KeptAfter (s .rule) s xs st) where
-  abbrev at : ℕ → State
+  abbrev at : ℕ → MachineState
   at i = carried s (length xs) st samples i
 
   abbrev joined : ℕ → List ℕ
@@ -169,11 +169,11 @@ module _ (s : Setting) (xs samples : List ℕ) (st : State) (wide : 0 < s .width
   pub record Kept (i : ℕ) : Type 0 where
     pub keeps : KeptAfter (s .rule) s (joined i) (at i)
     pub cornerHeld : Held (at i .carry .corner)
-    pub bytesAre : finished s (joined i) ≡ finished s xs ++ emitted s (length xs) st samples i
+    pub bytesAre : finished s (joined i) ≡ finished s xs ++ machineBytes s (length xs) st samples i
 
   -- THE THEOREM: the machine emits the bytes that the samples finish, and keeps what they leave
   pub kept : (i : ℕ) → i ≤ length samples → Kept i
-  unfolding carried emitted
+  unfolding carried machineBytes
   kept zero h =
       record { keeps = rw append-nil k; cornerHeld = small; bytesAre = ap (finished s) (append-nil xs) ∙ sym (append-nil (finished s xs)) }
   kept (suc i) h =
@@ -183,18 +183,18 @@ module _ (s : Setting) (xs samples : List ℕ) (st : State) (wide : 0 < s .width
       follow (s .rule) (s .width) (s .height) (s .frames) (joined i) (getD samples i 0) (at i) wide high (octets i) (room-at i)
       (I .cornerHeld) (I .keeps) in
       -- the sample's place, by the samples so far
-      let E : stepOf (s .rule) (s .width) (length (joined i) / s .width % s .height) (length (joined i) % s .width) (getD samples i 0)
+      let E : machineStep (s .rule) (s .width) (length (joined i) / s .width % s .height) (length (joined i) % s .width) (getD samples i 0)
       (at i)
-      ≡ stepOf (s .rule) (s .width) ((length xs + i) / s .width % s .height) ((length xs + i) % s .width) (getD samples i 0) (at i) =
+      ≡ machineStep (s .rule) (s .width) ((length xs + i) / s .width % s .height) ((length xs + i) % s .width) (getD samples i 0) (at i) =
       rw e in
       record {
         keeps =
-            rw (joined-more i h) (subst (λ (p : Step). KeptAfter (s .rule) s (joined i ++ (getD samples i 0 ∷ [])) (p .state)) E
+            rw (joined-more i h) (subst (λ (p : MachineStep). KeptAfter (s .rule) s (joined i ++ (getD samples i 0 ∷ [])) (p .state)) E
             (F .keeps));
-        cornerHeld = subst (λ (p : Step). Held (p .state .carry .corner)) E (F .cornerHeld);
+        cornerHeld = subst (λ (p : MachineStep). Held (p .state .carry .corner)) E (F .cornerHeld);
         bytesAre =
             rw (joined-more i h, ← e, F .bytesAre, I .bytesAre)
-            (append-assoc (finished s xs) (emitted s (length xs) st samples i)
-            (stepOf (s .rule) (s .width) (length (joined i) / s .width % s .height) (length (joined i) % s .width) (getD samples i 0)
+            (append-assoc (finished s xs) (machineBytes s (length xs) st samples i)
+            (machineStep (s .rule) (s .width) (length (joined i) / s .width % s .height) (length (joined i) % s .width) (getD samples i 0)
             (at i) .bytes));
       }

@@ -16,7 +16,7 @@ use Rattle.rules.specs.Ordered.{exponent}
 use Rattle.rules.specs.Rule.{Rule, threshold, dither, ordered, rightwards, enoughWork}
 use Rattle.quantize.specs.Finished.{Setting, frame, dotOf, finished, setting}
 use Rattle.dither.specs.Internal.Carry.{Carry}
-use Rattle.quantize.specs.Internal.Machine.{emitted}
+use Rattle.quantize.specs.Internal.Machine.{machineBytes}
 use Rattle.dither.specs.Internal.Kernels.{carryOf}
 use Rattle.ordered.specs.Internal.Sides.{numberTable}
 use Rattle.ordered.proofs.OrderedNumbers.{table-front}
@@ -94,16 +94,16 @@ opens asked table w h frames t =
 -- THE MACHINE EMITS THE DEFINITION'S BYTES, for every rule, list of samples and size, whatever numbers it finds
 pub machine-bytes : (s : Setting) (samples : List ℕ) (c : Carry) → 0 < s .width → 0 < s .height → ((i : ℕ) → getD samples i 0 < 256)
     → enoughWork (s .rule) (s .width) (length (c .kept)) ≡ true → Held (c .corner)
-    → emitted s 0 (record { begun = 0; carry = c }) samples (length samples) ≡ finished s samples
+    → machineBytes s 0 (record { begun = 0; carry = c }) samples (length samples) ≡ finished s samples
 machine-bytes s samples c wide high bytes room small =
     let K =
     kept s [] samples (record { begun = 0; carry = c }) wide high bytes room small (keeps-none (s .rule) s c)
     (length samples) (omega arith) in
     sym (ap (finished s) (sym (take-length samples)) ∙ K .bytesAre
-    ∙ ap (λ (l : List ℕ). l ++ emitted s 0 (record { begun = 0; carry = c }) samples (length samples)) (finished-none s wide))
+    ∙ ap (λ (l : List ℕ). l ++ machineBytes s 0 (record { begun = 0; carry = c }) samples (length samples)) (finished-none s wide))
 
 -- an example: two rows of dithering over a buffer of other numbers
-two-rows : emitted (setting dither 2 2 1) 0 (record { begun = 0; carry = carryOf 128 (pos 300 ∷ negsuc 400 ∷ pos 0 ∷ pos 0 ∷ []) })
+two-rows : machineBytes (setting dither 2 2 1) 0 (record { begun = 0; carry = carryOf 128 (pos 300 ∷ negsuc 400 ∷ pos 0 ∷ pos 0 ∷ []) })
     (127 ∷ 128 ∷ 3 ∷ 200 ∷ []) 4 ≡ finished (setting dither 2 2 1) (127 ∷ 128 ∷ 3 ∷ 200 ∷ [])
 two-rows =
     machine-bytes (setting dither 2 2 1) (127 ∷ 128 ∷ 3 ∷ 200 ∷ []) (carryOf 128 (pos 300 ∷ negsuc 400 ∷ pos 0 ∷ pos 0 ∷ [])) (omega arith)

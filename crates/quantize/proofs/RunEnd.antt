@@ -17,7 +17,7 @@ use Rattle.quantize.specs.declared.engine.RunEnded.{RunEnded}
 use Rattle.quantize.specs.declared.turn.Place.{Place}
 use Rattle.rules.specs.Rule.{Rule, knownRule, enoughWork, ruleNamed, ruleGiven}
 use Rattle.quantize.specs.Finished.{Setting, Bytewise, count, finished, takes}
-use Rattle.quantize.specs.Internal.Machine.{State, carried, emitted}
+use Rattle.quantize.specs.Internal.Machine.{MachineState, carried, machineBytes}
 use Rattle.quantize.specs.Internal.Turn.{stateOf, ruleOf, Sound, SamplesForByte, Served}
 use Rattle.quantize.specs.Internal.Engine.{QuantizerAt, KeptAfter, QuantizerAfter, Counts, Machines, Defined, Ready, Runs, ranTo}
 use Rattle.dither.proofs.HeldRange.{Held}
@@ -52,7 +52,7 @@ module _ (q : Quantizer) (samples out : List ℕ) (work : List ℤ) (r : RunEnde
     abbrev joined : List ℕ
     joined = xs ++ take (r .taken) samples
 
-    abbrev st : State
+    abbrev st : MachineState
     st = stateOf (q .place) work
 
     M : Machines q s n samples out work r out′ work′
@@ -73,10 +73,10 @@ module _ (q : Quantizer) (samples out : List ℕ) (work : List ℤ) (r : RunEnde
     -- what t samples leave and finish
     record Follows (t : ℕ) : Type 0 where
       keeps : KeptAfter (s .rule) s (xs ++ take t samples) (carried s n st samples t)
-      bytesAre : finished s (xs ++ take t samples) ≡ finished s xs ++ emitted s n st samples t
+      bytesAre : finished s (xs ++ take t samples) ≡ finished s xs ++ machineBytes s n st samples t
 
     none : Follows 0
-    unfolding carried emitted
+    unfolding carried machineBytes
     none = record { keeps = rw append-nil (H .keeps); bytesAre = ap (finished s) (append-nil xs) ∙ sym (append-nil (finished s xs)) }
 
     follows : Follows (r .taken)
@@ -94,11 +94,11 @@ module _ (q : Quantizer) (samples out : List ℕ) (work : List ℤ) (r : RunEnde
           bytes =
               M .bytes ∙ ap (λ (l : List ℕ). l ++ drop (r .written) out)
               (sym (ap (drop (length (finished s xs))) (follows .bytesAre)
-              ∙ drop-append-seam (finished s xs) (emitted s n st samples (r .taken))));
+              ∙ drop-append-seam (finished s xs) (machineBytes s n st samples (r .taken))));
           holds =
               record {
                 stands = rw long (counts s n (H .stands) .stands);
-                keeps = subst (λ (t : State). KeptAfter (s .rule) s joined t) (M .keeps) (follows .keeps);
+                keeps = subst (λ (t : MachineState). KeptAfter (s .rule) s joined t) (M .keeps) (follows .keeps);
               };
         }
 
@@ -107,7 +107,7 @@ module _ (q : Quantizer) (samples out : List ℕ) (work : List ℤ) (r : RunEnde
 pub runs-none : (q : Quantizer) (samples out : List ℕ) (work : List ℤ) → ((i : ℕ) → getD samples i 0 < 256)
     → (Sound (q .rule) (q .width) (q .height) (q .place .row) (q .place .column) (q .place .begun) (q .place .corner) (length work) → ⊥)
     → Runs q samples out work (record { quantizer = q; taken = 0; written = 0 }) out work
-unfolding carried emitted
+unfolding carried machineBytes
 runs-none q samples out work octets h =
     record {
       taken = omega arith;

@@ -17,7 +17,7 @@ use Rattle.rules.specs.Rule.{Rule, carries, ruleNamed, ruleGiven}
 use Rattle.quantize.specs.Internal.Turn.{Served, stateOf, ruleOf, Sound, Dotted, AdvancesPlace}
 use Rattle.quantize.specs.Finished.{Setting, Bytewise}
 use Rattle.dither.specs.Internal.Carry.{Carry}
-use Rattle.quantize.specs.Internal.Machine.{State, carried, emitted}
+use Rattle.quantize.specs.Internal.Machine.{MachineState, carried, machineBytes}
 use Rattle.quantize.specs.Internal.Place.{At}
 use Rattle.dither.specs.Internal.Kernels.{rowCarry, rowBit, carryOf}
 use Rattle.quantize.proofs.DotsByRule.{carries-same}
@@ -34,7 +34,7 @@ pub record Suits (q : Quantizer) (s : Setting) : Type 0 where
 pub record Moved (s : Setting) (n : ℕ) (p : Place) (xs : List ℕ) (work : List ℤ) (m : ℕ) (bytes : List ℕ) (p′ : Place)
     (work′ : List ℤ) : Type 0 where
   pub at : At s (n + m) (p′ .frames) (p′ .row) (p′ .column)
-  pub emits : emitted s n (stateOf p work) xs m ≡ bytes
+  pub emits : machineBytes s n (stateOf p work) xs m ≡ bytes
   pub keeps : carried s n (stateOf p work) xs m ≡ stateOf p′ work′
 
 pub record Turn (q : Quantizer) (p : Place) (xs : List ℕ) (work : List ℤ) (m : ℕ) (bytes : List ℕ) (p′ : Place)
@@ -48,7 +48,7 @@ pub record Turn (q : Quantizer) (p : Place) (xs : List ℕ) (work : List ℤ) (m
 -- nothing is taken
 pub turn-none : (q : Quantizer) (p : Place) (xs : List ℕ) (work : List ℤ)
     → Sound (q .rule) (q .width) (q .height) (p .row) (p .column) (p .begun) (p .corner) (length work) → Turn q p xs work 0 [] p work
-unfolding carried emitted
+unfolding carried machineBytes
 turn-none q p xs work h =
     record {
       sound = h;
@@ -120,7 +120,7 @@ module _ (q : Quantizer) (p : Place) (xs gray : List ℕ) (work : List ℤ)
       }
 
   module _ (s : Setting) (n : ℕ) (t : Suits q s) (a : At s n (p .frames) (p .row) (p .column)) where
-    abbrev st : State
+    abbrev st : MachineState
     st = stateOf p work
 
     in-row : p .column + m ≤ s .width
@@ -136,7 +136,7 @@ module _ (q : Quantizer) (p : Place) (xs gray : List ℕ) (work : List ℤ)
     digits-are = sym (rw (t .rule, t .width, ← graylong) (dt .digits))
 
     state-is : (x y : ℕ) → x ≡ y
-        → _≡_ {A = State} (record {
+        → _≡_ {A = MachineState} (record {
           begun = x;
           carry = rowCarry (s .rule) (s .width) (p .row) (p .column) gray (carryOf (p .corner) work) m;
         }) (record {

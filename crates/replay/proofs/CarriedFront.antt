@@ -18,7 +18,7 @@ use Rattle.rules.specs.Diffusion.{toRight, white, residual}
 use Rattle.rules.specs.Rule.{Rule, threshold, dither, ordered, carries}
 use Rattle.quantize.specs.Finished.{Setting}
 use Rattle.dither.specs.Internal.Carry.{clamp, Carry, leftOf, overOf, valueOf, diffused, machineDot, next}
-use Rattle.quantize.specs.Internal.Machine.{State, Step, lastOf, byteStep, stepOf, carried}
+use Rattle.quantize.specs.Internal.Machine.{MachineState, MachineStep, lastOf, byteStep, machineStep, carried}
 use Rattle.rules.specs.Rule.{Rule, threshold, dither, ordered}
 use Rattle.quantize.proofs.MachineSteps.{carried-long}
 
@@ -26,7 +26,7 @@ use Rattle.quantize.proofs.MachineSteps.{carried-long}
 abbrev withRest : List ℤ → Carry → Carry
 withRest rest c = record { corner = c .corner; kept = c .kept ++ rest }
 
-abbrev pub behind : List ℤ → State → State
+abbrev pub behind : List ℤ → MachineState → MachineState
 behind rest st = record { begun = st .begun; carry = withRest rest (st .carry) }
 
 -- ---- one dot
@@ -78,13 +78,13 @@ module _ (w y x g : ℕ) (c : Carry) (rest : List ℤ) (inRow : x < w) where
 
 -- ---- one sample, and samples one after the other
 
-module _ (w y x g : ℕ) (st : State) (rest : List ℤ) (inRow : x < w) where
+module _ (w y x g : ℕ) (st : MachineState) (rest : List ℤ) (inRow : x < w) where
   byte-front : (rule : Rule) → Room rule w (length (st .carry .kept))
       → byteStep rule w y x g (behind rest st) .state ≡ behind rest (byteStep rule w y x g st .state)
   unfolding byteStep
   byte-front rule room = go (lastOf w x)
     where
-      after : (st : State) → Bool → Step
+      after : (st : MachineState) → Bool → MachineStep
       after st b =
           let dots = st .begun * 2 + bit (machineDot rule w y x g (st .carry)) in
           if b
@@ -102,19 +102,19 @@ module _ (w y x g : ℕ) (st : State) (rest : List ℤ) (inRow : x < w) where
           ∙ ap (λ (c : Carry). record { begun = st .begun * 2 + bit (machineDot rule w y x g (st .carry)); carry = c }) e
 
   step-front : (rule : Rule) → Room rule w (length (st .carry .kept))
-      → stepOf rule w y x g (behind rest st) .state ≡ behind rest (stepOf rule w y x g st .state)
-  unfolding stepOf
+      → machineStep rule w y x g (behind rest st) .state ≡ behind rest (machineStep rule w y x g st .state)
+  unfolding machineStep
   step-front (threshold t) = byte-front (threshold t)
   step-front dither = byte-front dither
   step-front (ordered side table) = byte-front (ordered side table)
 
-pub carried-front : (s : Setting) (n : ℕ) (st : State) (xs : List ℕ) (rest : List ℤ) → 0 < s .width
+pub carried-front : (s : Setting) (n : ℕ) (st : MachineState) (xs : List ℕ) (rest : List ℤ) → 0 < s .width
     → Room (s .rule) (s .width) (length (st .carry .kept)) → (i : ℕ) → carried s n (behind rest st) xs i ≡ behind rest (carried s n st xs i)
 unfolding carried
 carried-front s n st xs rest wide room zero = refl
 carried-front s n st xs rest wide room (suc i) =
     let y = (n + i) / s .width % s .height in
     let x = (n + i) % s .width in
-    ap (λ (q : State). stepOf (s .rule) (s .width) y x (getD xs i 0) q .state) (carried-front s n st xs rest wide room i)
+    ap (λ (q : MachineState). machineStep (s .rule) (s .width) y x (getD xs i 0) q .state) (carried-front s n st xs rest wide room i)
     ∙ step-front (s .width) y x (getD xs i 0) (carried s n st xs i) rest (mod-lt (n + i) wide) (s .rule)
     (λ c. let h = room c in let l = carried-long s n st xs i in omega arith)

@@ -9,7 +9,7 @@ use lib.ListN.{take, drop, take-append-drop}
 use lib.Seq.{drop-at}
 use Rattle.error.specs.Answer.{refuses}
 use Rattle.laws.proofs.Tests.{zero-one}
-use Rattle.quantize.specs.Internal.Machine.{State}
+use Rattle.quantize.specs.Internal.Machine.{MachineState}
 use Rattle.encode_session.specs.Model.{Model, close, Outcome, outcome}
 use Rattle.encode_session.specs.Session.{fedMeaning, closedMeaning, Stands, Closes}
 use Rattle.encode_session.specs.declared.EncodeFed.{EncodeFed}
@@ -29,7 +29,7 @@ use Rattle.replay.proofs.EncodeFed.{fed-tells, fed-leaves, fed-tracks, 
 close-output : (m : Model) → outcome m close .reply .output ≡ []
 close-output m = by-close m (λ (x : Outcome). x .reply .output ≡ []) refl refl (λ _. refl)
 
-closed-tracks : (s : EncodeSession) (m : Model) (work : List ℤ) (q : State) (closed : EncodeClosed) → Closes s closed → Stands s m
+closed-tracks : (s : EncodeSession) (m : Model) (work : List ℤ) (q : MachineState) (closed : EncodeClosed) → Closes s closed → Stands s m
     → Tracks s m work q → Tracks (closed .session) (outcome m close .next) work q
 closed-tracks s m work q closed C st T =
     by-close m (λ (x : Outcome). closedMeaning (closed .answer) ≡ x .reply .answer → Tracks (closed .session) (x .next) work q)

@@ -12,7 +12,7 @@ use lib.Seq.{length-take-le, take-all, take-take, take-at}
 use Rattle.error.specs.Answer.{gives, refuses}
 use Rattle.error.specs.Answer as Answers
 use Rattle.rules.specs.Rule.{carries}
-use Rattle.quantize.specs.Internal.Machine.{State, carried}
+use Rattle.quantize.specs.Internal.Machine.{MachineState, carried}
 use Rattle.quantize.specs.Internal.Turn.{stateOf}
 use Rattle.quantize.proofs.DotsByRule.{carries-same}
 use Rattle.encode_session.specs.Model.{Opening, settingOf, serves, Model, feed, Told, Outcome, outcome}
@@ -62,12 +62,12 @@ fed-part s p samples work out at r front part h k F e f =
     }
 
 -- where nothing is altered
-tracks-same : (s s′ : EncodeSession) (m m′ : Model) (work work′ : List ℤ) (q q′ : State) → s′ ≡ s → m′ ≡ m → work′ ≡ work → q′ ≡ q
+tracks-same : (s s′ : EncodeSession) (m m′ : Model) (work work′ : List ℤ) (q q′ : MachineState) → s′ ≡ s → m′ ≡ m → work′ ≡ work → q′ ≡ q
     → Tracks s m work q → Tracks s′ m′ work′ q′
 tracks-same s s′ m m′ work work′ q q′ a b c d T =
     subst (λ (z : EncodeSession). Tracks z m′ work′ q′) (sym a)
     (subst (λ (z : Model). Tracks s z work′ q′) (sym b)
-    (subst (λ (z : List ℤ). Tracks s m z q′) (sym c) (subst (λ (z : State). Tracks s m work z) (sym d) T)))
+    (subst (λ (z : List ℤ). Tracks s m z q′) (sym c) (subst (λ (z : MachineState). Tracks s m work z) (sym d) T)))
 
 -- what the model says of a feeding call
 module _ (s : EncodeSession) (p : Lending) (samples : List ℕ) (work : List ℤ) (out : List ℕ) (at : ℕ) (fed : EncodeFed) (work′ : List ℤ)
@@ -129,7 +129,7 @@ module _ (s : EncodeSession) (p : Lending) (samples : List ℕ) (work : List ℤ
   fed-leaves = leaves-by (fed .answer) refl
 
   -- the numbers of the work buffer that were not lent stand behind those that the engine keeps
-  took-tracks : (n b : ℕ) → fed .answer ≡ Took n b → (q : State) → Tracks s m work q
+  took-tracks : (n b : ℕ) → fed .answer ≡ Took n b → (q : MachineState) → Tracks s m work q
       → Tracks (fed .session) (x .next) work′ (keptBy m (feed xs o (p .lent)) q)
   took-tracks n b e q T =
       let a = sym answer-is ∙ ap fedMeaning e in
@@ -143,14 +143,14 @@ module _ (s : EncodeSession) (p : Lending) (samples : List ℕ) (work : List ℤ
       T .state (t .0) ∙ ap (stateOf (s .quantizer .place)) (sym (take-append-drop (p .lent) work)) in
       let kept : keptBy m (feed xs o (p .lent)) q ≡ stateOf (fed .session .quantizer .place) work′ =
       ap (λ (y : Answers.Answer Told). carried S k q xs (tookOf y)) a
-      ∙ ap (λ (z : State). carried S k z xs n) front
+      ∙ ap (λ (z : MachineState). carried S k z xs n) front
       ∙ carried-front S k (stateOf (s .quantizer .place) (take (p .lent) work)) xs rest (omega arith)
       (λ c. let h = served-room m (p .lent) (feed-served m xs o (p .lent) _ a) c in let l = F .lentLong in omega arith) n
       ∙ ap (behind rest) (F .does .runs n b e .machine S k Q .keeps)
       ∙ ap (stateOf (fed .session .quantizer .place)) (sym (F .workIs)) in
-      record { numbers = ap (λ (z : State). z .carry .kept) (sym kept); state = λ _. kept }
+      record { numbers = ap (λ (z : MachineState). z .carry .kept) (sym kept); state = λ _. kept }
 
-  refused-tracks : (code place : ℕ) → fedMeaning (fed .answer) ≡ refuses code place → (q : State) → Tracks s m work q
+  refused-tracks : (code place : ℕ) → fedMeaning (fed .answer) ≡ refuses code place → (q : MachineState) → Tracks s m work q
       → Tracks (fed .session) (x .next) work′ (keptBy m (feed xs o (p .lent)) q)
   unfolding carried
   refused-tracks code place e q T =
@@ -160,12 +160,12 @@ module _ (s : EncodeSession) (p : Lending) (samples : List ℕ) (work : List ℤ
       tracks-same s (fed .session) m (x .next) work work′ q (keptBy m (feed xs o (p .lent)) q) (u .0) (i .1) (work-same (u .1 .1))
       (ap (λ (y : Answers.Answer Told). carried (settingOf (m .opening)) (length (m .samples)) q xs (tookOf y)) a) T
 
-  tracks-by : (y : EncodeFeed) → fed .answer ≡ y → (q : State) → Tracks s m work q
+  tracks-by : (y : EncodeFeed) → fed .answer ≡ y → (q : MachineState) → Tracks s m work q
       → Tracks (fed .session) (x .next) work′ (keptBy m (feed xs o (p .lent)) q)
   tracks-by (Took n b) e = took-tracks n b e
   tracks-by (EncodeFeed.Refused f) e = refused-tracks _ _ (ap fedMeaning e)
 
-  pub fed-tracks : (q : State) → Tracks s m work q → Tracks (fed .session) (x .next) work′ (keptBy m (feed xs o (p .lent)) q)
+  pub fed-tracks : (q : MachineState) → Tracks s m work q → Tracks (fed .session) (x .next) work′ (keptBy m (feed xs o (p .lent)) q)
   fed-tracks = tracks-by (fed .answer) refl
 
   by-refusal : (code place : ℕ) → x .reply .answer ≡ refuses code place → Holds s work m → CallsAs m (feed xs o (p .lent)) r (F .part) work′

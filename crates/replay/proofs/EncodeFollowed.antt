@@ -7,7 +7,7 @@ use native.Mathlib.Omega.{arith}
 use lib.IntN.{ℤ}
 use lib.ListN.{length, drop, length-append}
 use lib.Seq.{drop-drop}
-use Rattle.quantize.specs.Internal.Machine.{State}
+use Rattle.quantize.specs.Internal.Machine.{MachineState}
 use Rattle.quantize.specs.Internal.Turn.{stateOf}
 use Rattle.encode_session.specs.Model.{Model, Call, Reply, outcome, replies, finally}
 use Rattle.encode_session.specs.Session.{Stands, Holds}
@@ -33,7 +33,7 @@ pub record Follows (s₀ : EncodeSession) (work₀ : List ℤ) (m : Model) (cs :
   pub answersLong : length (concatMap told replied) ≡ at
   pub opening : now .opening ≡ m .opening
   pub longer : length (m .samples) ≤ length (now .samples)
-  pub kept : State
+  pub kept : MachineState
   pub tracks : Tracks s now work kept
   pub keeps : keptFrom m cs (stateOf (s₀ .quantizer .place) work₀) ≡ keptFrom now (callsOf rest samples (drop lent out₀)) kept
   pub leaves : Leaves m now work₀ work
@@ -83,7 +83,7 @@ module _ (s₀ : EncodeSession) (work₀ : List ℤ) (m : Model) (cs : List Call
 
     pub end-keeps : work ≡ keptFrom m cs (stateOf (s₀ .quantizer .place) work₀) .carry .kept
     unfolding keptFrom callsOf
-    end-keeps = f .tracks .numbers ∙ ap (λ (q : State). q .carry .kept) (sym (f .keeps))
+    end-keeps = f .tracks .numbers ∙ ap (λ (q : MachineState). q .carry .kept) (sym (f .keeps))
 
     pub end-leaves : Leaves m (finally m cs) work₀ work
     unfolding finally callsOf

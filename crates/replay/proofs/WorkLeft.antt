@@ -15,7 +15,7 @@ use Rattle.quantize.specs.declared.engine.RunEnded.{RunEnded}
 use Rattle.rules.specs.Rule.{carries}
 use Rattle.quantize.specs.Internal.Engine.{Machines}
 use Rattle.quantize.specs.Finished.{Setting}
-use Rattle.quantize.specs.Internal.Machine.{State, carried}
+use Rattle.quantize.specs.Internal.Machine.{MachineState, carried}
 use Rattle.quantize.specs.Internal.Turn.{stateOf}
 use Rattle.encode_session.specs.Model.{Opening, settingOf, serves, Model, Call, feed, close, Outcome, taken, fedBy, unaltered, outcome}
 use Rattle.encode_session.specs.Model as Machine
@@ -35,7 +35,7 @@ pub none-taken : (q : Quantizer) (s : Setting) (n : ℕ) (xs out : List ℕ) (wo
     → Machines q s n xs out work r out′ work′ → r .taken ≡ 0 → work′ ≡ work
 unfolding carried
 none-taken q s n xs out work r out′ work′ M z =
-    sym (ap (λ (st : State). st .carry .kept)
+    sym (ap (λ (st : MachineState). st .carry .kept)
     (subst (λ (k : ℕ). carried s n (stateOf (q .place) work) xs k ≡ stateOf (r .quantizer .place) work′) z (M .keeps)))
 
 -- ---- the model's samples

@@ -7,7 +7,7 @@ use lib.IntN.{ℤ}
 use lib.ListN.{length, take, drop}
 use Rattle.error.specs.Answer.{Answer, gives, refuses}
 use Rattle.rules.specs.Rule.{carries}
-use Rattle.quantize.specs.Internal.Machine.{State, carried}
+use Rattle.quantize.specs.Internal.Machine.{MachineState, carried}
 use Rattle.quantize.specs.Internal.Turn.{stateOf}
 use Rattle.encode_session.specs.Model.{settingOf, Model, Call, feed, close, Told, took, closed, Reply, outcome, replies, finally}
 use Rattle.encode_session.specs.Session.{Stands, Holds, Feeds}
@@ -44,12 +44,12 @@ callsOf [] samples out = []
 callsOf (c ∷ cs) samples out = callOf c samples out ∷ callsOf cs samples (drop (roomOf c) out)
 
 -- what the running machine keeps after a call, and call by call: what the samples taken leave it, so a refused call leaves it all
-abbrev pub keptBy : Model → Call → State → State
+abbrev pub keptBy : Model → Call → MachineState → MachineState
 keptBy m (feed xs out work) st =
     carried (settingOf (m .opening)) (length (m .samples)) st xs (tookOf (outcome m (feed xs out work) .reply .answer))
 keptBy m close st = st
 
-unfoldable pub keptFrom : Model → List Call → State → State
+unfoldable pub keptFrom : Model → List Call → MachineState → MachineState
 keptFrom m [] st = st
 keptFrom m (c ∷ cs) st = keptFrom (outcome m c .next) cs (keptBy m c st)
 
@@ -114,7 +114,7 @@ pub record CallsAs (m : Model) (call : Call) (r : Called) (part : List ℕ) (wor
   pub holds : Holds (r .session) work′ (outcome m call .next)
 
 -- what the running machine keeps is in the work buffer and, while the session is open, in its engine
-pub record Tracks (s : EncodeSession) (m : Model) (work : List ℤ) (st : State) : Type 0 where
+pub record Tracks (s : EncodeSession) (m : Model) (work : List ℤ) (st : MachineState) : Type 0 where
   pub numbers : work ≡ st .carry .kept
   pub state : m .live ≡ true → st ≡ stateOf (s .quantizer .place) work
 
@@ -123,7 +123,7 @@ pub record MakesCall (s : EncodeSession) (c : Named) (samples : List ℕ) (work 
     (work′ : List ℤ) (out′ : List ℕ) : Type 0 where
   pub part : List ℕ
   pub counts : (m : Model) → Stands s m → Tells m (callOf c samples (drop at out)) r
-  pub keeps : (m : Model) → Stands s m → (st : State) → Tracks s m work st
+  pub keeps : (m : Model) → Stands s m → (st : MachineState) → Tracks s m work st
       → Tracks (r .session) (outcome m (callOf c samples (drop at out)) .next) work′ (keptBy m (callOf c samples (drop at out)) st)
   pub leaves : (m : Model) → Stands s m → Leaves m (outcome m (callOf c samples (drop at out)) .next) work work′
   pub does : (m : Model) → Holds s work m → CallsAs m (callOf c samples (drop at out)) r part work′

@@ -18,7 +18,7 @@ use Rattle.rules.specs.Rule.{Rule, threshold, dither, ordered, rightwards, know
 use Rattle.quantize.specs.Internal.Turn.{Served, stateOf, ruleOf}
 use Rattle.quantize.specs.Finished.{Setting, count, frame, dotOf, newly, takes, setting}
 use Rattle.dither.specs.Internal.Carry.{Carry, clamp}
-use Rattle.quantize.specs.Internal.Machine.{State, carried, emitted}
+use Rattle.quantize.specs.Internal.Machine.{MachineState, carried, machineBytes}
 use Rattle.quantize.specs.Internal.Place.{At, Begun}
 
 -- ---- what a quantizer stands for
@@ -41,7 +41,7 @@ pub record Diffusion (dirs : ℕ → Direction) (w : ℕ) (scan : Scan) (x y : �
   pub corner : 0 < x → c .corner ≡ onLeft (above dirs w scan y) x
 
 -- the dots of the byte that the samples xs have begun
-abbrev pub BeginsByte : Setting → List ℕ → State → Type 0
+abbrev pub BeginsByte : Setting → List ℕ → MachineState → Type 0
 BeginsByte s xs st = Begun (s .width) (dotOf s xs) (length xs) (st .begun)
 
 -- the residuals after the samples xs
@@ -51,7 +51,7 @@ DiffusedBy dirs s xs c =
     (length xs / s .width % s .height) c
 
 -- what is kept after the samples xs, the rule's say: at a frame's start, and under the other rules, any residuals
-abbrev pub KeptAfter : Rule → Setting → List ℕ → State → Type 0
+abbrev pub KeptAfter : Rule → Setting → List ℕ → MachineState → Type 0
 KeptAfter (threshold t) s xs st = BeginsByte s xs st
 KeptAfter dither s xs st = BeginsByte s xs st × DiffusedBy rightwards s xs (st .carry)
 KeptAfter (ordered side table) s xs st = BeginsByte s xs st
@@ -108,7 +108,7 @@ pub record Counts (q : Quantizer) (s : Setting) (n samples room work : ℕ) (r :
 -- the bytes are those that the running machine emits from the numbers found, and the numbers left are those that it keeps
 pub record Machines (q : Quantizer) (s : Setting) (n : ℕ) (samples out : List ℕ) (work : List ℤ) (r : RunEnded) (out′ : List ℕ)
     (work′ : List ℤ) : Type 0 where
-  pub bytes : out′ ≡ emitted s n (stateOf (q .place) work) samples (r .taken) ++ drop (r .written) out
+  pub bytes : out′ ≡ machineBytes s n (stateOf (q .place) work) samples (r .taken) ++ drop (r .written) out
   pub keeps : carried s n (stateOf (q .place) work) samples (r .taken) ≡ stateOf (r .quantizer .place) work′
 
 -- the bytes are the definition's, where the buffer is as the last call left it

@@ -12,21 +12,21 @@ use Rattle.quantize.specs.Finished.{Setting}
 use Rattle.dither.specs.Internal.Carry.{Carry, machineDot, next}
 
 -- what is kept beside the place: the dots of the begun byte, as binary digits, and the residuals
-pub record State : Type 0 where
+pub record MachineState : Type 0 where
   pub begun : ℕ
   pub carry : Carry
 
 -- the bytes that the next sample finishes, and what is kept after it
-pub record Step : Type 0 where
+pub record MachineStep : Type 0 where
   pub bytes : List ℕ
-  pub state : State
+  pub state : MachineState
 
 -- column x is the last one of its byte, in rows of w
 abbrev pub lastOf : ℕ → ℕ → Bool
 lastOf w x = leb w (x + 1) || leb 7 (x % 8)
 
 -- a row that is finished byte after byte: behind the row's last dot stand zeros
-unfoldable pub byteStep : Rule → ℕ → ℕ → ℕ → ℕ → State → Step
+unfoldable pub byteStep : Rule → ℕ → ℕ → ℕ → ℕ → MachineState → MachineStep
 byteStep rule w y x gray st =
     let dots = st .begun * 2 + bit (machineDot rule w y x gray (st .carry)) in
     let c = next rule w y x gray (st .carry) in
@@ -35,19 +35,19 @@ byteStep rule w y x gray st =
     (record { bytes = []; state = record { begun = dots; carry = c } })
 
 -- the sample at column x of row y: the rule's say
-unfoldable pub stepOf : Rule → ℕ → ℕ → ℕ → ℕ → State → Step
-stepOf (threshold t) w y x gray st = byteStep (threshold t) w y x gray st
-stepOf dither w y x gray st = byteStep dither w y x gray st
-stepOf (ordered side table) w y x gray st = byteStep (ordered side table) w y x gray st
+unfoldable pub machineStep : Rule → ℕ → ℕ → ℕ → ℕ → MachineState → MachineStep
+machineStep (threshold t) w y x gray st = byteStep (threshold t) w y x gray st
+machineStep dither w y x gray st = byteStep dither w y x gray st
+machineStep (ordered side table) w y x gray st = byteStep (ordered side table) w y x gray st
 
 -- what is kept after i of the samples xs, where n were taken before and st was kept, and the bytes that they finish
-unfoldable pub carried : Setting → ℕ → State → List ℕ → ℕ → State
+unfoldable pub carried : Setting → ℕ → MachineState → List ℕ → ℕ → MachineState
 carried s n st xs zero = st
 carried s n st xs (suc i) =
-    stepOf (s .rule) (s .width) ((n + i) / s .width % s .height) ((n + i) % s .width) (getD xs i 0) (carried s n st xs i) .state
+    machineStep (s .rule) (s .width) ((n + i) / s .width % s .height) ((n + i) % s .width) (getD xs i 0) (carried s n st xs i) .state
 
-unfoldable pub emitted : Setting → ℕ → State → List ℕ → ℕ → List ℕ
-emitted s n st xs zero = []
-emitted s n st xs (suc i) =
-    emitted s n st xs i ++ stepOf (s .rule) (s .width) ((n + i) / s .width % s .height) ((n + i) % s .width) (getD xs i 0)
+unfoldable pub machineBytes : Setting → ℕ → MachineState → List ℕ → ℕ → List ℕ
+machineBytes s n st xs zero = []
+machineBytes s n st xs (suc i) =
+    machineBytes s n st xs i ++ machineStep (s .rule) (s .width) ((n + i) / s .width % s .height) ((n + i) % s .width) (getD xs i 0)
     (carried s n st xs i) .bytes

@@ -14,7 +14,7 @@ use Rattle.quantize.specs.declared.turn.Place.{Place}
 use Rattle.rules.specs.Bits.{digits}
 use Rattle.rules.specs.Rule.{Rule, threshold, dither, ordered, knownRule, enoughWork, ruleNamed, ruleGiven}
 use Rattle.quantize.specs.Finished.{Setting}
-use Rattle.quantize.specs.Internal.Machine.{State}
+use Rattle.quantize.specs.Internal.Machine.{MachineState}
 use Rattle.quantize.specs.Internal.Place.{At}
 use Rattle.quantize.specs.declared.turn.BytesFilled.{BytesFilled}
 use Rattle.rules.specs.Internal.Kernels.{Packs}
@@ -27,7 +27,7 @@ pub record Served (rule : Quantize) (w work : ℕ) : Type 0 where
   pub room : enoughWork (ruleGiven (ruleNamed rule)) w work ≡ true
 
 -- the machine's state, from the numbers that the code keeps
-abbrev pub stateOf : Place → List ℤ → State
+abbrev pub stateOf : Place → List ℤ → MachineState
 stateOf p work = record { begun = p .begun; carry = carryOf (p .corner) work }
 
 -- the rule that the code's values stand for
