@@ -175,6 +175,6 @@ module _ (ceiling plane whole begun given room : ℕ) where
               ends =
                   inl (
                     div-lt-iff-lt-mul {k = plane} (omega (arith, p .0)) .1 (omega arith),
-                    (refl, ⊎-elim (λ (e : room < given). inr (omega arith)) (λ (e : given ≤ room). inl (omega arith)) (lt-or-le room given)),
+                    (refl, ⊎-elim (λ (e : room < given). inr (omega arith)) (λ e. inl (omega arith)) (lt-or-le room given)),
                   );
             }

@@ -15,8 +15,8 @@ pub record FilledTo (target l₀ l : List ℕ) (i : ℕ) : Type 0 where
   pub nowIs : l ≡ take i target ++ drop i l₀
 
 -- a list whose first n elements are those of `target`, taken as one that is filled up to an index before
-pub filled-over : {target l : List ℕ} (l₀ : List ℕ) (n i : ℕ) → length target ≡ length l₀ → n ≤ length l₀ → i ≤ n → l ≡ take n target ++ drop n l₀
-    → FilledTo target l l i
+pub filled-over : {target l : List ℕ} (l₀ : List ℕ) (n i : ℕ) → length target ≡ length l₀ → n ≤ length l₀ → i ≤ n
+    → l ≡ take n target ++ drop n l₀ → FilledTo target l l i
 filled-over {target} {l} l₀ n i e p q r =
     let h : length (take n target) ≡ n = length-take-le n target (omega arith) in
     let same : length target ≡ length l =

@@ -26,7 +26,8 @@ abbrev μ-loop : tie.MeasureT-loop
 turn : (k : tie.After-keep Inv-loop μ-loop)
     → let l = k .before .before .before .before .before .before .before .loop in
     let a = k .before .before .before .before .before .before .before .before .before .before .before .before .args in
-    Turn (now (a .piece)) (a .reading .at) (l .taken) (l .reader) (l .kept) (l .ext) (k .before .before .before .step .result) (k .keep .result)
+    Turn (now (a .piece)) (a .reading .at) (l .taken) (l .reader) (l .kept) (l .ext)
+    (k .before .before .before .step .result) (k .keep .result)
     (k .keep .last .0)
 turn k =
     let s = k .before .before .before in

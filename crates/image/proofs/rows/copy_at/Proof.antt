@@ -50,7 +50,8 @@ returns-2 c =
     let k = c .before .before in
     let f = k .before .before .before .before .before in
     let s = f .before .before .before .before .before in
-    rest-filled (filled-over (now (s .args .to)) 16 (16 - s .args .at % 16) (s .pre) (omega arith) (omega arith) (f .copy-front .ensures)) _ (k .copy .ensures)
+    let front = filled-over (now (s .args .to)) 16 (16 - s .args .at % 16) (s .pre) (omega arith) (omega arith) (f .copy-front .ensures) in
+    rest-filled front _ (k .copy .ensures)
 
 pub copy-at-spec : {M : Type 1} → statement M
 copy-at-spec =
