@@ -1,7 +1,7 @@
 -- One frame's bytes as a plane of dots, each by its sample's number: what a plane that is written at once has to hold.
 -- Assumes nothing.
 use Prim.Native.Nat.{ℕ, _+_, _*_, _/_, _%_, _≤_, _<_}
-use mathlib.Core.Path.{_≡_, refl, sym, ap, _∙_, fun-ext, subst}
+use mathlib.Core.Path.{_≡_, refl, sym, ap, _∙_, fun-ext, subst, subst⁻¹}
 use mathlib.Core.Logic.{⊎-elim}
 use mathlib.Core.List.{List, _++_}
 use native.Mathlib.Nat.{div-lt-iff-lt-mul, div-eq-of-lt, mod-eq-of-lt, mul-comm}
@@ -13,7 +13,7 @@ use lib.Seq.{length-take-le}
 use Rattle.error.specs.Answer.{Answer, gives}
 use Rattle.laws.proofs.Products.{up-to}
 use Rattle.laws.proofs.Tests.{zero-one}
-use Rattle.image.specs.Geometry.{rowBytes}
+use Rattle.image.specs.Geometry.{rowBytes, planeBytes}
 use Rattle.options.specs.declared.Quantize.{Quantize}
 use Rattle.options.specs.declared.Quantize.the-variants.{Threshold, Dither}
 use Rattle.rules.specs.Bits.{upto, bit}
@@ -84,15 +84,16 @@ threshold-plane t w h gray wide high enough =
 
 -- so the plane that the rule writes at once is what a whole call promises
 pub quantizes-threshold : (rule : Quantize) (t w h : ℕ) (gray out : List ℕ) (work : List ℤ) (code : ℕ) → rule ≡ Threshold t
-    → code ≡ refusedBy rule w h (length gray) (length work) → code ≡ 0 → rowBytes w * h ≤ length out
+    → code ≡ refusedBy rule w h (length gray) (length work) → code ≡ 0 → {n : ℕ} → n ≡ planeBytes w h → n ≤ length out
     → (out′ : List ℕ) → out′ ≡ planeWhere w h (thresholdBit t gray) (length gray) out
-    → Quantizes rule w h gray out work (gives (rowBytes w * h)) out′ work
-quantizes-threshold rule t w h gray out work code r e z l out′ o =
+    → Quantizes rule w h gray out work (gives n) out′ work
+quantizes-threshold rule t w h gray out work code r e z {n} b l out′ o =
     let p = passed rule w h (length gray) (length work) (sym z ∙ e) in
-    quantizes-plane rule w h gray out work code e z l (thresholdBit t gray) out′ work
+    subst⁻¹ (λ (k : ℕ). Quantizes rule w h gray out work (gives k) out′ work) b
+    (quantizes-plane rule w h gray out work code e z (subst (λ (k : ℕ). k ≤ length out) b l) (thresholdBit t gray) out′ work
     (ap (λ (q : Quantize). finished (setting (ruleGiven (ruleNamed q)) w h 1) (take (w * h) gray)) r
     ∙ threshold-plane t w h gray (p .wide) (p .high) (p .enough))
-    o refl (λ _. refl)
+    o refl (λ _. refl))
 
 frame-first : (w h : ℕ) (gray : List ℕ) → frame w h gray 0 ≡ (λ x y. getD gray (y * w + x) 0)
 unfolding frame
@@ -112,22 +113,24 @@ dither-plane w h gray wide high enough =
     rw (div-eq-of-lt q, mod-eq-of-lt q, frame-first w h gray))
 
 pub quantizes-dither : (w h : ℕ) (gray out : List ℕ) (work : List ℤ) → 0 ≡ refusedBy Dither w h (length gray) (length work)
-    → rowBytes w * h ≤ length out → (out′ : List ℕ) (work′ : List ℤ) → DitherPlane w h gray out work out′ work′
-    → Quantizes Dither w h gray out work (gives (rowBytes w * h)) out′ work′
-quantizes-dither w h gray out work e l out′ work′ d =
+    → planeBytes w h ≤ length out → (out′ : List ℕ) (work′ : List ℤ) → DitherPlane w h gray out work out′ work′ → {n : ℕ}
+    → n ≡ planeBytes w h → Quantizes Dither w h gray out work (gives n) out′ work′
+quantizes-dither w h gray out work e l out′ work′ d {n} b =
     let p = passed Dither w h (length gray) (length work) e in
     let m = mul-comm (rowBytes w) h in
     let k : 2 * w ≤ length work = leb-true (2 * w) (length work) (p .room) in
-    quantizes-plane Dither w h gray out work 0 e refl l (ditherBit w gray) out′ work′
+    subst⁻¹ (λ (q : ℕ). Quantizes Dither w h gray out work (gives q) out′ work′) b
+    (quantizes-plane Dither w h gray out work 0 e refl l (ditherBit w gray) out′ work′
     (dither-plane w h gray (p .wide) (p .high) (p .enough))
     (plane-dithered w h gray out work (p .enough) (omega arith) (omega arith) out′ work′ d
     ∙ sym (plane-in w h (ditherBit w gray) (length gray) out (p .enough, omega arith)))
-    (d .beyond) (λ f. zero-one (cc))
+    (d .beyond) (λ f. zero-one (cc)))
 
 -- what is asked and promised of the rule by its name
 pub dither-accepted : (rule : Quantize) (w h gray work out : ℕ) → rule ≡ Dither → {code : ℕ} → code ≡ refusedBy rule w h gray work
-    → code ≡ 0 → rowBytes w * h ≤ out → (0 ≡ refusedBy Dither w h gray work) × (rowBytes w * h ≤ out)
-dither-accepted rule w h gray work out r e z l = (subst (λ (q : Quantize). 0 ≡ refusedBy q w h gray work) r (sym z ∙ e), l)
+    → code ≡ 0 → {n : ℕ} → n ≡ planeBytes w h → n ≤ out → (0 ≡ refusedBy Dither w h gray work) × (planeBytes w h ≤ out)
+dither-accepted rule w h gray work out r e z b l =
+    (subst (λ (q : Quantize). 0 ≡ refusedBy q w h gray work) r (sym z ∙ e), subst (λ (k : ℕ). k ≤ out) b l)
 
 pub quantizes-as : (rule : Quantize) (w h : ℕ) (gray out : List ℕ) (work : List ℤ) (r : Answer ℕ) (out′ : List ℕ) (work′ : List ℤ)
     → rule ≡ Dither → Quantizes Dither w h gray out work r out′ work′ → Quantizes rule w h gray out work r out′ work′

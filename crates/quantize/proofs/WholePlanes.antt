@@ -19,7 +19,7 @@ use Rattle.laws.proofs.Tests.{if-true, zero-one}
 use Rattle.laws.proofs.Writers.{emits-none, emits-all}
 use Rattle.options.specs.declared.Quantize.{Quantize}
 use Rattle.options.specs.declared.Quantize.the-variants.{Ordered}
-use Rattle.image.specs.Geometry.{rowBytes}
+use Rattle.image.specs.Geometry.{rowBytes, planeBytes}
 use Rattle.quantize.specs.declared.engine.Quantizer.{Quantizer}
 use Rattle.quantize.specs.declared.engine.RunEnded.{RunEnded}
 use Rattle.quantize.specs.Finished.{Setting, count, dotOf, finished, takes, setting}
@@ -214,9 +214,10 @@ module _ (asked : Quantize) (w h : ℕ) (gray out : List ℕ) (work : List ℤ) 
         (given-rule asked w h (length gray) (length work) (λ y. omega (arith, p .wide)) (λ y. omega (arith, p .high)) (p .known) (p .room)
         (p .enough))
 
-    pub quantizes-short : length out < rowBytes w * h → (r : Written) → r ≡ Written.Refused (record { code = 25; offset = 0 })
-        → Quantizes asked w h gray out work (written r) out work
-    quantizes-short l r f =
+    pub quantizes-short : {n : ℕ} → n ≡ planeBytes w h → length out < n → (r : Written)
+        → r ≡ Written.Refused (record { code = 25; offset = 0 }) → Quantizes asked w h gray out work (written r) out work
+    quantizes-short b l r f =
+        let s = subst (λ (j : ℕ). length out < j) b l in
         let k = plane-long named w h (p .wide) (p .high) gray (p .enough) in
         let m = mul-comm (rowBytes w) h in
         let e : Emits (quantized asked w h gray (length work)) (refuses 25 0) out out =

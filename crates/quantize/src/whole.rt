@@ -9,6 +9,7 @@ use error::OUTPUT_TOO_SHORT;
 use error::UNKNOWN_SETTING;
 use error::Written;
 use error::ZERO_DIMENSION;
+use image::row_stride;
 use options::Quantize;
 use rules::threshold_plane;
 ghost use mathlib.Core.Path.{_≡_};
@@ -86,6 +87,12 @@ fn few_grays(area: usize, gray: &[u8]) -> bool
     false
 }
 
+fn plane_bytes(width: u32, height: u32) -> usize
+    ensures { λ r. ⌜ r ≡ planeBytes width height ⌝ }
+{
+    row_stride(width) * height as usize
+}
+
 // The dithered plane, where nothing is refused and there is room for it.
 fn dithered_plane(width: u32, height: u32, gray: &[u8], work: &mut [i16], out: &mut [u8]) -> Written
     requires { ⌜ (0 ≡ refusedBy Dither width height (length (now gray)) (length (now work)))
@@ -98,7 +105,7 @@ fn dithered_plane(width: u32, height: u32, gray: &[u8], work: &mut [i16], out: &
         return engine_plane(width, height, gray, Quantize::Dither, work, out);
     }
     dither_plane(width, height, gray, work, out);
-    Written::Bytes((width as usize + 7) / 8 * height as usize)
+    Written::Bytes(plane_bytes(width, height))
 }
 
 // Packs width × height gray samples into the plane's rows, at the front of the lent output.
@@ -117,7 +124,7 @@ pub fn quantize_gray8(
     if code != 0 {
         return Written::refused(code);
     }
-    let need = (width as usize + 7) / 8 * height as usize;
+    let need = plane_bytes(width, height);
     if out.len() < need {
         return Written::refused(OUTPUT_TOO_SHORT);
     }

@@ -29,11 +29,8 @@ returns c = search needs
 dither-plane-requires : tie.Need-dither-plane-requires
 dither-plane-requires c κs = search needs
 
-add-t8 : tie.Need-add-t8
-add-t8 c = search needs
-
-mul-t22 : tie.Need-mul-t22
-mul-t22 c = search needs
+plane-bytes-requires : tie.Need-plane-bytes-requires
+plane-bytes-requires c κs = search needs
 
 same-length-3 : tie.Need-same-length-3
 same-length-3 c = search needs
@@ -43,9 +40,9 @@ same-length-4 c = search needs
 
 returns-2 : tie.Need-returns-2
 returns-2 c =
-    let d = c .before .before .before in
+    let d = c .before .before .before .before in
     let s = d .before .before .before .before .before .before .before in
-    quantizes-dither _ _ _ _ _ (s .pre .0) (s .pre .1) _ _ (d .dither-plane .ensures)
+    quantizes-dither _ _ _ _ _ (s .pre .0) (s .pre .1) _ _ (d .dither-plane .ensures) (c .plane-bytes .ensures)
 
 pub dithered-plane-spec : {M : Type 1} → statement M
 dithered-plane-spec =
@@ -58,8 +55,7 @@ dithered-plane-spec =
     same-length-2
     returns
     dither-plane-requires
-    add-t8
-    mul-t22
+    plane-bytes-requires
     same-length-3
     same-length-4
     returns-2)

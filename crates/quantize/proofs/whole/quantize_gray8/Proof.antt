@@ -1,10 +1,7 @@
 -- `quantize::whole::quantize_gray8` meets its contract.
 -- Assumes nothing.
-use Prim.Native.Nat.{_+_, _/_}
-use native.Mathlib.Omega.{arith}
 use denote.Ref.{now}
 use lib.ListN.{length}
-use Rattle.laws.proofs.Products.{product-below}
 use Rattle.quantize.proofs.PlaneFinished.{quantizes-threshold, dither-accepted, quantizes-as}
 use Rattle.quantize.proofs.WholePlanes.{quantizes-refused, quantizes-short}
 use borrow.Author.Needs.{needs}
@@ -22,13 +19,8 @@ returns c =
     let t = c .before in
     quantizes-refused _ _ _ _ _ _ _ (t .before .refused .ensures) (t .if1 .taken) _ (c .refused2 .ensures)
 
-add-need : tie.Need-add-need
-add-need c = search needs
-
-mul-need : tie.Need-mul-need
-mul-need c =
-    let s = c .before .before .before .before in
-    record { fits = product-below 32 32 {a = (s .args .width + 7) / 8} (omega arith) (s .fits .height .fits) }
+plane-bytes-requires : tie.Need-plane-bytes-requires
+plane-bytes-requires c κs = search needs
 
 refused-requires-3 : tie.Need-refused-requires-3
 refused-requires-3 c κs = search needs
@@ -36,8 +28,10 @@ refused-requires-3 c κs = search needs
 returns-2 : tie.Need-returns-2
 returns-2 c =
     let t = c .before in
-    let g = t .before in
-    quantizes-short _ _ _ _ _ _ _ (g .before .refused .ensures) (g .if1 .left) (t .if2 .taken) _ (c .refused3 .ensures)
+    let n = t .before in
+    let g = n .before in
+    quantizes-short _ _ _ _ _ _ _ (g .before .refused .ensures) (g .if1 .left) (n .plane-bytes .ensures) (t .if2 .taken) _
+    (c .refused3 .ensures)
 
 enum-known-rule : tie.Need-enum-known-rule
 enum-known-rule c = search needs
@@ -52,10 +46,11 @@ dithered-plane-requires : tie.Need-dithered-plane-requires
 dithered-plane-requires c κs =
     let e = c .before .before in
     let m = e .before .before in
-    let g = m .before in
+    let n = m .before in
+    let g = n .before in
     let a = g .before .before .before .before .args in
     dither-accepted (a .rule) (a .width) (a .height) (length (now (a .gray))) (length (now (a .work))) (length (now (a .out)))
-    (e .enum-told .given .1) (g .before .refused .ensures) (g .if1 .left) (m .if2 .left)
+    (e .enum-told .given .1) (g .before .refused .ensures) (g .if1 .left) (n .plane-bytes .ensures) (m .if2 .left)
 
 enum-told-2 : tie.Need-enum-told-2
 enum-told-2 c = search needs
@@ -71,8 +66,10 @@ returns-3 c =
     let p = c .before .before in
     let m = p .before .before .before in
     let e = m .before .before in
-    let g = e .before in
-    quantizes-threshold _ _ _ _ _ _ _ _ (m .rule .given .1) (g .before .refused .ensures) (g .if1 .left) (e .if2 .left) _
+    let n = e .before in
+    let g = n .before in
+    quantizes-threshold _ _ _ _ _ _ _ _ (m .rule .given .1) (g .before .refused .ensures) (g .if1 .left) (n .plane-bytes .ensures)
+    (e .if2 .left) _
     (p .threshold-plane .ensures)
 
 same-length-2 : tie.Need-same-length-2
@@ -103,8 +100,7 @@ quantize-gray8-spec =
     refused-requires
     refused-requires-2
     returns
-    add-need
-    mul-need
+    plane-bytes-requires
     refused-requires-3
     returns-2
     enum-known-rule
