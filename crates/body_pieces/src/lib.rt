@@ -4,8 +4,6 @@ use image::PixelFormat;
 use image::PlaneLayout;
 use laws::least;
 ghost use mathlib.Core.Path.{_≡_};
-ghost use mathlib.Core.Logic.{_⊎_};
-ghost use Prim.Native.Nat.{_≤_};
 ghost use Rattle.body_pieces.specs.Internal.Body.{advanced, Bodies};
 
 mod convert;

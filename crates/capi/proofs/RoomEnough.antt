@@ -14,10 +14,10 @@ use Rattle.decoder.specs.Image.{readImage}
 use Rattle.decoder.specs.Frames.{Image, imageOf, fitted, decoded}
 use Rattle.decoder.proofs.Fitted.{image-parts, frames-there}
 
-pub roomy : (more : ℕ) (d : Decoding) (bytes : List ℕ) (room : ℕ) → length bytes ≤ room
+pub room-enough : (more : ℕ) (d : Decoding) (bytes : List ℕ) (room : ℕ) → length bytes ≤ room
     → decoded (1 + more) d bytes room ≡ map (λ h. imageOf h (framesIn (1 + more) (length bytes) h)) (readImage d bytes)
 unfolding decoded
-roomy more d bytes room l = go (readImage d bytes) refl
+room-enough more d bytes room l = go (readImage d bytes) refl
   where
     go : (x : Answer Outline) → readImage d bytes ≡ x
         → bind x (λ h. fitted room h (framesIn (1 + more) (length bytes) h)) ≡ map (λ h. imageOf h (framesIn (1 + more) (length bytes) h)) x
@@ -29,4 +29,4 @@ roomy more d bytes room l = go (readImage d bytes) refl
 -- a card of one dot, and an output of its five bytes
 example : (d : Decoding) → decoded 16 d (0 ∷ 0 ∷ 1 ∷ 1 ∷ 128 ∷ []) 5
     ≡ map (λ h. imageOf h (framesIn 16 5 h)) (readImage d (0 ∷ 0 ∷ 1 ∷ 1 ∷ 128 ∷ []))
-example d = roomy 15 d (0 ∷ 0 ∷ 1 ∷ 1 ∷ 128 ∷ []) 5 (omega arith)
+example d = room-enough 15 d (0 ∷ 0 ∷ 1 ∷ 1 ∷ 128 ∷ []) 5 (omega arith)

@@ -21,7 +21,7 @@ use Rattle.decoder.specs.Image.{imageSettings, headerOf}
 use Rattle.decoder.proofs.Shaped.{outline-shape}
 use Rattle.decode_session.specs.Model.{Met, metAt, Model, meets, stored, fedBy}
 use Rattle.decode_session.specs.Session.{BeforeHeader, Settled}
-use Rattle.decode_session.specs.Internal.Stages.{metIn, RepliesAs, Enters, FeedsPlanes, Ended, Begins}
+use Rattle.decode_session.specs.Internal.Stages.{metIn, FedAs, Enters, FeedsPlanes, Ended, Begins}
 use Rattle.decode_session.specs.declared.DecodeFed.{DecodeFed}
 use Rattle.decode_session.proofs.Headers.{header-later}
 use Rattle.decode_session.proofs.StageFacts.{ceiling-some}
@@ -30,10 +30,10 @@ use Rattle.decode_session.proofs.RefusalsMet.{limit-over, admitted}
 -- the session that met a refusal agrees
 pub refused-agrees : (o : DecodeOptions) (m : Model) (piece out ext : List ℕ) (e : WbmpError) (f : FieldsSeen)
     → Settled (m .options) → decoding o ≡ m .options → BeforeHeader m f → meets m piece ≡ metAt (e .code) (e .offset)
-    → RepliesAs (metIn o e f) out (stored m (m .bytes ++ piece) ext) (fedBy m piece out ext (meets m piece))
+    → FedAs (metIn o e f) out (stored m (m .bytes ++ piece) ext) (fedBy m piece out ext (meets m piece))
 refused-agrees o m piece out ext e f c q u met =
     subst
-    (λ (x : Met). RepliesAs (metIn o e f) out (stored m (m .bytes ++ piece) ext) (fedBy m piece out ext x))
+    (λ (x : Met). FedAs (metIn o e f) out (stored m (m .bytes ++ piece) ext) (fedBy m piece out ext x))
     (sym met)
     (record {
       reply = refl;
@@ -87,7 +87,7 @@ module _ (o : DecodeOptions) (f : FieldsSeen) (p : ParsedHeader) (from : ℕ) (p
         does =
             λ m ext c q u e.
             let l = limits m q ∙ ap checked a in
-            subst (λ (x : Met). RepliesAs d out′ (stored m (m .bytes ++ piece) ext) (fedBy m piece out ext x))
+            subst (λ (x : Met). FedAs d out′ (stored m (m .bytes ++ piece) ext) (fedBy m piece out ext x))
             (sym (admitted m piece (parsed p) (header-all m piece from (parsed p) e) l))
             (t .does m ext c q (enters m piece from (parsed p) e c l));
       }
@@ -98,7 +98,7 @@ module _ (o : DecodeOptions) (f : FieldsSeen) (p : ParsedHeader) (from : ℕ) (p
       record {
         does =
             λ m ext c q u g.
-            subst (λ (d : DecodeFed). RepliesAs d out (stored m (m .bytes ++ piece) ext) (fedBy m piece out ext (meets m piece))) (sym s)
+            subst (λ (d : DecodeFed). FedAs d out (stored m (m .bytes ++ piece) ext) (fedBy m piece out ext (meets m piece))) (sym s)
             (refused-agrees o m piece out ext e f c q u
             (limit-over m piece (parsed p) (header-all m piece from (parsed p) g) (e .code) (e .offset) (limits m q ∙ ap checked a)));
       }

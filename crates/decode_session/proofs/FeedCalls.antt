@@ -12,7 +12,7 @@ use Rattle.header_pieces.specs.declared.HeadReading.{HeadReading}
 use Rattle.decoder.specs.Image.{imageSettings}
 use Rattle.decode_session.specs.Model.{Met, nothing, Model, feed, stored, fedBy, unaltered, outcome}
 use Rattle.decode_session.specs.Session.{InBody, Stands, Feeds}
-use Rattle.decode_session.specs.Internal.Stages.{RepliesAs, having, Enters, FeedsPlanes}
+use Rattle.decode_session.specs.Internal.Stages.{FedAs, having, Enters, FeedsPlanes}
 use Rattle.decode_session.specs.declared.Stage.{Stage}
 use Rattle.decode_session.specs.declared.DecodeFeed.{DecodeFeed}
 use Rattle.decode_session.specs.declared.DecodeSession.{DecodeSession}
@@ -30,7 +30,7 @@ unaltered-fits : (s : DecodeSession) (m : Model) (piece out ext : List ℕ) (e :
     → Fits m piece out ext d out ext
 unaltered-fits s m piece out ext e d st x q =
     agreed m piece out ext d out ext ext _ x refl
-    (subst (λ (d : DecodeFed). RepliesAs d out ext (unaltered m (e .code) (e .offset) out ext)) (sym q)
+    (subst (λ (d : DecodeFed). FedAs d out ext (unaltered m (e .code) (e .offset) out ext)) (sym q)
     (record { reply = refl; stands = st }))
 
 module _ (s : DecodeSession) (piece out ext : List ℕ) (d : DecodeFed) (e : WbmpError)
@@ -108,6 +108,6 @@ feed-body s piece out ext d out′ l long p whole begun g f = record { does = fi
         let o = imageSettings (m .options .mode) in
         agreed m piece out ext d out′ ext _ _ (reading m piece out ext (sym (st .live) ∙ l) (b .nothingMet) long)
         (stored-none m ext (m .bytes ++ piece) (fields-kept o (m .bytes) piece (parsed p) (b .headerIs)))
-        (subst (λ (x : Met). RepliesAs d out′ (stored m (m .bytes ++ piece) ext) (fedBy m piece out ext x))
+        (subst (λ (x : Met). FedAs d out′ (stored m (m .bytes ++ piece) ext) (fedBy m piece out ext x))
         (sym (admitted m piece (parsed p) (header-later o (m .bytes) (parsed p) (b .headerIs) piece) (b .admitted)))
         (f .does m ext (st .tested) (st .options) (enters m piece (parsed p) whole begun b)))

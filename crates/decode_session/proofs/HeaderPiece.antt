@@ -21,7 +21,7 @@ use Rattle.header_pieces.specs.Extension.{fieldBytes}
 use Rattle.decode_session.specs.Model.{Met, nothing, Model, meets, takes, grown, written, stored, fedBy}
 use Rattle.header_pieces.specs.Internal.Head.{HasRead, TellsFields, Ends, Heads}
 use Rattle.decode_session.specs.Session.{Stands, Feeds}
-use Rattle.decode_session.specs.Internal.Stages.{takenIn, metIn, RepliesAs, Ended, Begins}
+use Rattle.decode_session.specs.Internal.Stages.{takenIn, metIn, FedAs, Ended, Begins}
 use Rattle.decode_session.specs.declared.Stage.{Stage}
 use Rattle.decode_session.specs.declared.DecodeSession.{DecodeSession}
 use Rattle.decode_session.specs.declared.DecodeFed.{DecodeFed}
@@ -100,13 +100,13 @@ module _ (o : DecodeOptions) (head : HeadReading) (piece out ext ext′ : List �
           ∙ ap (drop (length (sequence (ceilingOf (m .options)) (m .options) (m .bytes)))) none
           ∙ drop-nil (length (sequence (ceilingOf (m .options)) (m .options) (m .bytes)))
 
-      goes-on : RepliesAs (takenIn o (Stage.Header next) (length piece) 0) out ext′ (fedBy m piece out ext (meets m piece))
+      goes-on : FedAs (takenIn o (Stage.Header next) (length piece) 0) out ext′ (fedBy m piece out ext (meets m piece))
       goes-on =
           let count = takes-all in
           let w = writes-none in
           let size = ap length w in
           subst
-          (λ (x : Met). RepliesAs (takenIn o (Stage.Header next) (length piece) 0) out ext′ (fedBy m piece out ext x))
+          (λ (x : Met). FedAs (takenIn o (Stage.Header next) (length piece) 0) out ext′ (fedBy m piece out ext x))
           (sym unmet)
           (record {
             reply =
@@ -141,7 +141,7 @@ module _ (o : DecodeOptions) (head : HeadReading) (piece out ext ext′ : List �
       record {
         does =
             λ m st. agreed m piece out ext d out ext′ ext′ _ (reading m piece out ext (sym (st .live)) (st .stage .0) long) refl
-            (subst (λ (d : DecodeFed). RepliesAs d out ext′ (fedBy m piece out ext (meets m piece))) (sym s) (goes-on m st next e));
+            (subst (λ (d : DecodeFed). FedAs d out ext′ (fedBy m piece out ext (meets m piece))) (sym s) (goes-on m st next e));
       }
 
   pub whole : (k : FieldsSeen) (h : ParsedHeader) (from : ℕ) (d : DecodeFed) (out′ : List ℕ) → TellsFields head k
@@ -161,7 +161,7 @@ module _ (o : DecodeOptions) (head : HeadReading) (piece out ext ext′ : List �
             λ m st.
             let r = ends m st (HeadFed.Refused e) q in
             agreed m piece out ext d out ext′ _ _ (reading m piece out ext (sym (st .live)) (st .stage .0) long) (stored-is m st)
-            (subst (λ (d : DecodeFed). RepliesAs d out (stored m (m .bytes ++ piece) ext) (fedBy m piece out ext (meets m piece))) (sym s)
+            (subst (λ (d : DecodeFed). FedAs d out (stored m (m .bytes ++ piece) ext) (fedBy m piece out ext (meets m piece))) (sym s)
             (refused-agrees o m piece out ext e k (st .tested) (st .options) (unread-so m head k (st .stage .1) u)
             (header-refused m piece (e .code) (e .offset) (r .0) (r .1))));
       }

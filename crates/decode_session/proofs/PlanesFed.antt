@@ -18,7 +18,7 @@ use Rattle.body_pieces.specs.Internal.Body.{Bodies}
 use Rattle.header_pieces.specs.Extension.{fieldBytes}
 use Rattle.decode_session.specs.Model.{Model, nothing, grown, written, stored, fedBy}
 use Rattle.decode_session.specs.Session.{InBody, Settled}
-use Rattle.decode_session.specs.Internal.Stages.{takenIn, RepliesAs, having, Enters, FeedsPlanes}
+use Rattle.decode_session.specs.Internal.Stages.{takenIn, FedAs, having, Enters, FeedsPlanes}
 use Rattle.decode_session.specs.declared.Stage.{Stage}
 use Rattle.decode_session.specs.declared.DecodeFed.{DecodeFed}
 use Rattle.body_pieces.specs.declared.BodyFed.{BodyFed}
@@ -88,7 +88,7 @@ module _ (o : DecodeOptions) (p : ParsedHeader) (most whole begun from : ℕ) (p
         }
 
     pub planed : (ext : List ℕ)
-        → RepliesAs (takenIn o (Stage.Body p (r .whole) (r .begun)) (from + r .taken) (r .written))
+        → FedAs (takenIn o (Stage.Body p (r .whole) (r .begun)) (from + r .taken) (r .written))
         out′ (stored m (m .bytes ++ piece) ext) (fedBy m piece out ext nothing)
     planed ext =
         let count = takes-is full within en advances in
@@ -127,7 +127,7 @@ planes o p most whole begun from piece out out′ part r d n within same b e =
     let b′ = subst (λ (l : List ℕ). Bodies (o .format) (p .width) (p .height) most whole begun l out r out′) same b in
     record {
       does =
-          λ m ext c q en. subst (λ (d : DecodeFed). RepliesAs d out′ (stored m (m .bytes ++ piece) ext) (fedBy m piece out ext nothing))
+          λ m ext c q en. subst (λ (d : DecodeFed). FedAs d out′ (stored m (m .bytes ++ piece) ext) (fedBy m piece out ext nothing))
           (sym e)
           (planed o p most whole begun from piece out out′ within r b′ m c (sym (n ∙ ap ceilingOf q)) q en ext);
     }

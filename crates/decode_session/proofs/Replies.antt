@@ -14,7 +14,7 @@ use Rattle.header_pieces.specs.Extension.{fieldBytes}
 use Rattle.decode_session.specs.Model.{nothing, metAt, Model, feed, Told, Reply, Outcome, meets, stored, fedBy, unaltered, afterMet}
 use Rattle.decode_session.specs.Model.{outcome}
 use Rattle.decode_session.specs.Session.{fedMeaning, Stands}
-use Rattle.decode_session.specs.Internal.Stages.{RepliesAs}
+use Rattle.decode_session.specs.Internal.Stages.{FedAs}
 use Rattle.decode_session.specs.declared.DecodeFed.{DecodeFed}
 
 pub replied : {a a′ : Answer Told} {o o′ e e′ : List ℕ} → a ≡ a′ → o ≡ o′ → e ≡ e′
@@ -61,7 +61,7 @@ module _ (m : Model) (piece out ext : List ℕ) where
       × Stands (r .session) (outcome m (feed piece out ext) .next)
 
   pub agreed : (r : DecodeFed) (out′ ext′ ext″ : List ℕ) (x : Outcome) → outcome m (feed piece out ext) ≡ x → ext″ ≡ ext′
-      → RepliesAs r out′ ext″ x → Fits r out′ ext′
+      → FedAs r out′ ext″ x → Fits r out′ ext′
   agreed r out′ ext′ ext″ x e q a =
       subst (λ (y : Outcome). (y .reply ≡ record { answer = fedMeaning (r .answer); output = out′; extension = ext′ })
       × Stands (r .session) (y .next)) (sym e)

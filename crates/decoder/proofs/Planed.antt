@@ -52,7 +52,7 @@ module _ (f : PixelFormat) (bytes : List ℕ) (h : Outline) where
 -- the planes before k are written
 pub record Planing (f : PixelFormat) (bytes : List ℕ) (h : Outline) (out₀ : List ℕ) (plane frames : ℕ) (out : List ℕ) (k : ℕ) : Type 0 where
   pub planeIs : plane ≡ planeOf h
-  pub turn : k ≤ frames
+  pub within : k ≤ frames
   pub inside : h .body + frames * plane ≤ length bytes
   pub room : frames * plane ≤ length out₀
   pub nowIs : out ≡ sets out₀ 0 (planes f bytes h k)
@@ -61,7 +61,7 @@ pub begun : (f : PixelFormat) (bytes : List ℕ) (h : Outline) (out : List ℕ) 
     → h .body + frames * planeOf h ≤ length bytes → frames * planeOf h ≤ length out → Planing f bytes h out plane frames out 0
 unfolding planes
 begun f bytes h out plane frames e a b =
-    record { planeIs = e; turn = omega arith; inside = rw e a; room = rw e b; nowIs = refl }
+    record { planeIs = e; within = omega arith; inside = rw e a; room = rw e b; nowIs = refl }
 
 module _ {f : PixelFormat} {bytes : List ℕ} {h : Outline} {out₀ : List ℕ} {plane frames : ℕ} {out : List ℕ} {k : ℕ}
     (c : Planing f bytes h out₀ plane frames out k) where
@@ -106,10 +106,10 @@ module _ {f : PixelFormat} {bytes : List ℕ} {h : Outline} {out₀ : List ℕ} 
       (midOf to (length out - to) out)) s
       ∙ ap (λ (q : ℕ). v ++ drop q (midOf to (length out - to) out)) m
       ∙ ap (λ (q : List ℕ). v ++ drop (length v) q) d in
-      let at-front : to ≡ 0 + length (planes f bytes h k) = omega (arith, front (c .turn)) in
+      let at-front : to ≡ 0 + length (planes f bytes h k) = omega (arith, front (c .within)) in
       record {
         planeIs = c .planeIs;
-        turn = omega arith;
+        within = omega arith;
         inside = c .inside;
         room = c .room;
         nowIs =
@@ -123,9 +123,9 @@ module _ {f : PixelFormat} {bytes : List ℕ} {h : Outline} {out₀ : List ℕ} 
 
   pub ended : frames ≤ k → out ≡ planes f bytes h frames ++ drop (frames * planeOf h) out₀
   ended l =
-      let e : k ≡ frames = omega (arith, c .turn) in
+      let e : k ≡ frames = omega (arith, c .within) in
       let n : length (planes f bytes h frames) ≡ frames * plane =
-      ap (λ (k : ℕ). length (planes f bytes h k)) (sym e) ∙ front (c .turn) ∙ ap (λ (k : ℕ). k * plane) e in
+      ap (λ (k : ℕ). length (planes f bytes h k)) (sym e) ∙ front (c .within) ∙ ap (λ (k : ℕ). k * plane) e in
       c .nowIs ∙ ap (λ (k : ℕ). sets out₀ 0 (planes f bytes h k)) e
       ∙ sets-front out₀ (planes f bytes h frames) (omega (arith, c .room))
       ∙ ap (λ (q : ℕ). planes f bytes h frames ++ drop q out₀) (n ∙ ap (λ (q : ℕ). frames * q) (c .planeIs))

@@ -36,7 +36,7 @@ module _ (f : PixelFormat) (w h s : ℕ) where
 pub record Planing (f : PixelFormat) (w h s : ℕ) (planes out₀ : List ℕ) (count plane needed : ℕ) (out : List ℕ) (k : ℕ) : Type 0 where
   pub planeIs : plane ≡ planeBytes w h
   pub neededIs : needed ≡ neededBytes w h s
-  pub turn : k ≤ count
+  pub within : k ≤ count
   pub inside : count * needed ≤ length planes
   pub room : count * plane ≤ length out₀
   pub nowIs : out ≡ sets out₀ 0 (wirePlanes f w h s planes k)
@@ -46,7 +46,7 @@ pub begun : (f : PixelFormat) (w h s : ℕ) (planes out : List ℕ) (count plane
     → count * neededBytes w h s ≤ length planes → count * planeBytes w h ≤ length out → Planing f w h s planes out count plane needed out 0
 unfolding wirePlanes
 begun f w h s planes out count plane needed e d a b =
-    record { planeIs = e; neededIs = d; turn = omega arith; inside = rw d a; room = rw e b; nowIs = refl }
+    record { planeIs = e; neededIs = d; within = omega arith; inside = rw d a; room = rw e b; nowIs = refl }
 
 module _ {f : PixelFormat} {w h s : ℕ} {planes out₀ : List ℕ} {count plane needed : ℕ} {out : List ℕ} {k : ℕ}
     (c : Planing f w h s planes out₀ count plane needed out k) where
@@ -85,7 +85,7 @@ module _ {f : PixelFormat} {w h s : ℕ} {planes out₀ : List ℕ} {count plane
       record {
         planeIs = c .planeIs;
         neededIs = c .neededIs;
-        turn = omega arith;
+        within = omega arith;
         inside = c .inside;
         room = c .room;
         nowIs =
@@ -98,7 +98,7 @@ module _ {f : PixelFormat} {w h s : ℕ} {planes out₀ : List ℕ} {count plane
 
   pub ended : count ≤ k → out ≡ wirePlanes f w h s planes count ++ drop (count * planeBytes w h) out₀
   ended l =
-      let e : k ≡ count = omega (arith, c .turn) in
+      let e : k ≡ count = omega (arith, c .within) in
       let n : length (wirePlanes f w h s planes count) ≡ count * planeBytes w h = planes-length f w h s planes count in
       let m : count * planeBytes w h ≡ count * plane = ap (λ (q : ℕ). count * q) (sym (c .planeIs)) in
       c .nowIs

@@ -46,7 +46,7 @@ pub record Scanning (asked : Quantize) (w h count : ℕ) (gray : List ℕ) (work
   pub areaIs : area ≡ w * h
   pub planeIs : plane ≡ planeBytes w h
   pub room : count * planeBytes w h ≤ length out₀
-  pub turn : k ≤ count
+  pub within : k ≤ count
   pub nowIs : out ≡ sets out₀ 0 (scanBytes (ruleGiven (ruleNamed asked)) w h gray k)
   pub workLong : length work ≡ length work₀
   pub beyond : drop w work ≡ drop w work₀
@@ -61,7 +61,7 @@ begun asked w h count gray work out plane p e r =
       areaIs = refl;
       planeIs = e;
       room = r;
-      turn = omega arith;
+      within = omega arith;
       nowIs = ap (sets out 0) (sym (scans-none (ruleGiven (ruleNamed asked)) w h gray (p .sized .wide) (p .sized .high)));
       workLong = refl;
       beyond = refl;
@@ -114,20 +114,20 @@ module _ {asked : Quantize} {w h count : ℕ} {gray : List ℕ} {work₀ : List 
       let long : length v ≡ planeBytes w h = plane-long rule w h wide high samples enough ∙ mul-comm h (rowBytes w) in
       let fits : to + length v ≤ length out = omega (arith, i .1, c .planeIs) in
       let place : k * plane ≡ k * planeBytes w h = ap (λ (a : ℕ). k * a) (c .planeIs) in
-      let front : to ≡ 0 + length made = omega (arith, scans-long rule w h gray wide high k (there (c .turn))) in
+      let front : to ≡ 0 + length made = omega (arith, scans-long rule w h gray wide high k (there (c .within))) in
       record {
         passed = c .passed;
         areaIs = c .areaIs;
         planeIs = c .planeIs;
         room = c .room;
-        turn = omega arith;
+        within = omega arith;
         nowIs =
             emits-part to out v new r fits
             (subst (λ (a : Answer (List ℕ)). Emits a r (midOf to (length out - to) out) new) given (q .emits))
             ∙ ap (λ (p : ℕ). sets out p v) front
             ∙ ap (λ (o : List ℕ). sets o (0 + length made) v) (c .nowIs)
             ∙ sets-append out₀ 0 made v
-            ∙ ap (sets out₀ 0) (sym (scans-more rule w h gray wide high k (there (c .turn)))
+            ∙ ap (sets out₀ 0) (sym (scans-more rule w h gray wide high k (there (c .within)))
             ∙ ap (scanBytes rule w h gray) (sym (add-one k)));
         workLong = n ∙ c .workLong;
         beyond = q .beyond ∙ c .beyond;
@@ -136,7 +136,7 @@ module _ {asked : Quantize} {w h count : ℕ} {gray : List ℕ} {work₀ : List 
 
   pub ended : count ≤ k → PutsScans rule w h count gray out₀ work₀ out work
   ended l =
-      let e : k ≡ count = omega (arith, c .turn) in
+      let e : k ≡ count = omega (arith, c .within) in
       let all = scanBytes rule w h gray count in
       let n : length all ≡ count * planeBytes w h =
       scans-long rule w h gray (c .passed .sized .wide) (c .passed .sized .high) count (c .passed .enough) in

@@ -93,7 +93,7 @@ fn write_planes(lent: Planes, planes: &[u8], start: usize, out: &mut [u8])
         let from = k * needed;
         let end = from + needed;
         let to = k * plane;
-        image::wire_bits(
+        image::wire_bits_at(
             &planes[from..end],
             width,
             height,

@@ -231,8 +231,8 @@ module _ (strict : Bool) (text lengths : List ℕ) (s : PairsCheck) (q : s ≡ c
         (λ k. ap (λ (r : PairsCheck). r .code) q ∙ k)
         (walk-out strict text lengths checkStart (sym (ap (λ (r : PairsCheck). r .at) q) ∙ e))
 
-    settled : sum lengths ≡ length text → Answered strict (laid strict (cutPairs lengths text)) (s .code)
-    settled h =
+    all-answered : sum lengths ≡ length text → Answered strict (laid strict (cutPairs lengths text)) (s .code)
+    all-answered h =
         subst (Answered strict (laid strict (cutPairs lengths text))) (sym (ap (λ (r : PairsCheck). r .code) (ran-in h)))
         (answered strict (cutPairs lengths text))
 
@@ -240,7 +240,7 @@ module _ (strict : Bool) (text lengths : List ℕ) (s : PairsCheck) (q : s ≡ c
     pairs-first n = by-sum (eqb (sum lengths) (length text)) refl
       where
         by-sum : (b : Bool) → eqb (sum lengths) (length text) ≡ b → lentBytes strict 3 text lengths ≡ refuses (s .code) 0
-        by-sum true t = lent-laid strict text lengths (eqb-true _ _ t) some ∙ settled (eqb-true _ _ t) .refused n
+        by-sum true t = lent-laid strict text lengths (eqb-true _ _ t) some ∙ all-answered (eqb-true _ _ t) .refused n
         by-sum false t =
             lent-31 strict text lengths (eqb-false _ _ t) ∙ ap (λ (code : ℕ). refuses code 0) (sym (ran-past (eqb-false _ _ t)))
 
@@ -251,7 +251,7 @@ module _ (strict : Bool) (text lengths : List ℕ) (s : PairsCheck) (q : s ≡ c
             ≡ gives (length text + length lengths / 2)
         by-sum true t =
             let h = eqb-true _ _ t in
-            let a = settled h .accepted z in
+            let a = all-answered h .accepted z in
             ap (map length) (lent-laid strict text lengths h some ∙ a .1)
             ∙ ap gives (laid-length strict lengths text (a .0) (a .1) (omega arith) ∙ ap (λ (n : ℕ). n + length lengths / 2) h)
         by-sum false t = let k = ran-past (eqb-false _ _ t) in absurd (omega arith)

@@ -99,10 +99,10 @@ fn keep(ext: &mut [u8], kept: usize, byte: u8, wanted: bool) -> usize
 }
 
 // How far into a piece a reader has come, and how many extension bytes are kept by then.
-pub struct HeadRun {
-    pub taken: usize,
-    pub kept: usize,
-    pub reader: HeaderReader,
+struct HeadRun {
+    taken: usize,
+    kept: usize,
+    reader: HeaderReader,
 }
 
 // Stores a run of bytes behind those kept, where it has room, and says how many are kept then.

@@ -15,7 +15,7 @@ ghost use Rattle.header.specs.Settings.{settings};
 ghost use Rattle.header.specs.Read.{extSpan};
 ghost use Rattle.header_reader.specs.Internal.Machine.{stepOf};
 ghost use Rattle.header_reader.specs.Internal.Represents.{state};
-ghost use Rattle.header_reader.specs.Internal.Phase.{moved, afterType, afterSizes, IntegerBound};
+ghost use Rattle.header_reader.specs.Internal.Phase.{moved, typeStep, afterSizes, IntegerBound};
 ghost use Rattle.header_reader.specs.declared.phase.Phase.{Phase};
 ghost use Rattle.header_reader.specs.declared.phase.PhaseStep.{PhaseStep};
 
@@ -49,7 +49,7 @@ fn more_height(fix: u8, fields: HeaderFields, width: u32, integer: PartialIntege
 
 // After the type.
 fn typed(value: u32, at: usize) -> PhaseStep
-    ensures { λ r. ⌜ moved r ≡ afterType value at ⌝ }
+    ensures { λ r. ⌜ moved r ≡ typeStep value at ⌝ }
 {
     if value == 0 {
         return PhaseStep::More(Phase::AtFix { at });

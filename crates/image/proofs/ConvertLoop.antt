@@ -21,7 +21,7 @@ use Rattle.image.proofs.RowStarts.{Started}
 pub record Converting (plane₀ : List ℕ) (w h s row mask : ℕ) (plane : List ℕ) (y : ℕ) : Type 0 where
   pub rowIs : row ≡ rowBytes w
   pub maskIs : mask ≡ paddingMask w
-  pub turn : y ≤ h
+  pub within : y ≤ h
   pub same : length plane ≡ length plane₀
   pub rest : convertRows w s (h - y) y plane ≡ convertRows w s h 0 plane₀
 
@@ -31,7 +31,7 @@ begun plane w h s l e =
     record {
       rowIs = sizes.stride-is e;
       maskIs = sizes.mask-is e;
-      turn = omega arith;
+      within = omega arith;
       same = refl;
       rest = let n : h - 0 ≡ h = omega arith in rw n;
     }
@@ -68,7 +68,7 @@ module _ {plane₀ : List ℕ} {w h s row mask : ℕ} {plane : List ℕ} {y : �
       record {
         rowIs = c .rowIs;
         maskIs = c .maskIs;
-        turn = omega arith;
+        within = omega arith;
         same = same-len-mid at (at + row - at) plane new long ∙ c .same;
         rest =
             ap (convertRows w s (h - (y + 1)) (y + 1)) b

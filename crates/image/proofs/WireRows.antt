@@ -58,7 +58,7 @@ module _ (f : PixelFormat) (w s : ℕ) (plane : List ℕ) where
 pub record Wiring (plane : List ℕ) (w h s : ℕ) (f : PixelFormat) (out₀ : List ℕ) (row mask : ℕ) (out : List ℕ) (at y : ℕ) : Type 0 where
   pub rowIs : row ≡ rowBytes w
   pub maskIs : mask ≡ paddingMask w
-  pub turn : y ≤ h
+  pub within : y ≤ h
   pub place : at ≡ y * rowBytes w
   pub room : h * rowBytes w ≤ length out₀
   pub nowIs : out ≡ wireBits f w y s plane ++ drop at out₀
@@ -71,7 +71,7 @@ begun plane w h s f out l e k =
     record {
       rowIs = sizes.stride-is e;
       maskIs = sizes.mask-is e;
-      turn = omega arith;
+      within = omega arith;
       place = omega arith;
       room = omega arith;
       nowIs = refl;
@@ -82,7 +82,7 @@ module _ {plane : List ℕ} {w h s : ℕ} {f : PixelFormat} {out₀ : List ℕ} 
   pub kept-length : length out ≡ length out₀
   kept-length =
       let p = wire-length f w s plane y in
-      let q : y * rowBytes w ≤ h * rowBytes w = mul-le-mul-right (rowBytes w) (c .turn) in
+      let q : y * rowBytes w ≤ h * rowBytes w = mul-le-mul-right (rowBytes w) (c .within) in
       ap length (c .nowIs) ∙ length-append (wireBits f w y s plane) (drop at out₀) ∙ simp length-drop (omega (arith, c .place, c .room))
 
   pub next-fits : y < h → at + row ≤ length out
@@ -110,7 +110,7 @@ module _ {plane : List ℕ} {w h s : ℕ} {f : PixelFormat} {out₀ : List ℕ} 
       record {
         rowIs = c .rowIs;
         maskIs = c .maskIs;
-        turn = omega arith;
+        within = omega arith;
         place = let m : (y + 1) * rowBytes w ≡ y * rowBytes w + rowBytes w = omega arith in omega (arith, c .place, c .rowIs);
         room = c .room;
         nowIs =
@@ -128,6 +128,6 @@ module _ {plane : List ℕ} {w h s : ℕ} {f : PixelFormat} {out₀ : List ℕ} 
 
   pub ended : h ≤ y → out ≡ wireBits f w h s plane ++ drop (planeBytes w h) out₀
   ended k =
-      let e : y ≡ h = omega (arith, c .turn) in
+      let e : y ≡ h = omega (arith, c .within) in
       let n : at ≡ planeBytes w h = c .place ∙ ap (λ (k : ℕ). k * rowBytes w) e ∙ mul-comm h (rowBytes w) in
       c .nowIs ∙ ap (λ (k : ℕ). wireBits f w k s plane ++ drop at out₀) e ∙ ap (λ (k : ℕ). wireBits f w h s plane ++ drop k out₀) n

@@ -17,6 +17,7 @@ pub use dots::is_white;
 pub use geometry::check_geometry;
 pub use geometry::row_stride;
 pub use wire::wire_bits;
+pub use wire::wire_bits_at;
 
 pub enum PixelFormat {
     // 1 is white: the format of files.

@@ -104,9 +104,8 @@ fn wire_packed(plane: &[u8], layout: PlaneLayout, format: PixelFormat, at: usize
     clear_rows(out, layout);
 }
 
-// Rows end to end without gaps, 1 for white and padding 0; nothing is written where they do not fit. `at` is where the output starts in
-// its buffer: stores hang on it, bytes do not.
-pub fn wire_bits(
+// `wire_bits` for an output that starts at index `at` of a file: stores hang on it, bytes do not.
+pub fn wire_bits_at(
     plane: &[u8],
     width: u32,
     height: u32,
@@ -132,4 +131,19 @@ pub fn wire_bits(
     }
     wire_rows(plane, layout, stride, format, out);
     Written::Bytes(total)
+}
+
+// Rows end to end without gaps, 1 for white and padding 0; nothing is written where they do not fit.
+pub fn wire_bits(
+    plane: &[u8],
+    width: u32,
+    height: u32,
+    stride: usize,
+    format: PixelFormat,
+    out: &mut [u8],
+) -> Written
+    ensures { λ r. ⌜ Emits (gives (wireBits format width height stride (now (plane .entry)))) (written r) (now (out .entry))
+        (now (out .exit)) ⌝ }
+{
+    wire_bits_at(plane, width, height, stride, format, 0, out)
 }

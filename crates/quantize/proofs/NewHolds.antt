@@ -74,6 +74,8 @@ opens asked table w h frames t =
       widthIs = refl;
       heightIs = refl;
       framesAre = refl;
+      rowIs = refl;
+      columnIs = refl;
       holds = λ rule k pw ph work.
           record {
             stands = record {

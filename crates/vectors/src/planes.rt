@@ -64,7 +64,7 @@ pub(crate) fn wire(input: &[u8], out: &mut [u8]) -> Written {
     let width = size(input, 3);
     let height = size(input, 4);
     let stride = stride(input);
-    image::wire_bits(plane, width, height, stride, from(input), 0, out)
+    image::wire_bits(plane, width, height, stride, from(input), out)
 }
 
 // The plane is copied to the front of the output and changed there.

@@ -16,8 +16,8 @@ pub record Cleared (width at : ℕ) (old new : List ℕ) : Type 0 where
   pub byte : (j : ℕ) → j < length old → getD new j 0 ≡ padded width (at + j) (getD old j 0)
 
 -- behind byte `at` of a body, over bytes that are written
-abbrev pub onward : ℕ → ℕ → ℕ → ℕ → BodyFed
-onward plane at taken written =
+abbrev pub fedUpTo : ℕ → ℕ → ℕ → ℕ → BodyFed
+fedUpTo plane at taken written =
     record { taken = taken; written = written; whole = (at + written) / plane; begun = (at + written) % plane }
 
 -- From so many whole planes and bytes of the begun one: the bytes that are left up to a ceiling of planes, and all that is given is taken;
@@ -28,7 +28,7 @@ advanced ceiling plane whole begun given room =
     let left = ceiling * plane - at in
     let most = min given room in
     if (leb plane begun) (record { taken = 0; written = 0; whole = whole; begun = begun })
-    (if (leb left most) (onward plane at given left) (onward plane at most most))
+    (if (leb left most) (fedUpTo plane at given left) (fedUpTo plane at most most))
 
 pub record Bodies (format : PixelFormat) (width height ceiling whole begun : ℕ) (piece out : List ℕ) (r : BodyFed)
     (out′ : List ℕ) : Type 0 where

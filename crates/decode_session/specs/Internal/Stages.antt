@@ -23,7 +23,7 @@ use Rattle.decode_session.specs.declared.DecodeFed.{DecodeFed}
 use Rattle.decode_session.specs.declared.DecodeClose.{DecodeClose}
 
 -- a reply and a session that are a plain machine's
-pub record RepliesAs (r : DecodeFed) (out′ ext′ : List ℕ) (x : Outcome) : Type 0 where
+pub record FedAs (r : DecodeFed) (out′ ext′ : List ℕ) (x : Outcome) : Type 0 where
   pub reply : x .reply ≡ record { answer = fedMeaning (r .answer); output = out′; extension = ext′ }
   pub stands : Stands (r .session) (x .next)
 
@@ -48,7 +48,7 @@ pub record Enters (m : Model) (piece : List ℕ) (from : ℕ) (h : Outline) (who
 pub record FeedsPlanes (o : DecodeOptions) (h : ParsedHeader) (whole begun from : ℕ) (piece out : List ℕ) (r : DecodeFed)
     (out′ : List ℕ) : Type 0 where
   pub does : (m : Model) (ext : List ℕ) → Settled (m .options) → decoding o ≡ m .options → Enters m piece from (parsed h) whole begun
-      → RepliesAs r out′ (stored m (m .bytes ++ piece) ext) (fedBy m piece out ext nothing)
+      → FedAs r out′ (stored m (m .bytes ++ piece) ext) (fedBy m piece out ext nothing)
 
 -- the header ends with the first bytes of a piece
 pub record Ended (m : Model) (piece : List ℕ) (from : ℕ) (h : Outline) : Type 0 where
@@ -61,7 +61,7 @@ pub record Begins (o : DecodeOptions) (f : FieldsSeen) (h : ParsedHeader) (from 
     : Type 0 where
   pub does : (m : Model) (ext : List ℕ) → Settled (m .options) → decoding o ≡ m .options
       → BeforeHeader m f → Ended m piece from (parsed h)
-      → RepliesAs r out′ (stored m (m .bytes ++ piece) ext) (fedBy m piece out ext (meets m piece))
+      → FedAs r out′ (stored m (m .bytes ++ piece) ext) (fedBy m piece out ext (meets m piece))
 
 -- what closing answers
 pub record Finishes (s : Stage) (r : DecodeClose) : Type 0 where

@@ -33,8 +33,8 @@ afterPair c again fault =
     (if again (more (fieldsState (FieldsPhase.AtPair c))) (toWidth (c .fix) (found (c .fix) (c .start) (c .at) (c .pairs)) (c .at)))
     (refused fault (c .at))
 
-abbrev pub afterType : ℕ → ℕ → Step
-afterType value at = if (eqb value 0) (more (atFix at)) (refused 5 at)
+abbrev pub typeStep : ℕ → ℕ → Step
+typeStep value at = if (eqb value 0) (more (atFix at)) (refused 5 at)
 
 abbrev pub afterSizes : ℕ → Span → ℕ → ℕ → ℕ → Step
 afterSizes fix f width height at =

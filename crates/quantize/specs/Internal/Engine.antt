@@ -73,6 +73,8 @@ pub record NewQuantizer (asked : Quantize) (w h frames : ℕ) (q : Quantizer) : 
   pub widthIs : q .width ≡ w
   pub heightIs : q .height ≡ h
   pub framesAre : q .place .frames ≡ frames
+  pub rowIs : q .place .row ≡ 0
+  pub columnIs : q .place .column ≡ 0
   pub holds : (rule : Rule) → ruleNamed asked ≡ gives rule → 0 < w → 0 < h → (work : List ℤ)
       → QuantizerAfter q work (setting rule w h frames) []
 

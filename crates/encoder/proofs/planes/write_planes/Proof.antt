@@ -57,29 +57,29 @@ add-end c = omega (arith, there c .0, c .before .before .before .before .before 
 mul-to : tie.Need-mul-to Inv-loop μ-loop
 mul-to c = omega (arith, there c .1, kept-length (c .before .loop .inv), c .before .before .before .before .before .good)
 
-sub-wire-bits : tie.Need-sub-wire-bits Inv-loop μ-loop
-sub-wire-bits c = omega arith
+sub-wire-bits-at : tie.Need-sub-wire-bits-at Inv-loop μ-loop
+sub-wire-bits-at c = omega arith
 
-part-wire-bits-start : tie.Need-part-wire-bits-start Inv-loop μ-loop
-part-wire-bits-start c = omega arith
+part-wire-bits-at-start : tie.Need-part-wire-bits-at-start Inv-loop μ-loop
+part-wire-bits-at-start c = omega arith
 
-part-wire-bits-end : tie.Need-part-wire-bits-end Inv-loop μ-loop
-part-wire-bits-end c = omega (arith, there c .0)
+part-wire-bits-at-end : tie.Need-part-wire-bits-at-end Inv-loop μ-loop
+part-wire-bits-at-end c = omega (arith, there c .0)
 
-add-wire-bits : tie.Need-add-wire-bits Inv-loop μ-loop
-add-wire-bits c = search needs
+add-wire-bits-at : tie.Need-add-wire-bits-at Inv-loop μ-loop
+add-wire-bits-at c = search needs
 
-sub-wire-bits-2 : tie.Need-sub-wire-bits-2 Inv-loop μ-loop
-sub-wire-bits-2 c = omega (arith, there (c .before) .1)
+sub-wire-bits-at-2 : tie.Need-sub-wire-bits-at-2 Inv-loop μ-loop
+sub-wire-bits-at-2 c = omega (arith, there (c .before) .1)
 
-part-wire-bits-start-2 : tie.Need-part-wire-bits-start-2 Inv-loop μ-loop
-part-wire-bits-start-2 c = omega (arith, there (c .before) .1)
+part-wire-bits-at-start-2 : tie.Need-part-wire-bits-at-start-2 Inv-loop μ-loop
+part-wire-bits-at-start-2 c = omega (arith, there (c .before) .1)
 
-part-wire-bits-end-2 : tie.Need-part-wire-bits-end-2 Inv-loop μ-loop
-part-wire-bits-end-2 c = omega arith
+part-wire-bits-at-end-2 : tie.Need-part-wire-bits-at-end-2 Inv-loop μ-loop
+part-wire-bits-at-end-2 c = omega arith
 
-wire-bits-requires : tie.Need-wire-bits-requires Inv-loop μ-loop
-wire-bits-requires c κs = search needs
+wire-bits-at-requires : tie.Need-wire-bits-at-requires Inv-loop μ-loop
+wire-bits-at-requires c κs = search needs
 
 add-k : tie.Need-add-k Inv-loop μ-loop
 add-k c = search needs
@@ -91,7 +91,7 @@ loop-again : tie.Need-loop-again Inv-loop μ-loop
 loop-again c =
     let w = c .before .before in
     let l = w .before .before .before in
-    planed (l .before .loop .inv) _ _ _ _ (l .loop-test .taken) refl refl (w .wire-bits .ensures)
+    planed (l .before .loop .inv) _ _ _ _ (l .loop-test .taken) refl refl (w .wire-bits-at .ensures)
 
 same-length : tie.Need-same-length Inv-loop μ-loop
 same-length c = kept-length (c .before .loop .inv)
@@ -110,14 +110,14 @@ write-planes-spec =
     mul-from
     add-end
     mul-to
-    sub-wire-bits
-    part-wire-bits-start
-    part-wire-bits-end
-    add-wire-bits
-    sub-wire-bits-2
-    part-wire-bits-start-2
-    part-wire-bits-end-2
-    wire-bits-requires
+    sub-wire-bits-at
+    part-wire-bits-at-start
+    part-wire-bits-at-end
+    add-wire-bits-at
+    sub-wire-bits-at-2
+    part-wire-bits-at-start-2
+    part-wire-bits-at-end-2
+    wire-bits-at-requires
     add-k
     loop-less
     loop-again

@@ -20,7 +20,7 @@ record Clearing (plane₀ : List ℕ) (w h row mask : ℕ) (plane : List ℕ) (y
   maskIs : mask ≡ paddingMask w
   wide : 0 < row
   room : planeBytes w h ≤ length plane₀
-  turn : y ≤ h
+  within : y ≤ h
   nowIs : plane ≡ clearRows w y plane₀
 
 abbrev Inv-loop : tie.InvT-loop
@@ -49,7 +49,7 @@ module _ {plane₀ : List ℕ} {w h row mask : ℕ} {plane : List ℕ} {y : ℕ}
         maskIs = i .maskIs;
         wide = i .wide;
         room = i .room;
-        turn = omega arith;
+        within = omega arith;
         nowIs =
             ap (λ (r : ℕ). set plane (y * r + (r - 1)) (bitAnd (getD plane (y * r + (r - 1)) 0) mask)) (i .rowIs)
             ∙ clear-next w y mask plane₀ plane (i .maskIs) (i .nowIs)
@@ -69,7 +69,7 @@ loop-holds c =
       maskIs = sizes.mask-is (s .pre .0);
       wide = omega (arith, sizes.stride-is (s .pre .0), c .if1 .left);
       room = s .pre .1;
-      turn = omega arith;
+      within = omega arith;
       nowIs = refl;
     }
 
@@ -111,7 +111,7 @@ returns-2 : tie.Need-returns-2 Inv-loop μ-loop
 returns-2 c =
     let i = c .before .before .loop .inv in
     let a = c .before .before .before .before .before .args in
-    let e : c .before .before .loop .y ≡ a .layout .height = omega (arith, i .turn, c .if2 .left) in
+    let e : c .before .before .loop .y ≡ a .layout .height = omega (arith, i .within, c .if2 .left) in
     i .nowIs ∙ ap (λ k. clearRows (a .layout .width) k (now (a .plane))) e
 
 pub clear-rows-spec : {M : Type 1} → statement M

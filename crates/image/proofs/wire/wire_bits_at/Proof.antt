@@ -17,8 +17,8 @@ use Rattle.image.proofs.PackedAsRows.{wires-at-once}
 use Rattle.image.proofs.PlaneSizes.{laid, stride-is, total-is}
 use Rattle.image.proofs.WireRows.{wire-length}
 use borrow.Author.Needs.{needs}
-use Rattle.image.proofs.wire.wire_bits.Statement.{statement}
-use Rattle.image.proofs.wire.wire_bits.Tie as tie
+use Rattle.image.proofs.wire.wire_bits_at.Statement.{statement}
+use Rattle.image.proofs.wire.wire_bits_at.Tie as tie
 
 abbrev start : tie.After-new → tie.Start
 start c = c .before .before .before
@@ -105,8 +105,8 @@ returns-3 c =
     (planeBytes (l .width) (l .height)) (now (a .out))) (n .new .ensures)
     ∙ ap (λ (m : ℕ). whole n ++ drop m (now (a .out))) (sym (total-is (n .new .ensures))))
 
-pub wire-bits-spec : {M : Type 1} → statement M
-wire-bits-spec =
+pub wire-bits-at-spec : {M : Type 1} → statement M
+wire-bits-at-spec =
     tie.close
     (tie.spec
     new-requires
