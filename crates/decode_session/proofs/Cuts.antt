@@ -44,7 +44,7 @@ module _ (d : Decoding) (file : List ℕ) where
     unmet : Meets false nothing
     met : {flag : Bool} {code place : ℕ} → readImage d file ≡ refuses code place → Meets flag (metAt code place)
 
-  pub record Next (at : ℕ) (flag : Bool) (o : Outcome) : Type 0 where
+  pub record CutNext (at : ℕ) (flag : Bool) (o : Outcome) : Type 0 where
     pub met′ : Met
     pub nextIs : o .next ≡ midway (at + tookOf (o .reply .answer)) met′
     pub holds : Meets (flag || isMet (o .reply .answer)) met′
@@ -67,7 +67,7 @@ module _ (d : Decoding) (file : List ℕ) where
     piece = take size (drop at file)
 
     stays : (code place : ℕ) (flag : Bool) (x : Met) → Meets (flag || isMet (refuses code place)) x
-        → Next at flag (unaltered (midway at x) code place out ext)
+        → CutNext at flag (unaltered (midway at x) code place out ext)
     stays code place flag x h =
         let z : at + 0 ≡ at = omega arith in
         record {
@@ -80,7 +80,7 @@ module _ (d : Decoding) (file : List ℕ) where
     abbrev count : ℕ
     count = takes (midway at nothing) piece (length out)
 
-    goes-on : Next at false (fedBy (midway at nothing) piece out ext nothing)
+    goes-on : CutNext at false (fedBy (midway at nothing) piece out ext nothing)
     unfolding grown
     goes-on =
         let n = next-part file at size count l (most-small ceiling d (take at file) piece (length out) (length piece)) in
@@ -91,11 +91,11 @@ module _ (d : Decoding) (file : List ℕ) where
           there = n .1;
         }
 
-    pub step : (flag : Bool) (x : Met) → Meets flag x → Next at flag (outcome (midway at x) (feed piece out ext))
+    pub step : (flag : Bool) (x : Met) → Meets flag x → CutNext at flag (outcome (midway at x) (feed piece out ext))
     unfolding outcome
     step flag x (met {code = code} {place = place} e) = stays code place flag x (met e)
     step flag x unmet =
-        by-case (midway at nothing) piece out ext (Next at false)
+        by-case (midway at nothing) piece out ext (CutNext at false)
         (stays 28 0 false nothing unmet)
         goes-on
         (λ code place e f.

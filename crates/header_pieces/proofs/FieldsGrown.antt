@@ -22,7 +22,7 @@ use Rattle.header_reader.proofs.Machine.{steps-cons}
 use Rattle.header_reader.proofs.StepReachable.{ReachableStep, reachable-step, reachable-steps, reachable-start}
 use Rattle.header_reader.proofs.BytesTaken.{taken, Moves, moves-step, taken-steps}
 use Rattle.header_pieces.specs.Extension.{fieldBytes}
-use Rattle.header_pieces.proofs.Zones.{Zone, before, inside, behind, zone, isInside, inside-is, Next, early, enters, skips, runs}
+use Rattle.header_pieces.proofs.Zones.{Zone, before, inside, behind, zone, isInside, inside-is, ZoneNext, early, enters, skips, runs}
 use Rattle.header_pieces.proofs.Zones.{leaves, late, Stops, Moved, zone-step}
 use Rattle.header_pieces.proofs.FieldsBytewise.{spanned, rest, rest-start, rest-steps, rest-step, rest-end, stopped, after}
 use Rattle.header_pieces.proofs.FieldsBytewise.{zoneBytes}
@@ -38,7 +38,7 @@ spanFits : (at : ℕ) (f : Span) → Fits at (behind f) → Fits (at + 1) (behin
 spanFits at absent h = tt
 spanFits at (span kind from len pairs) h = omega arith
 
-fits-next : (at : ℕ) (z z′ : Zone) → Next at z z′ → Fits at z → Fits (at + 1) z′
+fits-next : (at : ℕ) (z z′ : Zone) → ZoneNext at z z′ → Fits at z → Fits (at + 1) z′
 fits-next at z z′ early h = tt
 fits-next at z z′ enters h = omega arith
 fits-next at z z′ skips h = tt
@@ -75,7 +75,8 @@ module _ (σ : List ℕ) (b : ℕ) where
   snoc-length : length (σ ++ b ∷ []) ≡ length σ + 1
   snoc-length = length-append σ (b ∷ [])
 
-  zone-more : (z z′ : Zone) → Next (length σ) z z′ → Fits (length σ) z → zoneBytes z′ (σ ++ b ∷ []) ≡ zoneBytes z σ ++ added (isInside z) b
+  zone-more : (z z′ : Zone) → ZoneNext (length σ) z z′ → Fits (length σ) z
+      → zoneBytes z′ (σ ++ b ∷ []) ≡ zoneBytes z σ ++ added (isInside z) b
   zone-more z z′ early h = refl
   zone-more z z′ enters h =
       let n : length (σ ++ b ∷ []) ≤ length σ + 1 = omega (arith, snoc-length) in
@@ -101,7 +102,7 @@ module _ (σ : List ℕ) (b : ℕ) where
 room-inside : (σ : List ℕ) (from : ℕ) → from ≤ length σ → length σ < from + 4118 → length (drop from σ) < 4118
 room-inside σ from h l = omega (arith, length-drop from σ)
 
-room-more : (σ : List ℕ) (z z′ : Zone) → Next (length σ) z z′ → isInside z ≡ true → length (zoneBytes z σ) < 4118
+room-more : (σ : List ℕ) (z z′ : Zone) → ZoneNext (length σ) z z′ → isInside z ≡ true → length (zoneBytes z σ) < 4118
 room-more σ z z′ early e = zero-one (cc)
 room-more σ z z′ enters e = zero-one (cc)
 room-more σ z z′ skips e = zero-one (cc)

@@ -50,13 +50,13 @@ inside-is (inWidth fix f at v n) = refl
 inside-is (inHeight fix f w at v n) = refl
 
 -- what the byte at an offset does to a zone
-pub data Next (at : ℕ) : Zone → Zone → Type 0 where
-  early : Next at before before
-  enters : Next at before (inside (at + 1))
-  skips : Next at before (behind absent)
-  runs : {from : ℕ} → from ≤ at → at < from + 4118 → Next at (inside from) (inside from)
-  leaves : {from kind pairs : ℕ} → from ≤ at → at < from + 4118 → Next at (inside from) (behind (span kind from (at + 1 - from) pairs))
-  late : {f : Span} → Next at (behind f) (behind f)
+pub data ZoneNext (at : ℕ) : Zone → Zone → Type 0 where
+  early : ZoneNext at before before
+  enters : ZoneNext at before (inside (at + 1))
+  skips : ZoneNext at before (behind absent)
+  runs : {from : ℕ} → from ≤ at → at < from + 4118 → ZoneNext at (inside from) (inside from)
+  leaves : {from kind pairs : ℕ} → from ≤ at → at < from + 4118 → ZoneNext at (inside from) (behind (span kind from (at + 1 - from) pairs))
+  late : {f : Span} → ZoneNext at (behind f) (behind f)
 
 -- the place of a refusal in the fields: the byte's own, or the one after it
 abbrev pub Stops : ℕ → ℕ → Zone → Type 0
@@ -65,7 +65,7 @@ Stops at place (inside from) = (from ≤ at) × ((place ≡ at) ⊎ ((place ≡ 
 Stops at place (behind f) = Unit {0}
 
 abbrev pub Moved : ℕ → Zone → Step → Type 0
-Moved at z (more st) = Next at z (zone st)
+Moved at z (more st) = ZoneNext at z (zone st)
 Moved at z (done h) = z ≡ behind (h .fields)
 Moved at z (refused code place) = Stops at place z
 

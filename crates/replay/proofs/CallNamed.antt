@@ -12,7 +12,7 @@ use Rattle.error.specs.Choice.{if}
 use Rattle.laws.proofs.Tests.{if-true, if-false, zero-one}
 use Rattle.replay.specs.declared.call.Named.{Named}
 use Rattle.replay.specs.declared.call.Named.the-variants.{Close, Feed}
-use Rattle.replay.specs.declared.call.Next.{Next}
+use Rattle.replay.specs.declared.call.NextCall.{NextCall}
 use Rattle.replay.specs.declared.call.Lending.{Lending}
 use Rattle.replay.specs.Calls.{nameOf, roomOf, hasParts, isThere, named, Fits, Tests, There, Goes, Nexts}
 
@@ -40,10 +40,10 @@ abbrev firstOf : List ℕ → Named
 firstOf ns = if (eqb (getD ns 0 0) 0) Close (Feed (partOf ns))
 
 module _ (samples room work answers : ℕ) where
-  pub nexts-end : (ns : List ℕ) → named ns samples room work answers ≡ [] → Nexts ns samples room work answers Next.End
+  pub nexts-end : (ns : List ℕ) → named ns samples room work answers ≡ [] → Nexts ns samples room work answers NextCall.End
   nexts-end ns e = record { ends = λ _. e; goes = λ c f. zero-one (cc) }
 
-  pub nexts-call : (ns : List ℕ) (c : Named) → Goes ns samples room work answers c → Nexts ns samples room work answers (Next.Call c)
+  pub nexts-call : (ns : List ℕ) (c : Named) → Goes ns samples room work answers c → Nexts ns samples room work answers (NextCall.Call c)
   nexts-call ns c g =
       record {
         ends = λ f. zero-one (cc);
@@ -66,7 +66,7 @@ module _ (samples room work answers : ℕ) where
   few (a ∷ b ∷ c ∷ d ∷ []) h = refl
   few (a ∷ b ∷ c ∷ d ∷ e ∷ ns) h = absurd (omega arith)
 
-  pub too-few : (ns : List ℕ) → length ns < 5 → Nexts ns samples room work answers Next.End
+  pub too-few : (ns : List ℕ) → length ns < 5 → Nexts ns samples room work answers NextCall.End
   too-few ns h = nexts-end ns (few ns h)
 
   five : (ns : List ℕ) → 5 ≤ length ns → named ns samples room work answers ≡ if (goesOn (firstOf ns)) (behind ns (firstOf ns)) []
@@ -82,13 +82,13 @@ module _ (samples room work answers : ℕ) where
     from : (c : Named) → firstOf ns ≡ c → named ns samples room work answers ≡ if (goesOn c) (behind ns c) []
     from c e = five ns h ∙ ap (λ (c : Named). if (goesOn c) (behind ns c) []) e
 
-    pub no-room : answers < 3 → Nexts ns samples room work answers Next.End
+    pub no-room : answers < 3 → Nexts ns samples room work answers NextCall.End
     no-room k = nexts-end ns (five ns h
         ∙ if-false _ _ _ (ap (λ (b : Bool). b && isThere (firstOf ns) samples room work) (lt-leb 3 answers k)))
 
     module _ (k : 3 ≤ answers) where
       goes : (c : Named) → firstOf ns ≡ c → isThere c samples room work ≡ true → There c samples room work
-          → Nexts ns samples room work answers (Next.Call c)
+          → Nexts ns samples room work answers (NextCall.Call c)
       goes c e t there =
           nexts-call ns c
           (record {
@@ -98,17 +98,17 @@ module _ (samples room work answers : ℕ) where
             there = there;
           })
 
-      pub closes : getD ns 0 0 ≡ 0 → Nexts ns samples room work answers (Next.Call Close)
+      pub closes : getD ns 0 0 ≡ 0 → Nexts ns samples room work answers (NextCall.Call Close)
       closes e = goes Close (if-true _ _ _ (eq-eqb _ _ e)) refl tt
 
       module _ (e : getD ns 0 0 ≡ 0 → ⊥) (b : Bool) (t : Tests (partOf ns) samples room work b) where
         feeding : firstOf ns ≡ Feed (partOf ns)
         feeding = if-false _ _ _ (ne-eqb _ _ e)
 
-        pub feeds : b ≡ true → Nexts ns samples room work answers (Next.Call (Feed (partOf ns)))
+        pub feeds : b ≡ true → Nexts ns samples room work answers (NextCall.Call (Feed (partOf ns)))
         feeds y = goes (Feed (partOf ns)) feeding (sym (t .is) ∙ y) (t .fits y)
 
-        pub no-parts : b ≡ false → Nexts ns samples room work answers Next.End
+        pub no-parts : b ≡ false → Nexts ns samples room work answers NextCall.End
         no-parts n =
             nexts-end ns
             (from (Feed (partOf ns)) feeding

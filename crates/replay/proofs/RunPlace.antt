@@ -8,7 +8,7 @@ use lib.ListN.{length, take, drop, length-append, length-drop}
 use lib.Seq.{take-all, take-at, drop-at, drop-drop}
 use Rattle.replay.specs.declared.call.Named.{Named}
 use Rattle.replay.specs.declared.call.Named.the-variants.{Close, Feed}
-use Rattle.replay.specs.declared.call.Next.{Next}
+use Rattle.replay.specs.declared.call.NextCall.{NextCall}
 use Rattle.replay.specs.Calls.{roomOf, lentOf, named, roomIn, Within, concatMap, over, Spares, There, Goes, Nexts, replaced}
 use Rattle.replay.proofs.Parts.{replaced-behind, replaced-long}
 
@@ -62,15 +62,15 @@ next-is calls samples out answers out′ answers′ work work′ at lent told c 
 left-numbers : (calls : List ℕ) (at : ℕ) → take (length calls - at) (drop at calls) ≡ drop at calls
 left-numbers calls at = take-all (length calls - at) (drop at calls) (rw (length-drop at calls) (omega arith))
 
-module _ (calls : List ℕ) (at samples room work answers : ℕ) (n : Next)
+module _ (calls : List ℕ) (at samples room work answers : ℕ) (n : NextCall)
     (t : Nexts (take (length calls - at) (drop at calls)) samples room work answers n) where
   here : Nexts (drop at calls) samples room work answers n
   here = subst (λ (l : List ℕ). Nexts l samples room work answers n) (left-numbers calls at) t
 
-  pub ends-here : n ≡ Next.End → named (drop at calls) samples room work answers ≡ []
+  pub ends-here : n ≡ NextCall.End → named (drop at calls) samples room work answers ≡ []
   ends-here e = here .ends e
 
-  pub goes-here : (c : Named) → n ≡ Next.Call c → Goes (drop at calls) samples room work answers c
+  pub goes-here : (c : Named) → n ≡ NextCall.Call c → Goes (drop at calls) samples room work answers c
   goes-here c e = here .goes c e
 
 -- ---- the run so far

@@ -9,7 +9,7 @@ use Rattle.error.specs.Choice.{if}
 use Rattle.replay.specs.declared.call.ThreeNumbers.{ThreeNumbers}
 use Rattle.replay.specs.declared.call.Named.{Named}
 use Rattle.replay.specs.declared.call.Named.the-variants.{Close, Feed}
-use Rattle.replay.specs.declared.call.Next.{Next}
+use Rattle.replay.specs.declared.call.NextCall.{NextCall}
 use Rattle.replay.specs.declared.call.Lending.{Lending}
 
 -- 0 closes, and closing looks at no other number; any other number feeds
@@ -98,9 +98,9 @@ pub record Goes (numbers : List ℕ) (samples room work answers : ℕ) (c : Name
   pub there : There c samples room work
 
 -- what the next call is
-pub record Nexts (numbers : List ℕ) (samples room work answers : ℕ) (r : Next) : Type 0 where
-  pub ends : r ≡ Next.End → named numbers samples room work answers ≡ []
-  pub goes : (c : Named) → r ≡ Next.Call c → Goes numbers samples room work answers c
+pub record Nexts (numbers : List ℕ) (samples room work answers : ℕ) (r : NextCall) : Type 0 where
+  pub ends : r ≡ NextCall.End → named numbers samples room work answers ≡ []
+  pub goes : (c : Named) → r ≡ NextCall.Call c → Goes numbers samples room work answers c
 
 -- the numbers that are stored
 abbrev pub threeOf : ThreeNumbers → List ℕ

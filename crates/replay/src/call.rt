@@ -19,7 +19,7 @@ pub(crate) enum Named {
 }
 
 // The run ends, or makes one call more.
-pub(crate) enum Next {
+pub(crate) enum NextCall {
     End,
     Call(Named),
 }
@@ -47,14 +47,14 @@ pub(crate) fn next_call(
     room: usize,
     work: usize,
     answers: usize,
-) -> Next
+) -> NextCall
     ensures { λ r. ⌜ Nexts (now (numbers .entry)) samples room work answers r ⌝ }
 {
     if numbers.len() < 5 {
-        return Next::End;
+        return NextCall::End;
     }
     if answers < 3 {
-        return Next::End;
+        return NextCall::End;
     }
     let part = Lending {
         start: numbers[1],
@@ -63,12 +63,12 @@ pub(crate) fn next_call(
         lent: numbers[4],
     };
     if numbers[0] == 0 {
-        return Next::Call(Named::Close);
+        return NextCall::Call(Named::Close);
     }
     if !is_there(part, samples, room, work) {
-        return Next::End;
+        return NextCall::End;
     }
-    Next::Call(Named::Feed(part))
+    NextCall::Call(Named::Feed(part))
 }
 
 // How many bytes of output a call is lent.

@@ -2,7 +2,7 @@
 use crate::DecodeReplayed;
 use crate::call::Lending;
 use crate::call::Named;
-use crate::call::Next;
+use crate::call::NextCall;
 use crate::call::ThreeNumbers;
 use crate::call::next_call;
 use crate::call::refused;
@@ -128,7 +128,7 @@ pub fn replay_decode(
         let room = out.len() - lent;
         let left = answers.len() - told;
         let next = next_call(&calls[at..], file.len(), room, ext.len(), left);
-        let Next::Call(call) = next else {
+        let NextCall::Call(call) = next else {
             return DecodeReplayed {
                 session,
                 calls: made,

@@ -2,7 +2,7 @@
 use crate::EncodeReplayed;
 use crate::call::Lending;
 use crate::call::Named;
-use crate::call::Next;
+use crate::call::NextCall;
 use crate::call::ThreeNumbers;
 use crate::call::next_call;
 use crate::call::refused;
@@ -132,7 +132,7 @@ pub fn replay_encode(
         let room = out.len() - lent;
         let left = answers.len() - told;
         let next = next_call(&calls[at..], samples.len(), room, work.len(), left);
-        let Next::Call(call) = next else {
+        let NextCall::Call(call) = next else {
             return EncodeReplayed {
                 session,
                 calls: made,
