@@ -22,7 +22,7 @@ use Rattle.header_reader.specs.Internal.Pieces.{onward}
 use Rattle.header_reader.proofs.Machine.{steps-cons, steps-all}
 use Rattle.header_reader.proofs.StepReachable.{ReachableStep, reachable-step, reachable-start}
 use Rattle.header_reader.proofs.EndRefusal.{endCode, endOffset, end-is}
-use Rattle.header_reader.proofs.Direct.{direct}
+use Rattle.header_pieces.proofs.Direct.{direct}
 
 pub record Told (code offset : ℕ) : Type 0 where
   pub some : 0 < code

@@ -33,7 +33,7 @@ use Rattle.header.specs.Settings.{Settings}
 use Rattle.header.specs.Write.{fixByte, headerBytes, extHeader, presented}
 use Rattle.header.specs.declared.ExtPresence.the-variants.{Absent}
 use Rattle.header_reader.specs.declared.reader.HeaderReader.{HeaderReader}
-use Rattle.header_reader.proofs.Pieces.{pieces, two-cuts}
+use Rattle.header_pieces.proofs.Pieces.{pieces, two-cuts}
 use Rattle.header.proofs.Prefix as HeaderPrefix
 use Rattle.header.proofs.RoundTrip.{shown, Fitting, header-back}
 use Rattle.image.specs.Dots.{bitAt, isWhite}

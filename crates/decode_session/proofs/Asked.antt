@@ -17,7 +17,7 @@ use Rattle.header_reader.specs.declared.FieldsSeen.{FieldsSeen}
 use Rattle.header.specs.declared.ParsedHeader.{ParsedHeader}
 use Rattle.header_pieces.specs.declared.HeadReading.{HeadReading}
 use Rattle.header_reader.proofs.EndRefusal.{endCode, endOffset}
-use Rattle.header_reader.proofs.KnownFields.{known-header}
+use Rattle.header_pieces.proofs.KnownFields.{known-header}
 use Rattle.options.specs.Limits.{ceilingOf}
 use Rattle.decoder.specs.Body.{planeOf}
 use Rattle.decoder.specs.Image.{imageSettings}

@@ -11,10 +11,10 @@ use Rattle.header.specs.Read.{Outline, outline, readHeader}
 use Rattle.header_reader.specs.Internal.Machine.{State, Step, more, done, refused, start, steps, stepOf, after}
 use Rattle.header_reader.specs.Internal.Pieces.{onward}
 use Rattle.header_reader.proofs.Machine.{steps-cons, steps-law, steps-all}
-use Rattle.header_reader.proofs.Direct.{direct}
-use Rattle.header_reader.proofs.RefusalMet.{finds, found}
+use Rattle.header_pieces.proofs.Direct.{direct}
+use Rattle.header_pieces.proofs.RefusalMet.{finds, found}
 use Rattle.header_reader.proofs.EndRefusal.{endCode, endOffset, end-is}
-use Rattle.header_reader.proofs.BytesTaken.{taken, Moves, moves-step, taken-steps}
+use Rattle.header_pieces.proofs.BytesTaken.{taken, Moves, moves-step, taken-steps}
 use Rattle.header_pieces.proofs.Readings.{unread}
 
 module _ (o : Settings) where

@@ -20,7 +20,7 @@ use Rattle.header_reader.specs.Internal.Represents.{Reachable}
 use Rattle.header_reader.specs.Internal.Pieces.{onward}
 use Rattle.header_reader.proofs.Machine.{steps-cons}
 use Rattle.header_reader.proofs.StepReachable.{ReachableStep, reachable-step, reachable-steps, reachable-start}
-use Rattle.header_reader.proofs.BytesTaken.{taken, Moves, moves-step, taken-steps}
+use Rattle.header_pieces.proofs.BytesTaken.{taken, Moves, moves-step, taken-steps}
 use Rattle.header_pieces.specs.Extension.{fieldBytes}
 use Rattle.header_pieces.proofs.Zones.{Zone, before, inside, behind, zone, isInside, inside-is, ZoneNext, early, enters, skips, runs}
 use Rattle.header_pieces.proofs.Zones.{leaves, late, Stops, Moved, zone-step}

@@ -22,9 +22,9 @@ use Rattle.header.specs.declared.ParsedHeader.{ParsedHeader}
 use Rattle.header_reader.specs.declared.reader.HeaderReader.{HeaderReader}
 use Rattle.header_reader.specs.declared.reader.HeaderStep.{HeaderStep}
 use Rattle.header_reader.proofs.Machine.{one-step, steps-cons, steps-law, steps-append}
-use Rattle.header_reader.proofs.Direct.{direct}
+use Rattle.header_pieces.proofs.Direct.{direct}
 use Rattle.header_reader.proofs.StepReachable.{ReachableStep, reachable-step}
-use Rattle.header_reader.proofs.BytesTaken.{Moves, taken, moves-step}
+use Rattle.header_pieces.proofs.BytesTaken.{Moves, taken, moves-step}
 use Rattle.header_pieces.specs.Extension.{fieldBytes}
 use Rattle.header_pieces.specs.Internal.Head.{Reached, HasRead, Ends, Heads, isKept, Keeps}
 use Rattle.header_pieces.specs.declared.HeadReading.{HeadReading}

@@ -1,3 +1,8 @@
+pub mod BytesTaken
+pub mod RefusalMet
+pub mod Pieces
+pub mod Direct
+pub mod KnownFields
 pub mod Zones
 pub mod FieldsBytewise
 pub mod FieldsGrown

@@ -15,9 +15,9 @@ use Rattle.header_reader.specs.Internal.Represents.{Reachable, Represents, Read
 use Rattle.header_reader.specs.declared.FieldsSeen.{FieldsSeen}
 use Rattle.header_reader.specs.declared.reader.HeaderReader.{HeaderReader}
 use Rattle.header_reader.proofs.Machine.{steps-all}
-use Rattle.header_reader.proofs.Direct.{direct}
-use Rattle.header_reader.proofs.BytesTaken.{taken, taken-steps}
-use Rattle.header_reader.proofs.KnownFields.{known-so}
+use Rattle.header_pieces.proofs.Direct.{direct}
+use Rattle.header_pieces.proofs.BytesTaken.{taken, taken-steps}
+use Rattle.header_pieces.proofs.KnownFields.{known-so}
 use Rattle.header_pieces.specs.Extension.{fieldBytes}
 use Rattle.header_pieces.specs.Internal.Head.{Reached}
 

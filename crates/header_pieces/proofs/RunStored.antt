@@ -19,7 +19,7 @@ use Rattle.header_reader.specs.Internal.Run.{fieldsStart, Inside, RunReached, R
 use Rattle.header_reader.specs.declared.reader.HeaderReader.{HeaderReader}
 use Rattle.header_reader.specs.declared.reader.HeaderRun.{HeaderRun}
 use Rattle.header_reader.proofs.Machine.{steps-append}
-use Rattle.header_reader.proofs.BytesTaken.{taken}
+use Rattle.header_pieces.proofs.BytesTaken.{taken}
 use Rattle.header_pieces.specs.Extension.{fieldBytes}
 use Rattle.header_pieces.specs.Internal.Head.{Reached}
 use Rattle.header_pieces.specs.Internal.HeadRun.{KeepsRun, RunsOn}

@@ -14,7 +14,7 @@ use Rattle.header.specs.Settings.{Settings}
 use Rattle.header_reader.specs.Internal.Machine.{State, inType, atFix, inOctets, atOctet, atPair, inIdentifier, inValue}
 use Rattle.header_reader.specs.Internal.Machine.{inWidth, inHeight, inFields, Step, more, done, refused, onByte, stepOf}
 use Rattle.header_reader.specs.Internal.Represents.{Reachable}
-use Rattle.header_reader.proofs.BytesTaken.{taken}
+use Rattle.header_pieces.proofs.BytesTaken.{taken}
 
 -- before the fields, in those that start at an offset, or behind those with a span
 pub data Zone : Type 0 where

@@ -3,11 +3,6 @@ pub mod RunSteps
 pub mod IntegerByte
 pub mod PairByte
 pub mod StepReachable
-pub mod BytesTaken
 pub mod EndRefusal
-pub mod RefusalMet
 pub mod Ranges
 pub mod ReaderPromises
-pub mod Pieces
-pub mod Direct
-pub mod KnownFields

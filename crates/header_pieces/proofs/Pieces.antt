@@ -8,22 +8,22 @@ use Rattle.error.specs.declared.WbmpError.{WbmpError}
 use Rattle.mbi.specs.Read.{readByte}
 use Rattle.header.specs.Settings.{Settings, settings}
 use Rattle.header.specs.Read.{Outline, outline, parsed, readHeader}
 use Rattle.header_reader.specs.Internal.Machine.{State, start, Step, more, done, refused, stepOf, steps, after, resume}
 use Rattle.header_reader.specs.Internal.Represents.{state, Represents, Answers, ReaderStepped}
 use Rattle.header_reader.specs.Internal.Pieces.{join, onward, Fed, nothing, byte, last, bad, Run, closed, piece, whole, met}
 use Rattle.header_reader.specs.Internal.Phase.{moved, asReader}
 use Rattle.header.specs.declared.HeaderMode.{HeaderMode}
 use Rattle.header.specs.declared.HeaderFields.{HeaderFields}
 use Rattle.header.specs.declared.ParsedHeader.{ParsedHeader}
 use Rattle.header_reader.specs.declared.phase.PartialInteger.{PartialInteger}
 use Rattle.header_reader.specs.declared.phase.Phase.{Phase}
 use Rattle.header_reader.specs.declared.phase.PhaseStep.{PhaseStep}
 use Rattle.header_reader.specs.declared.reader.HeaderReader.{HeaderReader}
 use Rattle.header_reader.specs.declared.reader.HeaderStep.{HeaderStep}
 use Rattle.header_reader.proofs.Machine.{steps-cons, steps-law}
 use Rattle.header_reader.proofs.StepReachable.{reachable-start}
 use Rattle.header_reader.proofs.ReaderPromises.{stepped}
-use Rattle.header_reader.proofs.Direct.{direct}
+use Rattle.header_pieces.proofs.Direct.{direct}
 
 module _ (o : Settings) where
   -- what a case of the code's step says of the definitions' step
