@@ -1,4 +1,6 @@
 // What is told of a file before its dots are read.
+#![tactic(auto)]
+
 use error::WbmpError;
 use header::HeaderFields;
 
@@ -9,7 +11,7 @@ mod sniffing;
 pub use facts::info;
 pub use sniffing::{probe, sniff};
 
-#[derive(Drop)]
+#[derive(Clone, Copy)]
 pub struct ImageInfo {
     pub width: u32,
     pub height: u32,
@@ -19,13 +21,13 @@ pub struct ImageInfo {
     pub data_offset: usize,
 }
 
-#[derive(Drop)]
+#[derive(Clone, Copy)]
 pub enum InfoRead {
     Info(ImageInfo),
     Refused(WbmpError),
 }
 
-#[derive(Drop)]
+#[derive(Clone, Copy)]
 pub enum Sniffed {
     // The header and 1 to 16 whole planes.
     Exact,

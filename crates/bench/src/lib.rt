@@ -1,5 +1,7 @@
 // Threshold and dithering, sessions, whole making and writing under C names, for tools/bench, which times them. They are no part of
 // include/wbmp.h.
+#![tactic(auto)]
+
 ghost use Rattle.std.specs.Prelude.{◌≡◌};
 ghost use Rattle.error.specs.Answer.{code_of, written};
 ghost use Rattle.options.specs.declared.Quantize.TheVariants.{Threshold};

@@ -1,4 +1,6 @@
 // Bodies read from pieces of a file: plane after plane, in the asked format, up to a ceiling.
+#![tactic(auto)]
+
 ghost use Rattle.std.specs.Prelude.{◌≡◌};
 ghost use Rattle.body_pieces.specs.Internal.Body.{advanced, Bodies};
 
@@ -9,7 +11,7 @@ use laws::least;
 mod convert;
 
 // How many bytes of the piece are taken and written, and the whole planes and the bytes of the begun one after them.
-#[derive(Drop)]
+#[derive(Clone, Copy)]
 pub struct BodyFed {
     pub taken: usize,
     pub written: usize,
@@ -60,7 +62,7 @@ fn advance(
 }
 
 // Where a body of this size goes on: behind so many whole planes and bytes of the begun one.
-#[derive(Drop)]
+#[derive(Clone, Copy)]
 pub struct BodyPlace {
     pub width: u32,
     pub height: u32,

@@ -1,5 +1,7 @@
 // The functions over records, with the records by value, for callers that have no reference to a record: of the list the first `pairs`
 // count, all 8 where that is larger.
+#![tactic(auto)]
+
 ghost use Rattle.options.specs.Defaults.{made_frames};
 ghost use Rattle.std.specs.Prelude.{◌≡◌, true, false, min, length, take};
 ghost use Rattle.error.specs.Answer.{written};

@@ -1,4 +1,6 @@
 // Sniffing, info and whole reading for C; include/wbmp.h has the declarations.
+#![tactic(auto)]
+
 mod asked;
 mod calls;
 mod numbers;

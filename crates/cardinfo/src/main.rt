@@ -1,4 +1,6 @@
 // Tells of the card on standard input: a header line and its numbers, or its refusal. At most 65,536 bytes are read.
+#![tactic(auto)]
+
 use api::{ImageInfo, InfoRead};
 use error::WbmpError;
 

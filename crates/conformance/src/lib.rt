@@ -1,6 +1,8 @@
 // What all crates say together: document 01's cards P1 to P12 as one table, files that are written or made, read back and sniffed, and the
 // tender's condition 3 about lists of calls. The two functions here make such lists on both sessions, so that the claim speaks of calls of
 // code.
+#![tactic(auto)]
+
 ghost use Rattle.std.specs.Prelude.{[]};
 ghost use Rattle.options.specs.Limits.{decoding};
 ghost use Rattle.encode_session.specs.Model.{opening};

@@ -1,4 +1,6 @@
 // A reading session: a file comes in pieces, and the dots of its frames go out in pieces.
+#![tactic(auto)]
+
 ghost use Rattle.std.specs.Prelude.{◌≡◌, length};
 ghost use Rattle.options.specs.Limits.{decoding};
 ghost use Rattle.decode_session.specs.Model.{opened, opening};
@@ -20,7 +22,7 @@ mod queries;
 pub const EXTENSION_BYTES: usize = header_pieces::EXTENSION_BYTES;
 
 // Where a reading stands; named in public so that structs of other crates can hold a session.
-#[derive(Drop)]
+#[derive(Clone, Copy)]
 pub enum Stage {
     // In the header.
     Header(HeadReading),
@@ -31,7 +33,7 @@ pub enum Stage {
 }
 
 // An opened session; only `open` makes one.
-#[derive(Drop)]
+#[derive(Clone, Copy)]
 pub struct DecodeSession {
     options: DecodeOptions,
     stage: Stage,
@@ -39,40 +41,40 @@ pub struct DecodeSession {
 }
 
 // What opening answers; the session is closed where opening is refused.
-#[derive(Drop)]
+#[derive(Clone, Copy)]
 pub struct DecodeOpened {
     pub session: DecodeSession,
     pub answer: Checked,
 }
 
 // What feeding answers: how many bytes were taken from the piece and written to the output.
-#[derive(Drop)]
+#[derive(Clone, Copy)]
 pub enum DecodeFeed {
     Took { taken: usize, written: usize },
     Refused(WbmpError),
 }
 
-#[derive(Drop)]
+#[derive(Clone, Copy)]
 pub struct DecodeFed {
     pub session: DecodeSession,
     pub answer: DecodeFeed,
 }
 
 // What closing answers: the frame count.
-#[derive(Drop)]
+#[derive(Clone, Copy)]
 pub enum DecodeClose {
     Frames(u32),
     Refused(WbmpError),
 }
 
-#[derive(Drop)]
+#[derive(Clone, Copy)]
 pub struct DecodeClosed {
     pub session: DecodeSession,
     pub answer: DecodeClose,
 }
 
 // The header of the file so far, once its last size byte was taken and nothing was refused.
-#[derive(Drop)]
+#[derive(Clone, Copy)]
 pub enum HeaderSeen {
     Unread,
     Header(ParsedHeader),

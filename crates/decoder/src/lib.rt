@@ -1,4 +1,6 @@
 // Whole reading: the planes of a file's main image or of all its frames, in the asked format, end to end in the lent output.
+#![tactic(auto)]
+
 ghost use Rattle.options.specs.Limits.{ceiling_of, decoding};
 ghost use Rattle.decoder.specs.Frames.{Decodes, meaning};
 
@@ -20,7 +22,7 @@ pub const MAX_READ_FRAMES: usize = 16;
 // At most this many images follow the main image.
 pub const MAX_ANIMATED_IMAGES: usize = MAX_READ_FRAMES - 1;
 
-#[derive(Drop)]
+#[derive(Clone, Copy)]
 pub struct DecodedImage {
     pub width: u32,
     pub height: u32,
@@ -32,7 +34,7 @@ pub struct DecodedImage {
     pub data_offset: usize,
 }
 
-#[derive(Drop)]
+#[derive(Clone, Copy)]
 pub enum Decoded {
     Image(DecodedImage),
     // Nothing is written.

@@ -1,5 +1,7 @@
 // Floyd and Steinberg's dithering of a whole plane: a row keeps for each column the sum of what it hands down, and what a dot hands on
 // stands in tables.
+#![tactic(auto)]
+
 mod ones;
 mod pairs;
 mod parts;

@@ -6,7 +6,7 @@ ghost use Rattle.diffusion.specs.Internal.Flow.{DotLent, DotPassed, RowAt, DotsL
 use rules::plain_row;
 
 // What the dots so far hand on, and the digits of the begun byte.
-#[derive(Drop)]
+#[derive(Clone, Copy)]
 struct Flow {
     // To the next dot, plus 56.
     right: u32,

@@ -37,7 +37,7 @@ fn part(k: u32, b: u32) -> u32
 }
 
 // A dot, 1 where it is white, and its residual, plus 128.
-#[derive(Drop)]
+#[derive(Clone, Copy)]
 pub struct Dot {
     pub bit: u32,
     pub rest: u32,
@@ -93,7 +93,7 @@ pub(crate) fn over(work: &[i16], reach: usize, x: usize) -> u32
 }
 
 // The digits of the begun byte after a part of a row, and the residual above its last dot, plus 128.
-#[derive(Drop)]
+#[derive(Clone, Copy)]
 pub struct RowDots {
     pub digits: u32,
     pub corner: u32,

@@ -1,4 +1,6 @@
 // The dots of a part of a row by error diffusion, as the engine makes them.
+#![tactic(auto)]
+
 mod dots;
 mod entry;
 mod row;

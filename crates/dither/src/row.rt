@@ -11,7 +11,7 @@ use crate::dots::{corner_of, from_held, left_of, over, reach, step, to_held};
 use rules::threshold_row_bytes;
 
 // The residuals next to a dot, plus 128: on its left, above left and above.
-#[derive(Drop)]
+#[derive(Clone, Copy)]
 pub struct Neighbours {
     pub left: u32,
     pub corner: u32,

@@ -1,4 +1,6 @@
 // A making session: gray samples come in pieces, and the bytes of the file go out in pieces.
+#![tactic(auto)]
+
 ghost use Rattle.std.specs.Prelude.{◌*◌, ◌≡◌, true, length};
 ghost use Rattle.error.specs.Answer.{refuses, written};
 ghost use Rattle.ext_write.specs.Write.{flattened};
@@ -23,34 +25,34 @@ pub fn work_numbers(width: u32) -> usize
 }
 
 // An opened session; only `open` and `open_lengths` make one.
-#[derive(Drop)]
+#[derive(Clone, Copy)]
 pub struct EncodeSession {
     quantizer: Quantizer,
     live: bool,
 }
 
 // What opening answers: how many bytes of header it wrote, and the session, which is closed where opening is refused.
-#[derive(Drop)]
+#[derive(Clone, Copy)]
 pub struct EncodeOpened {
     pub session: EncodeSession,
     pub answer: Written,
 }
 
 // What feeding answers: how many samples were taken and how many bytes written.
-#[derive(Drop)]
+#[derive(Clone, Copy)]
 pub enum EncodeFeed {
     Took { taken: usize, written: usize },
     Refused(WbmpError),
 }
 
-#[derive(Drop)]
+#[derive(Clone, Copy)]
 pub struct EncodeFed {
     pub session: EncodeSession,
     pub answer: EncodeFeed,
 }
 
 // What closing answers.
-#[derive(Drop)]
+#[derive(Clone, Copy)]
 pub struct EncodeClosed {
     pub session: EncodeSession,
     pub answer: Checked,

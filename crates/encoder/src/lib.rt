@@ -1,4 +1,6 @@
 // Whole writing and whole making of files.
+#![tactic(auto)]
+
 mod file;
 mod gray8;
 mod planes;

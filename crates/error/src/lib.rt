@@ -1,4 +1,6 @@
 // Refusals: a number of document 01's table and its place, the Rust's offset when the call ends; 0 for writers and where the table says so.
+#![tactic(auto)]
+
 ghost use Rattle.std.specs.Prelude.{◌≡◌};
 ghost use Rattle.error.specs.declared.Written.{Written};
 ghost use Rattle.error.specs.declared.Checked.{Checked};
@@ -66,7 +68,7 @@ pub const SESSION_CLOSED: u8 = 30;
 // The lengths of the pairs to write do not add up to their text.
 pub const PAIR_LENGTHS: u8 = 31;
 
-#[derive(Drop)]
+#[derive(Clone, Copy)]
 pub struct WbmpError {
     pub code: u8,
     pub offset: usize,
@@ -81,7 +83,7 @@ impl WbmpError {
 }
 
 // What a writer answers: how many bytes it wrote at the front of the lent output, or a refusal, which wrote none.
-#[derive(Drop)]
+#[derive(Clone, Copy)]
 pub enum Written {
     Bytes(usize),
     Refused(WbmpError),
@@ -96,7 +98,7 @@ impl Written {
 }
 
 // What a check of something to be written answers.
-#[derive(Drop)]
+#[derive(Clone, Copy)]
 pub enum Checked {
     Accepted,
     Refused(WbmpError),

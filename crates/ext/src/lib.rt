@@ -1,4 +1,6 @@
 // Extension fields, WAP 4.4.1 to 4.4.3: their kinds and classes, read and looked up.
+#![tactic(auto)]
+
 ghost use Rattle.std.specs.Prelude.{◌≡◌, ◌<◌};
 ghost use Rattle.ext.specs.Kinds.{kind_number, SplitFix, pair_header};
 
@@ -14,7 +16,7 @@ pub use read::{parse_ext_fields, parse_ext_fields_strict};
 pub const MAX_EXT_FIELD_BYTES: usize = 4096;
 
 // The kind of the fields: bits 6-5 of the FixHeader byte.
-#[derive(Drop)]
+#[derive(Clone, Copy)]
 pub enum ExtFieldType {
     Bitfield00,
     Reserved01,
@@ -23,7 +25,7 @@ pub enum ExtFieldType {
 }
 
 // The FixHeader byte, taken apart.
-#[derive(Drop)]
+#[derive(Clone, Copy)]
 pub struct FixHeaderField {
     pub raw: u8,
     pub ext_fields_follow: bool,
@@ -58,7 +60,7 @@ impl FixHeaderField {
 }
 
 // The header byte of a pair, taken apart.
-#[derive(Drop)]
+#[derive(Clone, Copy)]
 pub struct PairHeader {
     pub identifier_len: u8,
     pub value_len: u8,
@@ -78,7 +80,7 @@ impl PairHeader {
 }
 
 // Fields of an input: their kind, where they start, how many bytes they are, and how many pairs (0 unless the kind is 11).
-#[derive(Drop)]
+#[derive(Clone, Copy)]
 pub struct ExtFields {
     pub ext_type: ExtFieldType,
     pub start: usize,
@@ -87,7 +89,7 @@ pub struct ExtFields {
 }
 
 // What reading fields answers.
-#[derive(Drop)]
+#[derive(Clone, Copy)]
 pub enum ExtRead {
     Absent,
     Fields(ExtFields),
@@ -102,7 +104,7 @@ enum PairRead {
 }
 
 // What looking up an identifier answers: the value's bytes in the input.
-#[derive(Drop)]
+#[derive(Clone, Copy)]
 pub enum Lookup {
     Nothing,
     Value { start: usize, len: usize },

@@ -1,4 +1,5 @@
 // Extension fields to be written, WAP 4.4.1 to 4.4.3: checked and put.
+#![tactic(auto)]
 
 mod pairs;
 mod parameters;
@@ -13,20 +14,20 @@ pub use write::{
 };
 
 // The lengths of a pair to be written.
-#[derive(Drop)]
+#[derive(Clone, Copy)]
 pub struct Parameter {
     pub identifier_len: usize,
     pub value_len: usize,
 }
 
-#[derive(Drop)]
+#[derive(Clone, Copy)]
 pub enum NewParameter {
     Made(Parameter),
     Refused(WbmpError),
 }
 
 // What a check of fields to be written answers: how many bytes they are.
-#[derive(Drop)]
+#[derive(Clone, Copy)]
 pub enum FieldsCheck {
     Length(usize),
     Refused(WbmpError),
@@ -50,7 +51,7 @@ struct PairsPut {
 
 // Fields begun: all but the pairs is written. The first pair goes to `to`, which is the output's end where none is left to put; `answer` is
 // the writer's.
-#[derive(Drop)]
+#[derive(Clone, Copy)]
 pub struct PairsBegun {
     pub to: usize,
     pub answer: Written,

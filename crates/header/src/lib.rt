@@ -1,4 +1,6 @@
 // Headers, read whole and written: Type, FixHeader, fields, Width, Height (WAP 4.4.1).
+#![tactic(auto)]
+
 use error::WbmpError;
 use ext::{ExtFieldType, ExtFields};
 
@@ -9,7 +11,7 @@ pub use read::{parse_header_ext_inner, parse_header_inner, parse_header_mode};
 pub use write::{begin_header, write_header, write_header_ext, write_header_ext_lengths};
 
 // What a header reader demands and honours. Each reader of the Rust is one choice of these.
-#[derive(Drop)]
+#[derive(Clone, Copy)]
 pub struct HeaderMode {
     // Integers do not start with 0x80.
     pub shortest: bool,
@@ -22,13 +24,13 @@ pub struct HeaderMode {
 }
 
 // The fields of a header that was read.
-#[derive(Drop)]
+#[derive(Clone, Copy)]
 pub enum HeaderFields {
     Absent,
     Fields(ExtFields),
 }
 
-#[derive(Drop)]
+#[derive(Clone, Copy)]
 pub struct ParsedHeader {
     pub width: u32,
     pub height: u32,
@@ -37,14 +39,14 @@ pub struct ParsedHeader {
     pub ext_fields: HeaderFields,
 }
 
-#[derive(Drop)]
+#[derive(Clone, Copy)]
 pub enum HeaderRead {
     Header(ParsedHeader),
     Refused(WbmpError),
 }
 
 // The fields of a header to be written: none, or those of a kind.
-#[derive(Drop)]
+#[derive(Clone, Copy)]
 pub enum ExtPresence {
     Absent,
     Present(ExtFieldType),

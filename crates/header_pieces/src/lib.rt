@@ -1,5 +1,7 @@
 // Headers read from pieces of a file: the bytes go to the header's reader, one by one or in runs, and those of extension fields to a lent
 // buffer too.
+#![tactic(auto)]
+
 ghost use Rattle.std.specs.Prelude.{◌≡◌, ◌+◌, ◌≤◌, [], length};
 ghost use Rattle.header.specs.Settings.{settings};
 ghost use Rattle.header_pieces.specs.Internal.Head.{HasRead, TellsFields, TellsEnd, Heads, is_kept, Keeps};
@@ -16,7 +18,7 @@ pub const EXTENSION_BYTES: usize = MAX_EXT_FIELD_BYTES - 1 + (1 + 7 + 15);
 
 // A header whose last byte is still to come: its reader, how many bytes were taken, and how many extension bytes among them. Only `new` and
 // `feed_header` make one.
-#[derive(Drop)]
+#[derive(Clone, Copy)]
 pub struct HeadReading {
     reader: HeaderReader,
     at: usize,
@@ -24,7 +26,7 @@ pub struct HeadReading {
 }
 
 // What a piece does: the header goes on behind it, ended with so many of its bytes, or is refused.
-#[derive(Drop)]
+#[derive(Clone, Copy)]
 pub enum HeadFed {
     More(HeadReading),
     Done(ParsedHeader, usize),
@@ -96,7 +98,7 @@ fn keep(ext: &mut [u8], kept: usize, byte: u8, wanted: bool) -> usize
 }
 
 // How far into a piece a reader has come, and how many extension bytes are kept by then.
-#[derive(Drop)]
+#[derive(Clone, Copy)]
 struct HeadRun {
     taken: usize,
     kept: usize,

@@ -1,4 +1,6 @@
 // Headers read byte by byte.
+#![tactic(auto)]
+
 use header::HeaderFields;
 
 mod faults;
@@ -12,7 +14,7 @@ mod step;
 pub use reader::{HeaderReader, HeaderRun, HeaderStep};
 
 // The fields of a file so far, once their last byte was taken.
-#[derive(Drop)]
+#[derive(Clone, Copy)]
 pub enum FieldsSeen {
     Unread,
     Seen(HeaderFields),

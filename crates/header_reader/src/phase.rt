@@ -10,7 +10,7 @@ use error::{EXT_TRUNCATED, PAIR_TRUNCATED, WbmpError};
 use header::{HeaderFields, ParsedHeader};
 
 // An integer so far: the value of its first `count` bytes.
-#[derive(Drop)]
+#[derive(Clone, Copy)]
 pub struct PartialInteger {
     pub at: usize,
     pub value: u32,
@@ -18,7 +18,7 @@ pub struct PartialInteger {
 }
 
 // Pairs so far: the FixHeader byte before them, where the first one starts, and how many are done.
-#[derive(Drop)]
+#[derive(Clone, Copy)]
 pub struct PairChain {
     pub fix: u8,
     pub start: usize,
@@ -28,7 +28,7 @@ pub struct PairChain {
 
 // A pair's identifier or value: where it begins, how many of its bytes are left, whether one more pair follows, and the class refusal that
 // waits for the pair's end.
-#[derive(Drop)]
+#[derive(Clone, Copy)]
 pub struct PairPart {
     pub begun: usize,
     pub left: u8,
@@ -36,7 +36,7 @@ pub struct PairPart {
     pub fault: u8,
 }
 
-#[derive(Drop)]
+#[derive(Clone, Copy)]
 pub enum FieldsPhase {
     InOctets {
         fix: u8,
@@ -59,7 +59,7 @@ pub enum FieldsPhase {
     },
 }
 
-#[derive(Drop)]
+#[derive(Clone, Copy)]
 pub enum Phase {
     InType(PartialInteger),
     AtFix {
@@ -80,7 +80,7 @@ pub enum Phase {
 }
 
 // What one byte does: the header goes on, ends, or is refused.
-#[derive(Drop)]
+#[derive(Clone, Copy)]
 pub enum PhaseStep {
     More(Phase),
     Done(ParsedHeader),

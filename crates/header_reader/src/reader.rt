@@ -15,14 +15,14 @@ use crate::step::step_phase;
 use error::{FIX_HEADER_MISSING, MBI_TRUNCATED, WbmpError};
 use header::{HeaderMode, ParsedHeader};
 
-#[derive(Drop)]
+#[derive(Clone, Copy)]
 pub struct HeaderReader {
     mode: HeaderMode,
     phase: Phase,
 }
 
 // What one byte does: the header goes on, ends, or is refused.
-#[derive(Drop)]
+#[derive(Clone, Copy)]
 pub enum HeaderStep {
     More(HeaderReader),
     Done(ParsedHeader),
@@ -30,7 +30,7 @@ pub enum HeaderStep {
 }
 
 // How many bytes of a piece were taken at once, and the reader behind them.
-#[derive(Drop)]
+#[derive(Clone, Copy)]
 pub struct HeaderRun {
     pub taken: usize,
     pub reader: HeaderReader,

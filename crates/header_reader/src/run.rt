@@ -13,14 +13,14 @@ use header::HeaderMode;
 use laws::least;
 
 // How many bytes of a piece are taken, and where in the fields the reading stands then.
-#[derive(Drop)]
+#[derive(Clone, Copy)]
 pub struct FieldsRun {
     pub taken: usize,
     pub phase: FieldsPhase,
 }
 
 // How many bytes whole pairs have, and how many pairs they are.
-#[derive(Drop)]
+#[derive(Clone, Copy)]
 pub struct PairsRun {
     pub taken: usize,
     pub pairs: usize,

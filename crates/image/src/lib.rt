@@ -1,4 +1,6 @@
 // Planes of one bit a dot, eight dots a byte, the leftmost in the highest bit; rows start `stride` bytes apart.
+#![tactic(auto)]
+
 ghost use Rattle.std.specs.Prelude.{◌≡◌};
 ghost use Rattle.image.specs.Format.{white_bit, other_format};
 ghost use Rattle.image.specs.Geometry.{layout_of};
@@ -15,7 +17,7 @@ pub use dots::is_white;
 pub use geometry::{check_geometry, row_stride};
 pub use wire::{wire_bits, wire_bits_at};
 
-#[derive(Drop)]
+#[derive(Clone, Copy)]
 pub enum PixelFormat {
     // 1 is white: the format of files.
     MonoBlack,
@@ -46,7 +48,7 @@ impl PixelFormat {
 }
 
 // A plane without gaps between its rows.
-#[derive(Drop)]
+#[derive(Clone, Copy)]
 pub struct PlaneLayout {
     pub width: u32,
     pub height: u32,

@@ -1,4 +1,6 @@
 // Laws that several crates cite, in proofs/, and a function that several crates call.
+#![tactic(auto)]
+
 ghost use Rattle.std.specs.Prelude.{◌≤◌, ◌⊎◌, ◌≡◌};
 
 // The smaller of two numbers.

@@ -1,4 +1,6 @@
 // Multi-byte integers, WAP 4.3.1: seven payload bits a byte, most significant first; bit 7 says that more follow.
+#![tactic(auto)]
+
 ghost use Rattle.std.specs.Prelude.{◌≡◌, true, false, ◌&&◌, length, ◌==◌};
 ghost use Rattle.error.specs.Answer.{gives, written};
 ghost use Rattle.error.specs.Emits.{Emits};
@@ -12,14 +14,14 @@ use error::{
 };
 
 // An integer that was read, with the offset after it, or a refusal.
-#[derive(Drop)]
+#[derive(Clone, Copy)]
 pub enum MbiRead {
     Value { value: u32, offset: usize },
     Refused(WbmpError),
 }
 
 // What one byte more does to an integer: more bytes follow, it was the last one, or it is refused.
-#[derive(Drop)]
+#[derive(Clone, Copy)]
 pub enum MbiStep {
     Goes(u32),
     Ends(u32),

@@ -1,4 +1,6 @@
 // Settings of reading and of making.
+#![tactic(auto)]
+
 ghost use Rattle.std.specs.Prelude.{◌≡◌, false};
 ghost use Rattle.error.specs.Answer.{checked, refuses};
 ghost use Rattle.options.specs.Limits.{admits, check_limits, absent, at_most, bound_of, strictly, mode_of, decoding};
@@ -14,7 +16,7 @@ pub mod limits;
 pub const MAX_MADE_FRAMES: u32 = 16;
 
 // A limit is absent, or the largest number that it admits. `set` is 0 or 1, a whole word: so no copy of the settings carries padding.
-#[derive(Drop)]
+#[derive(Clone, Copy)]
 pub struct Limit {
     set: u64,
     most: u64,
@@ -41,7 +43,7 @@ impl Limit {
 }
 
 // How the header of an image is read.
-#[derive(Drop)]
+#[derive(Clone, Copy)]
 pub enum DecodeMode {
     Lenient,
     Strict,
@@ -60,7 +62,7 @@ impl DecodeMode {
 }
 
 // The limits of reading, and how it goes.
-#[derive(Drop)]
+#[derive(Clone, Copy)]
 pub struct DecodeOptions {
     pub max_width: Limit,
     pub max_height: Limit,
@@ -201,7 +203,7 @@ fn over(code: u8, offset: usize) -> Checked
 }
 
 // The rule by which gray becomes black or white.
-#[derive(Drop)]
+#[derive(Clone, Copy)]
 pub enum Quantize {
     // White from this gray on.
     Threshold(u8),
@@ -220,7 +222,7 @@ impl Quantize {
 }
 
 // How an image is made.
-#[derive(Drop)]
+#[derive(Clone, Copy)]
 pub struct EncodeOptions {
     pub quantize: Quantize,
     // The fields that are written.

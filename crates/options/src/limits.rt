@@ -5,7 +5,7 @@ ghost use Rattle.options.specs.Defaults.{from_limits, limits_default, limits_unb
 
 use crate::{DecodeOptions, Limit};
 
-#[derive(Drop)]
+#[derive(Clone, Copy)]
 pub struct WbmpLimits {
     pub max_width: u32,
     pub max_height: u32,

@@ -1,4 +1,6 @@
 // The ordered rule: its numbers, and the dots of a part of a row.
+#![tactic(auto)]
+
 mod dots;
 mod table;
 

@@ -9,7 +9,7 @@ use options::Quantize;
 use ordered::numbers;
 
 // Samples of at most so many frames on their way to bytes.
-#[derive(Drop)]
+#[derive(Clone, Copy)]
 pub struct Quantizer {
     rule: Quantize,
     // The ordered numbers of the rule's side, row by row, at the front.
@@ -20,7 +20,7 @@ pub struct Quantizer {
 }
 
 // Where the next sample goes: how many frames are not full, and its row and column.
-#[derive(Drop)]
+#[derive(Clone, Copy)]
 pub struct Spot {
     pub frames: usize,
     pub row: usize,
@@ -28,7 +28,7 @@ pub struct Spot {
 }
 
 // How many samples were taken, and how many bytes were written at the output's front.
-#[derive(Drop)]
+#[derive(Clone, Copy)]
 pub struct RunEnded {
     pub quantizer: Quantizer,
     pub taken: usize,

@@ -1,4 +1,6 @@
 // 8-bit gray to packed bits under a rule: the engine, and whole planes.
+#![tactic(auto)]
+
 mod asked;
 mod engine;
 mod turn;

@@ -10,7 +10,7 @@ use ordered::ordered_row_dots;
 use rules::{threshold_row_bytes, threshold_row_dots};
 
 // Where the next sample goes, and what is kept for it.
-#[derive(Drop)]
+#[derive(Clone, Copy)]
 pub struct Place {
     // The frames that are not full.
     pub frames: usize,
@@ -23,14 +23,14 @@ pub struct Place {
 }
 
 // How many bytes were written at once, and the corner after them.
-#[derive(Drop)]
+#[derive(Clone, Copy)]
 pub struct BytesFilled {
     pub count: usize,
     pub corner: u32,
 }
 
 // The place after some samples, the byte that they go into, and whether they finish it.
-#[derive(Drop)]
+#[derive(Clone, Copy)]
 pub struct ByteTaken {
     pub place: Place,
     pub byte: u8,

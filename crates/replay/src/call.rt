@@ -5,7 +5,7 @@ ghost use Rattle.replay.specs.Calls.{Tests, Nexts, room_of, three_of, replaced};
 use error::WbmpError;
 
 // What a feeding call is lent: the piece, so many bytes of output, and so many numbers of work.
-#[derive(Drop)]
+#[derive(Clone, Copy)]
 pub(crate) struct Lending {
     pub(crate) start: usize,
     pub(crate) size: usize,
@@ -13,7 +13,7 @@ pub(crate) struct Lending {
     pub(crate) lent: usize,
 }
 
-#[derive(Drop)]
+#[derive(Clone, Copy)]
 pub(crate) enum Named {
     Close,
     Feed(Lending),

@@ -10,6 +10,8 @@
 //
 // The run ends with the list, before a call whose parts are not there (a piece past the samples, output or work past what is lent), or
 // where an answer's three numbers have no room.
+#![tactic(auto)]
+
 use decode_session::DecodeSession;
 use encode_session::EncodeSession;
 
@@ -21,13 +23,13 @@ pub use decode::replay_decode;
 pub use encode::replay_encode;
 
 // The session after the run, and how many calls were made.
-#[derive(Drop)]
+#[derive(Clone, Copy)]
 pub struct EncodeReplayed {
     pub session: EncodeSession,
     pub calls: usize,
 }
 
-#[derive(Drop)]
+#[derive(Clone, Copy)]
 pub struct DecodeReplayed {
     pub session: DecodeSession,
     pub calls: usize,

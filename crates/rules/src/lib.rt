@@ -1,4 +1,6 @@
 // The rules, and the threshold rule's dots: for a part of a row, whole bytes of a row, whole planes; rows of black and white samples.
+#![tactic(auto)]
+
 mod entry;
 mod plain;
 mod plane;

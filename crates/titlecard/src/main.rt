@@ -1,4 +1,6 @@
 // Makes a card of 12 by 7 dots from a gray scan, with its title as an extension field, and writes the file to standard output.
+#![tactic(auto)]
+
 use error::{WbmpError, Written};
 use ext::ExtFieldType;
 use ext_write::Parameter;

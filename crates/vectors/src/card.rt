@@ -62,7 +62,7 @@ fn shown(list: &[u8], start: usize, input: &[u8]) -> Replayed {
 }
 
 // The dot that is looked at: its column and row, and where its frame starts.
-#[derive(Drop)]
+#[derive(Clone, Copy)]
 struct Spot {
     x: u32,
     y: u32,
@@ -71,7 +71,7 @@ struct Spot {
 
 // How the dots stand: how many there are in all frames, their size, and the bytes of a row and of
 // a plane.
-#[derive(Drop)]
+#[derive(Clone, Copy)]
 struct Shape {
     dots: usize,
     width: u32,

@@ -1,5 +1,7 @@
 // Replays the list on standard input, made by tools/oracle, and prints for each group how many
 // comparisons it made; a wrong answer prints its case, and the last line how many were wrong.
+#![tactic(auto)]
+
 mod answer;
 mod card;
 mod case;

@@ -23,7 +23,7 @@ const CALL: usize = 10;
 
 // Where a list stands: in the block, in the input and in the output; the comparisons made, and if
 // all were right.
-#[derive(Drop)]
+#[derive(Clone, Copy)]
 pub(crate) struct Progress {
     pub next: usize,
     pub at: usize,

@@ -13,7 +13,7 @@ const CASES: usize = 1048576;
 
 // The length of a sweep's inputs, where its digits start and how many there are, where its
 // alphabet stands and how many letters it has, its cases, and where its answers start.
-#[derive(Drop)]
+#[derive(Clone, Copy)]
 struct Plan {
     len: usize,
     at: usize,
@@ -26,7 +26,7 @@ struct Plan {
 
 // A sweep under way: where the answer to the next case stands, to how many cases it still is the
 // answer, and the tally.
-#[derive(Drop)]
+#[derive(Clone, Copy)]
 struct Run {
     record: usize,
     left: usize,

@@ -1,6 +1,6 @@
 // What has been replayed: the comparisons and the wrong cases of the groups before, then of the
 // present group the comparisons, the wrong cases and the sweeps, and where its block goes on.
-#[derive(Drop)]
+#[derive(Clone, Copy)]
 pub(crate) struct Tally {
     pub all: usize,
     pub all_wrong: usize,

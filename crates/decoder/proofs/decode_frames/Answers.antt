@@ -1,0 +1,11 @@
+use mathlib.Core.Path.{sym}
+use Rattle.options.specs.Limits.{decoding}
+use Rattle.options.proofs.Ceilings.{passes, sixteen}
+use Rattle.decoder.proofs.Fitted.{decodes}
+use Rattle.decoder.proofs.decode_frames.Goals as goal
+
+pub returns : goal.returns
+returns c =
+    let a = c.args in
+    decodes _ (decoding a.options) a.bytes.now a.out.now _ _ _ (passes (decoding a.options))
+    (sym (sixteen (decoding a.options))) c.decode.ensures

@@ -1,0 +1,60 @@
+use Prim.Native.Nat.{ℕ, ◌+◌, ◌-◌, ◌<◌}
+use native.Mathlib.Omega.{arith}
+use lib.ListN.{get_or}
+use Rattle.diffusion.proofs.OnesLoop.{ones-begun, ones_small, ones-next, ones-end}
+use Rattle.diffusion.proofs.ones.dither_ones.Goals as goal
+use Rattle.diffusion.proofs.ones.dither_ones.Goals.{After-part, In-loop-y}
+
+bytes : (c : In-loop-y) (n : ℕ) → get_or c.args.gray.now n 0 < 256
+bytes c n = let f = c.shared_slice_known-1.given n in omega arith
+
+small : (c : After-part)
+    → get_or c.args.gray.now c.loop-y.y 0 + c.part.result + 88 < 512
+small c = ones_small (bytes (goal.at.overflow_add-value c).In-loop-y) c.loop-y.invariant c.part.result c.part.ensures.0
+
+pub loop-y-init : goal.loop-y-init
+loop-y-init c =
+    let a = c.args in
+    ones-begun a.height a.gray.now a.out.now
+
+pub bounds-gray-y : goal.bounds-gray-y
+bounds-gray-y c = omega (arith, c.requires.there, c.loop-y-test.true)
+
+pub overflow_cast-value : goal.overflow_cast-value
+overflow_cast-value c = omega (arith, c.shared_slice_known-in-loop-y-1.given c.loop-y.y)
+
+pub part-requires : goal.part-requires
+part-requires c = (omega arith, c.loop-y.invariant.small)
+
+pub overflow_add-value : goal.overflow_add-value
+overflow_add-value c = omega (arith, small c)
+
+pub overflow_add-value-in-loop-y : goal.overflow_add-value-in-loop-y
+overflow_add-value-in-loop-y c = omega (arith, small c)
+
+pub overflow_mul-out : goal.overflow_mul-out
+overflow_mul-out c = omega (arith, small c)
+
+pub overflow_cast-out : goal.overflow_cast-out
+overflow_cast-out c = omega (arith, small c)
+
+pub bounds-out-y : goal.bounds-out-y
+bounds-out-y c = omega (arith, c.requires.room, c.loop-y.invariant.written.long, c.loop-y-test.true)
+
+pub overflow_add-rest : goal.overflow_add-rest
+overflow_add-rest c = omega (arith, small c)
+
+pub overflow_add-y : goal.overflow_add-y
+overflow_add-y c = omega (arith, c.loop-y-test.true, c.ranges.height)
+
+pub loop-y-smaller : goal.loop-y-smaller
+loop-y-smaller c = omega (arith, c.loop-y-test.true)
+
+pub loop-y-preserved : goal.loop-y-preserved
+loop-y-preserved c = ones-next (bytes (goal.at.loop-y-preserved c).In-loop-y) c.loop-y.invariant c.part.result c.part.ensures.0 c.loop-y-test.true c.requires
+
+pub shape_of-out : goal.shape_of-out
+shape_of-out c = c.loop-y.invariant.written.long
+
+pub returns : goal.returns
+returns c = ones-end c.loop-y.invariant c.loop-y-test.false

@@ -1,0 +1,54 @@
+use Prim.Native.Nat.{ℕ, ◌+◌, ◌-◌, ◌*◌, ◌<◌}
+use native.Mathlib.Omega.{arith}
+use lib.ListN.{length, get_or}
+use Rattle.diffusion.proofs.PairsLoop.{pairs-begun, pairs_small, pairs_next, pairs_end}
+use Rattle.diffusion.proofs.pairs.dither_pairs.Goals as goal
+use Rattle.diffusion.proofs.pairs.dither_pairs.Goals.{In-loop-y}
+
+bytes : (c : In-loop-y) (n : ℕ) → get_or c.args.gray.now n 0 < 256
+bytes c n = let f = c.shared_slice_known-1.given n in omega arith
+
+-- the row's samples are there
+there : (c : In-loop-y) → 2 * c.loop-y.y + 1 < length c.args.gray.now
+there c = omega (arith, c.requires.there, c.loop-y-test.true)
+
+pub loop-y-init : goal.loop-y-init
+loop-y-init c =
+    let a = c.args in
+    pairs-begun a.height a.gray.now a.out.now
+
+pub overflow_mul-y : goal.overflow_mul-y
+overflow_mul-y c = omega (arith, there c, c.well_formed)
+
+pub bounds-gray-y : goal.bounds-gray-y
+bounds-gray-y c = omega (arith, there (goal.at.bounds-gray-y c).In-loop-y)
+
+pub overflow_mul-y-in-loop-y : goal.overflow_mul-y-in-loop-y
+overflow_mul-y-in-loop-y c = omega (arith, there (goal.at.overflow_mul-y-in-loop-y c).In-loop-y, c.well_formed)
+
+pub overflow_add-y : goal.overflow_add-y
+overflow_add-y c = omega (arith, there (goal.at.overflow_add-y c).In-loop-y, c.well_formed)
+
+pub bounds-gray-y-in-loop-y : goal.bounds-gray-y-in-loop-y
+bounds-gray-y-in-loop-y c = there (goal.at.bounds-gray-y-in-loop-y c).In-loop-y
+
+pub dither_pair-p-requires : goal.dither_pair-p-requires
+dither_pair-p-requires c = pairs_small c.loop-y.invariant
+
+pub bounds-out-y : goal.bounds-out-y
+bounds-out-y c = omega (arith, c.requires.room, c.loop-y.invariant.written.long, c.loop-y-test.true)
+
+pub overflow_add-y-in-loop-y : goal.overflow_add-y-in-loop-y
+overflow_add-y-in-loop-y c = omega (arith, c.loop-y-test.true, c.ranges.height)
+
+pub loop-y-smaller : goal.loop-y-smaller
+loop-y-smaller c = omega (arith, c.loop-y-test.true)
+
+pub loop-y-preserved : goal.loop-y-preserved
+loop-y-preserved c = pairs_next c.loop-y.invariant (bytes (goal.at.loop-y-preserved c).In-loop-y) c.dither_pair-p.result c.dither_pair-p.ensures c.loop-y-test.true c.requires
+
+pub shape_of-out : goal.shape_of-out
+shape_of-out c = c.loop-y.invariant.written.long
+
+pub returns : goal.returns
+returns c = pairs_end c.loop-y.invariant c.loop-y-test.false

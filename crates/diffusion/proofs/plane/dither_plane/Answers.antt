@@ -1,0 +1,94 @@
+use Prim.Native.Nat.{ℕ}
+use mathlib.Core.Path.{◌≡◌, refl, sym, subst}
+use mathlib.Core.List.{List}
+use lib.IntN.{ℤ}
+use native.Mathlib.Omega.{arith}
+use lib.ListN.{length, drop}
+use Rattle.laws.proofs.Products.{product-below}
+use Rattle.diffusion.specs.Internal.Rows.{DitherPlane}
+use Rattle.diffusion.specs.Internal.RowByRow.{PlaneLent, RowsWritten}
+use Rattle.diffusion.proofs.PlaneServed.{gray-short, out-short, work-short, plane-served, no-columns}
+use Rattle.diffusion.proofs.PlaneServed.{rows_left, lent_still, rows-joined, rows-plain}
+use Rattle.diffusion.proofs.plane.dither_plane.Goals as goal
+use Rattle.diffusion.proofs.plane.dither_plane.Goals.{Else-columns-eq0, Else-work-columns}
+
+abbrev start : tie.Else3 → tie.Start
+start e = e.before.before.before.before.before
+
+-- there are samples, room and numbers of work for the plane
+lent : (e : Else-columns-eq0)
+    → let a = (start (goal.at.NO_GOAL e).Else-work-columns).args in
+    PlaneLent a.width a.height (length a.gray.now) (length a.out.now)
+lent e =
+    record {
+      wide = omega (arith, e.if-columns-eq0.false);
+      small = (start (goal.at.NO_GOAL e).Else-work-columns).ranges.width.fits;
+      there = e.if-gray-columns.false;
+      room = e.if-out-rows.false;
+    }
+
+served : (e : Else-work-columns) (out' : List ℕ) (work' : List ℤ)
+    → let a = (start e).args in
+    RowsWritten a.width a.height a.gray.now a.out.now a.height out'
+    → drop a.width work' ≡ drop a.width a.work.now
+    → DitherPlane a.width a.height a.gray.now a.out.now a.work.now out' work'
+served e out' work' r b =
+    let a = (start e).args in
+    plane-served a.width a.height a.gray.now a.out.now a.work.now e.if-gray-columns.false e.if-out-rows.false
+    e.if-work-columns.false out' work' r b
+
+-- planes of so many columns
+columns : (e : Else-work-columns) (n : ℕ) → let a = (start e).args in
+    a.width ≡ n → (out' : List ℕ) → RowsWritten n a.height a.gray.now a.out.now a.height out'
+    → RowsWritten a.width a.height a.gray.now a.out.now a.height out'
+columns e n is out' r =
+    let a = (start e).args in
+    subst (λ (w : ℕ). RowsWritten w a.height a.gray.now a.out.now a.height out') (sym is) r
+
+pub overflow_mul-columns : goal.overflow_mul-columns
+overflow_mul-columns c = record { fits = product-below 32 32 c.ranges.width.fits c.ranges.height.fits }
+
+pub returns-then-gray-columns : goal.returns-then-gray-columns
+returns-then-gray-columns c = gray-short _ _ _ _ _ c.if-gray-columns.true
+
+pub overflow_mul-rows : goal.overflow_mul-rows
+overflow_mul-rows c = record { fits = product-below 32 32 c.ranges.height.fits (omega (arith, c.ranges.width)) }
+
+pub returns-then-out-rows : goal.returns-then-out-rows
+returns-then-out-rows c = out-short _ _ _ _ _ c.if-out-rows.true
+
+pub returns-then-work-columns : goal.returns-then-work-columns
+returns-then-work-columns c = work-short _ _ _ _ _ c.if-work-columns.true
+
+pub returns-then-columns-eq0 : goal.returns-then-columns-eq0
+returns-then-columns-eq0 c =
+    let a = (start (goal.at.returns-then-columns-eq0 c).Else-work-columns).args in
+    served (goal.at.returns-then-columns-eq0 c).Else-work-columns _ _ (no-columns a.width a.height a.gray.now a.out.now c.if-columns-eq0.true) refl
+
+pub dither_ones-requires : goal.dither_ones-requires
+dither_ones-requires c =
+    let a = (start (goal.at.dither_ones-requires c).Else-work-columns).args in
+    subst (λ (n : ℕ). PlaneLent n a.height (length a.gray.now) (length a.out.now)) c.if-columns-eq1.true (lent (goal.at.dither_ones-requires c).Else-columns-eq0)
+
+pub returns-then-columns-eq1 : goal.returns-then-columns-eq1
+returns-then-columns-eq1 c = served (goal.at.returns-then-columns-eq1 c).Else-work-columns _ _ (columns (goal.at.returns-then-columns-eq1 c).Else-work-columns 1 c.if-columns-eq1.true _ c.dither_ones.ensures) refl
+
+pub dither_pairs-requires : goal.dither_pairs-requires
+dither_pairs-requires c =
+    let a = (start (goal.at.dither_pairs-requires c).Else-work-columns).args in
+    subst (λ (n : ℕ). PlaneLent n a.height (length a.gray.now) (length a.out.now)) c.if-columns-eq2.true (lent (goal.at.dither_pairs-requires c).Else-columns-eq0)
+
+pub returns-then-columns-eq2 : goal.returns-then-columns-eq2
+returns-then-columns-eq2 c = served (goal.at.returns-then-columns-eq2 c).Else-work-columns _ _ (columns (goal.at.returns-then-columns-eq2 c).Else-work-columns 2 c.if-columns-eq2.true _ c.dither_pairs.ensures) refl
+
+pub plain_rows-first-requires : goal.plain_rows-first-requires
+plain_rows-first-requires c = lent (goal.at.plain_rows-first-requires c).Else-columns-eq0
+
+pub rows_from-requires : goal.rows_from-requires
+rows_from-requires c = ((lent_still c.plain_rows-first.ensures (lent (goal.at.rows_from-requires c).Else-columns-eq0), c.if-work-columns.false), rows_left c.plain_rows-first.ensures)
+
+pub returns-then-first-rows : goal.returns-then-first-rows
+returns-then-first-rows c = served (goal.at.returns-then-first-rows c).Else-work-columns _ _ (rows-joined c.plain_rows-first.ensures _ c.rows_from.ensures.rows_written) c.rows_from.ensures.work_unchanged
+
+pub returns-else-first-rows : goal.returns-else-first-rows
+returns-else-first-rows c = served (goal.at.returns-else-first-rows c).Else-work-columns _ _ (rows-plain c.plain_rows-first.ensures c.if-first-rows.false) refl

@@ -1,0 +1,33 @@
+use Prim.Native.Nat.{◌<◌}
+use native.Mathlib.Omega.{arith}
+use borrow.Author.Tests.{not-false}
+use lib.ListN.{get_or}
+use Rattle.diffusion.proofs.LevelTold.{told-small, level-told}
+use Rattle.diffusion.proofs.row.level_byte.Goals as goal
+use Rattle.diffusion.proofs.row.level_byte.Goals.{Else-not-plain_row}
+
+-- `diffusion::row::level_byte` meets its contract.
+-- Assumes nothing.
+small : (c : Else-not-plain_row) → get_or c.plain_row.new.1.1.0 0 0 < 256
+small c =
+    told-small c.args.gray.now c.args.x _ _ _ c.plain_row.ensures (not-false _ c.if-not-plain_row.false-raw) c.requires.0
+
+pub returns-then-right-ne56 : goal.returns-then-right-ne56
+returns-then-right-ne56 c = (λ h. let z : ⊥ = omega arith in absurd z, omega arith)
+
+pub returns-then-not-eight_are_level : goal.returns-then-not-eight_are_level
+returns-then-not-eight_are_level c = (λ h. let z : ⊥ = omega arith in absurd z, omega arith)
+
+pub returns-then-not-plain_row : goal.returns-then-not-plain_row
+returns-then-not-plain_row c = (λ h. let z : ⊥ = omega arith in absurd z, omega arith)
+
+pub overflow_cast-result : goal.overflow_cast-result
+overflow_cast-result c = record { fits = omega (arith, small c) }
+
+pub returns : goal.returns
+returns c =
+    let a = c.args in (
+      λ h. level-told a.gray.now a.x _ _ _ c.plain_row.ensures (not-false _ c.if-not-plain_row.false-raw) c.requires.0 a.right
+          a.work.now c.if-right-ne56.false (c.eight_are_level.ensures (not-false _ c.if-not-eight_are_level.false-raw)),
+      omega (arith, small c),
+    )

@@ -1,0 +1,27 @@
+use mathlib.Core.Path.{sym, ◌∙◌}
+use borrow.Author.Tests.{not-true, not-false}
+use lib.Seq.{length-take-le}
+use Rattle.diffusion.proofs.RowHanded.{begun-handed, begun-plain, begun-level}
+use Rattle.diffusion.proofs.rows.begin_row.Goals as goal
+
+pub returns-then-not-level : goal.returns-then-not-level
+returns-then-not-level c =
+    let a = c.args in
+    let e = not-true a.level c.if-not-level.true-raw in
+    begun-handed a.gray.now a.work.now _ a.level e (c.requires.sums e)
+
+pub returns-then-plain_row : goal.returns-then-plain_row
+returns-then-plain_row c =
+    let a = c.args in
+    begun-plain a.gray.now a.work.now _ a.level _ a.out.now (not-false a.level c.if-not-level.false-raw) c.if-plain_row.true
+    c.requires.room c.plain_row.ensures
+
+pub slice_bounds-level_sums-end-2 : goal.slice_bounds-level_sums-end-2
+slice_bounds-level_sums-end-2 c = sym (length-take-le _ c.args.work.now c.requires.kept)
+
+pub returns : goal.returns
+returns c =
+    let a = c.args in
+    let k = c.level_sums.auto.0 ∙ length-take-le _ a.work.now c.requires.kept in
+    begun-level a.gray.now a.work.now _ c.level_sums.new.0 k c.level_sums.ensures a.level
+    (not-false a.level c.if-not-level.false-raw)

@@ -1,0 +1,75 @@
+use Prim.Native.Nat.{◌+◌, ◌-◌, ◌≤◌}
+use native.Mathlib.Omega.{arith}
+use lib.ListN.{length}
+use borrow.Author.Tests.{not-false}
+use Rattle.image.specs.Geometry.{row_bytes}
+use Rattle.diffusion.proofs.RowsLoop.{row-lent, row_fits}
+use Rattle.diffusion.proofs.RowsGoing.{plain-begun, plain_more, plain_end}
+use Rattle.diffusion.proofs.rows.plain_rows.Goals as goal
+use Rattle.diffusion.proofs.rows.plain_rows.Goals.{In-loop-y}
+
+-- row y is among the samples, and has room in the output
+there : (c : In-loop-y) → c.loop-y.at + c.args.width ≤ length c.args.gray.now
+there c = row-lent c.requires c.loop-y.invariant c.loop-y-test.true
+
+room : (c : In-loop-y) → c.loop-y.to + row_bytes c.args.width ≤ length c.loop-y.out
+room c = row_fits c.requires c.loop-y.invariant c.loop-y-test.true
+
+pub loop-y-init : goal.loop-y-init
+loop-y-init c =
+    let a = c.args in
+    plain-begun a.width a.height a.gray.now a.out.now
+
+pub overflow_add-end : goal.overflow_add-end
+overflow_add-end c = omega (arith, there c, c.well_formed)
+
+pub overflow_add-stop : goal.overflow_add-stop
+overflow_add-stop c = omega (arith, room c, c.loop-y.invariant.written.long, c.well_formed)
+
+pub slice_bounds-plain_row-count : goal.slice_bounds-plain_row-count
+slice_bounds-plain_row-count c = omega arith
+
+pub slice_bounds-plain_row-start : goal.slice_bounds-plain_row-start
+slice_bounds-plain_row-start c = omega arith
+
+pub slice_bounds-plain_row-end : goal.slice_bounds-plain_row-end
+slice_bounds-plain_row-end c = omega (arith, there c)
+
+pub slice_bounds-plain_row-count-in-loop-y : goal.slice_bounds-plain_row-count-in-loop-y
+slice_bounds-plain_row-count-in-loop-y c = omega arith
+
+pub slice_bounds-plain_row-start-in-loop-y : goal.slice_bounds-plain_row-start-in-loop-y
+slice_bounds-plain_row-start-in-loop-y c = omega arith
+
+pub slice_bounds-plain_row-end-in-loop-y : goal.slice_bounds-plain_row-end-in-loop-y
+slice_bounds-plain_row-end-in-loop-y c = omega (arith, room (goal.at.slice_bounds-plain_row-end-in-loop-y c).In-loop-y)
+
+pub returns-then-not-plain_row : goal.returns-then-not-plain_row
+returns-then-not-plain_row c =
+    plain_end c.requires c.loop-y.invariant c.loop-y-test.true c.plain_row.result
+    c.plain_row.new.1.1.0 c.plain_row.auto.1.1.0
+
+pub shape_of-out-then-not-plain_row : goal.shape_of-out-then-not-plain_row
+shape_of-out-then-not-plain_row c = (returns-then-not-plain_row c).written.long
+
+pub returns-then-not-plain_row : goal.returns-then-not-plain_row
+returns-then-not-plain_row c = returns-then-not-plain_row c
+
+pub overflow_add-y : goal.overflow_add-y
+overflow_add-y c = omega (arith, c.loop-y-test.true, c.ranges.height)
+
+pub loop-y-smaller : goal.loop-y-smaller
+loop-y-smaller c = omega (arith, c.loop-y-test.true)
+
+pub loop-y-preserved : goal.loop-y-preserved
+loop-y-preserved c =
+    plain_more c.requires c.loop-y.invariant c.loop-y-test.true _ _ (λ i. let f = c.shared_slice_known-1.given i in omega arith)
+    (not-false _ c.if-not-plain_row.false-raw) c.plain_row.ensures
+
+pub shape_of-out : goal.shape_of-out
+shape_of-out c = c.loop-y.invariant.written.long
+
+pub returns : goal.returns
+returns c =
+    let i = c.loop-y.invariant in
+    record { most = i.most; level = i.given.are; written = i.written }

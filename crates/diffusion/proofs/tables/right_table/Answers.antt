@@ -1,0 +1,11 @@
+use mathlib.Core.Path.{refl}
+use Rattle.rules.specs.Bits.{upto}
+use Rattle.diffusion.specs.Internal.Sums.{part_of, rest_of}
+use Rattle.diffusion.proofs.TableRule.{table-rule}
+use Rattle.diffusion.proofs.tables.right_table.Goals as goal
+
+-- `diffusion::tables::right_table` meets its contract, by one computed test of the whole table.
+-- Assumes nothing.
+pub returns : goal.returns
+unfolding part_of rest_of upto
+returns c = table-rule 512 (λ v. part_of 7 (rest_of v)) _ refl

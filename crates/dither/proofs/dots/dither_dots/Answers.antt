@@ -1,0 +1,109 @@
+use Prim.Native.Nat.{ℕ, ◌+◌, ◌-◌, ◌<◌}
+use mathlib.Core.Path.{◌≡◌, ◌∙◌, sym, subst}
+use native.Mathlib.Omega.{arith}
+use lib.IntN.{sub_ℕ}
+use lib.ListN.{length}
+use mir.Syntax.{w16}
+use mir.Val.{to_z, of_z}
+use mir.ValLaws.{to_z-of_z}
+use Rattle.rules.specs.Rule.{dither}
+use Rattle.dither.specs.Internal.Kernels.{row_bit, carry_of}
+use Rattle.rules.proofs.DigitsAppended.{appended-fits}
+use Rattle.dither.proofs.DitherDotsLoop.{inv-start, inv-more, inv-end, dot-le, row-bit-le}
+use Rattle.dither.proofs.dots.dither_dots.Goals as goal
+use Rattle.dither.proofs.dots.dither_dots.Goals.{After-over-above, After-struct_known-1, At-loop-i}
+
+abbrev reached : tie.At-loop invariant-loop decreases-loop → tie.After-reach invariant-loop decreases-loop
+reached l = l.before.before.before
+
+abbrev start : tie.At-loop invariant-loop decreases-loop → tie.Start invariant-loop decreases-loop
+start l = (reached l).before.before.before.before.before
+
+low : (l : At-loop-i) → l.loop-i.digits < 65536
+low l =
+    let a = (start l).args in
+    let f = row_bit dither a.width a.y a.column a.gray.now (carry_of a.corner a.work.now) in
+    subst (λ (n : ℕ). n < 65536) (sym l.loop-i.invariant.digits_is)
+    (appended-fits a.begun f (row-bit-le dither a.width a.y a.column a.gray.now _) (length a.gray.now) l.loop-i.i
+    (start l).requires.packs l.loop-i.invariant.bound)
+
+pub left_of-left-requires : goal.left_of-left-requires
+left_of-left-requires c = let p = c.requires in omega (arith, p.within, p.room)
+
+pub corner_of-above_left-requires : goal.corner_of-above_left-requires
+corner_of-above_left-requires c = c.requires.small
+
+pub over-above-requires : goal.over-above-requires
+over-above-requires c = omega (arith, c.reach-near.ensures.most, c.requires.room)
+
+pub loop-i-init : goal.loop-i-init
+loop-i-init c =
+    let a = c.args in
+    inv-start a.width a.y a.column a.gray.now a.begun a.corner a.work.now _ _ _
+    c.left_of-left.ensures c.corner_of-above_left.ensures
+    (rw (c.reach-near.ensures.is a.work.now a.column) c.over-above.ensures)
+
+pub overflow_add-x : goal.overflow_add-x
+overflow_add-x c = let s = start (goal.at.overflow_add-x c).At-loop-i in omega (arith, s.pre.within, s.pre.room, s.good)
+
+pub overflow_add-x-in-loop-i : goal.overflow_add-x-in-loop-i
+overflow_add-x-in-loop-i c = let s = start (goal.at.overflow_add-x-in-loop-i c).After-over-above in omega (arith, s.pre.within, s.pre.room, s.good)
+
+pub over-ahead-requires : goal.over-ahead-requires
+over-ahead-requires c = omega (arith, c.loop-i.invariant.long, (reached (goal.at.over-ahead-requires c).After-over-above).reach.ensures.most, (start (goal.at.over-ahead-requires c).After-over-above).requires.room)
+
+pub bounds-gray-i : goal.bounds-gray-i
+bounds-gray-i c = omega arith
+
+pub step-d-requires : goal.step-d-requires
+step-d-requires c =
+    let i = c.loop-i.invariant in
+    (i.left_is.small, i.corner_is.small, i.above_is.small, c.over-ahead.ensures.small)
+
+pub from_held-requires : goal.from_held-requires
+from_held-requires c = c.step-d.ensures.rest_is.small
+
+pub offset_bounds-work-x : goal.offset_bounds-work-x
+offset_bounds-work-x c = let s = start (goal.at.offset_bounds-work-x c).After-over-above in omega (arith, s.pre.within, s.pre.room, s.good, c.loop-i.invariant.long)
+
+in-work : (l : At-loop-i) → l.loop-i.i < length (start l).args.gray.now
+    → (start l).args.column + l.loop-i.i < length l.loop-i.work
+in-work l h = let s = start l in omega (arith, s.pre.within, s.pre.room, l.loop-i.invariant.long)
+
+pub bounds-work-x : goal.bounds-work-x
+bounds-work-x c = in-work (goal.at.bounds-work-x c).After-over-above (omega arith)
+
+pub overflow_mul-digits : goal.overflow_mul-digits
+overflow_mul-digits c = omega (arith, low (goal.at.overflow_mul-digits c).After-over-above)
+
+pub overflow_add-digits : goal.overflow_add-digits
+overflow_add-digits c = omega (arith, low (goal.at.overflow_add-digits c).After-over-above, dot-le c.step-d.ensures)
+
+pub overflow_add-i : goal.overflow_add-i
+overflow_add-i c = omega (arith, (start (goal.at.overflow_add-i c).After-over-above).well-formed)
+
+pub loop-i-smaller : goal.loop-i-smaller
+loop-i-smaller c = omega arith
+
+stored : (s : After-struct_known-1)
+    → to_z w16 (of_z w16 s.from_held.result) ≡ sub_ℕ s.step-d.result.rest 128
+stored s = to_z-of_z w16 _ (record { sfits = s.from_held.type-inv }) ∙ s.from_held.ensures
+
+pub loop-i-preserved : goal.loop-i-preserved
+loop-i-preserved c =
+    let a = (start (goal.at.loop-i-preserved c).After-over-above).args in
+    let t = c.loop-i-test.true in
+    inv-more a.width a.y a.column a.gray.now a.begun a.corner a.work.now c.loop-i.work _ _ _ _ c.loop-i.i
+    c.loop-i.invariant _ _ _
+    (rw ((reached (goal.at.loop-i-preserved c).After-over-above).reach.ensures.is c.loop-i.work (a.column + c.loop-i.i + 1)) c.over-ahead.ensures)
+    c.step-d.ensures
+    _ (stored c) t (in-work (goal.at.loop-i-preserved c).After-over-above t)
+
+pub shape_of-work : goal.shape_of-work
+shape_of-work c = c.loop-i.invariant.long
+
+pub returns : goal.returns
+returns c =
+    let a = (start (goal.at.returns c).At-loop-i).args in
+    inv-end a.width a.y a.column a.gray.now a.begun a.corner a.work.now _ _ _ _ _ _ c.loop-i.invariant
+    c.loop-i-test.false (start (goal.at.returns c).At-loop-i).requires.some

@@ -1,0 +1,23 @@
+use mathlib.Core.Path.{subst}
+use native.Mathlib.Omega.{arith}
+use lib.IntN.{ℤ, pos}
+use lib.ListN.{get_or}
+use mir.Syntax.{w16}
+use mir.ValLaws.{to_z-of_z}
+use Rattle.dither.specs.Internal.Carry.{clamp}
+use Rattle.rules.specs.Internal.Held.{Biased}
+use Rattle.dither.proofs.CarryRead.{over-in, over-past}
+use Rattle.dither.proofs.DitherDotsLoop.{biased-zero}
+use Rattle.dither.proofs.dots.over.Goals as goal
+
+pub returns-then-x-reach : goal.returns-then-x-reach
+returns-then-x-reach c =
+    let a = c.args in
+    rw (over-in a.reach a.work.now 1 a.x (omega arith) c.if-x-reach.true)
+    (subst (λ (z : ℤ). Biased (clamp z) c.to_held.result) (to_z-of_z w16 (get_or a.work.now a.x (pos 0))
+    (record { sfits = c.to_held-arg-1.given })) c.to_held.ensures)
+
+pub returns-else-x-reach : goal.returns-else-x-reach
+returns-else-x-reach c =
+    let a = c.args in
+    rw (over-past a.reach a.work.now 1 a.x (omega arith) c.if-x-reach.false) biased-zero

@@ -1,6 +1,0 @@
--- A choice by a test.
-use Rattle.std.specs.Prelude.{Bool, true, false}
-
-abbrev pub if : {A : Type 0} → Bool → A → A → A
-if true a b = a
-if false a b = b

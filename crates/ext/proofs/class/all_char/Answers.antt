@@ -1,0 +1,25 @@
+use Prim.Native.Nat.{◌-◌}
+use mathlib.Core.Path.{◌∙◌, sym, refl}
+use native.Mathlib.Omega.{arith}
+use borrow.Author.Tests.{not-true, not-false}
+use Rattle.ext.specs.Classes.{is_char}
+use Rattle.ext.proofs.ClassAll.{all_end, all-bad, all-next}
+use Rattle.ext.proofs.class.all_char.Goals as goal
+
+pub loop-i-init : goal.loop-i-init
+loop-i-init c = refl
+
+pub returns-then-not-is_rfc2234_char : goal.returns-then-not-is_rfc2234_char
+returns-then-not-is_rfc2234_char c =
+    let l = c.loop-i in
+    sym (l.invariant ∙ all-bad is_char _ l.i (omega arith) (sym c.is_rfc2234_char.ensures ∙ not-true _ c.if-not-is_rfc2234_char.true-raw))
+
+pub loop-i-preserved : goal.loop-i-preserved
+loop-i-preserved c =
+    let l = c.loop-i in
+    l.invariant ∙ all-next is_char _ l.i (omega arith) (sym c.is_rfc2234_char.ensures ∙ not-false _ c.if-not-is_rfc2234_char.false-raw)
+
+pub returns : goal.returns
+returns c =
+    let l = c.loop-i in
+    sym (l.invariant ∙ all_end is_char _ l.i (omega arith))

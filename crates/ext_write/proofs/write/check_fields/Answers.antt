@@ -1,0 +1,20 @@
+use mathlib.Core.Path.{◌∙◌, sym, ap}
+use lib.ListN.{length}
+use Rattle.error.specs.Answer.{map}
+use Rattle.ext.specs.Kinds.{kind_number}
+use Rattle.ext_write.proofs.LentFields.{single-01, single-10, lent-octets, lent-3, octet-length}
+use Rattle.ext_write.proofs.write.check_fields.Goals as goal
+
+pub returns-in-Bitfield00 : goal.returns-in-Bitfield00
+returns-in-Bitfield00 c strict lengths h =
+    c.check_octets.ensures
+    ∙ ap (map length) (sym (lent-octets strict lengths _ _ (ap kind_number c.in-Bitfield00.is)))
+
+pub returns-in-Reserved01 : goal.returns-in-Reserved01
+returns-in-Reserved01 c strict lengths h = c.check_octet.ensures ∙ octet-length strict lengths _ (single-01 _ c.in-Reserved01.is) _
+
+pub returns-in-Reserved10 : goal.returns-in-Reserved10
+returns-in-Reserved10 c strict lengths h = c.check_octet-in-Reserved10.ensures ∙ octet-length strict lengths _ (single-10 _ c.in-Reserved10.is) _
+
+pub returns-in-ParameterPairs11 : goal.returns-in-ParameterPairs11
+returns-in-ParameterPairs11 c strict lengths h = h ∙ ap (map length) (lent-3 strict lengths _ _ (ap kind_number c.in-ParameterPairs11.is))

@@ -1,0 +1,44 @@
+use mathlib.Core.Path.{◌≡◌}
+use mathlib.Core.Bool.{true, false, ◌||◌}
+use borrow.Author.Tests.{eq-eqb, ne_eqb}
+use lib.Dec.{eqb}
+use Rattle.header.proofs.HeaderBytes.{none_within, plain-within, zero_left, presence-left, absent-left}
+use Rattle.header.proofs.write.begin_header.Goals as goal
+
+pub returns-then-width-eq0 : goal.returns-then-width-eq0
+returns-then-width-eq0 c =
+    let a = c.args in
+    let t : (eqb a.width 0 || eqb a.height 0) ≡ true = simp (eq-eqb _ _ c.if-width-eq0.true) in (
+      none_within a.out.now _ _ _ _ c.none_begun.ensures c.refused.ensures,
+      λ strict lengths h. zero_left strict _ lengths a.out.now _ _ _ _ c.none_begun.ensures c.refused.ensures t,
+    )
+
+pub returns-then-height-eq0 : goal.returns-then-height-eq0
+returns-then-height-eq0 c =
+    let a = c.args in
+    let t : (eqb a.width 0 || eqb a.height 0) ≡ true = simp
+    (ne_eqb _ _ c.if-width-eq0.false, eq-eqb _ _ c.if-height-eq0.true) in (
+      none_within a.out.now _ _ _ _ c.none_begun-then-height-eq0.ensures c.refused-then-height-eq0.ensures,
+      λ strict lengths h. zero_left strict _ lengths a.out.now _ _ _ _ c.none_begun-then-height-eq0.ensures c.refused-then-height-eq0.ensures t,
+    )
+
+pub returns-in-Absent : goal.returns-in-Absent
+returns-in-Absent c =
+    let a = c.args in
+    let t : (eqb a.width 0 || eqb a.height 0) ≡ false = simp (ne_eqb _ _ c.if-width-eq0.false, ne_eqb _ _ c.if-height-eq0.false) in (
+      plain-within a.width a.height a.out.now _ _ _ _ c.none_begun-in-Absent.ensures c.write_header-answer.auto.1.1.0
+          c.write_header-answer.ensures,
+      λ strict lengths h. presence-left strict a.width a.height a.text.now lengths a.out.now _ _ _ _ _ t
+          c.in-Absent.is
+          (absent-left strict a.width a.height a.text.now lengths a.out.now _ _ _ c.none_begun-in-Absent.ensures
+          c.write_header-answer.ensures),
+    )
+
+pub returns-in-Present : goal.returns-in-Present
+returns-in-Present c =
+    let a = c.args in
+    let t : (eqb a.width 0 || eqb a.height 0) ≡ false = simp (ne_eqb _ _ c.if-width-eq0.false, ne_eqb _ _ c.if-height-eq0.false) in (
+      c.begin_fields_header.ensures.0,
+      λ strict lengths h. presence-left strict a.width a.height a.text.now lengths a.out.now _ _ _ _ _ t
+          c.in-Present.is (c.begin_fields_header.ensures.1 strict lengths h),
+    )

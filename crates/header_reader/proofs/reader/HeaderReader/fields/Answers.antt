@@ -1,0 +1,18 @@
+use mathlib.Core.Path.{refl}
+use Rattle.header_reader.proofs.ReaderPromises.{fields-unknown, tells-known}
+use Rattle.header_reader.proofs.reader.HeaderReader.fields.Goals as goal
+
+pub returns-in-InType : goal.returns-in-InType
+returns-in-InType c = tells-known _ c.in-InType.is _ refl
+
+pub returns-in-AtFix : goal.returns-in-AtFix
+returns-in-AtFix c = tells-known _ c.in-AtFix.is _ refl
+
+pub returns-in-InFields : goal.returns-in-InFields
+returns-in-InFields c = tells-known _ c.in-InFields.is _ (fields-unknown c.in-InFields.field-0)
+
+pub returns-in-InWidth : goal.returns-in-InWidth
+returns-in-InWidth c = tells-known _ c.in-InWidth.is _ refl
+
+pub returns-in-InHeight : goal.returns-in-InHeight
+returns-in-InHeight c = tells-known _ c.in-InHeight.is _ refl

@@ -1,0 +1,42 @@
+use Prim.Native.Nat.{ℕ, ◌/◌, ◌%◌}
+use mathlib.Core.Path.{◌≡◌, refl, ap, sym, ◌∙◌}
+use mathlib.Core.Logic.{inl, inr}
+use native.Mathlib.Omega.{arith}
+use borrow.Author.Tests.{leb-true, not-false}
+use Rattle.ext.specs.declared.PairHeader.{PairHeader}
+use Rattle.header_reader.proofs.PairByte.{identifier-is, value-is}
+use Rattle.header_reader.proofs.run.pair_size.Goals as goal
+use Rattle.header_reader.proofs.run.pair_size.Goals.{Else-header-eq0-2}
+
+pub returns-then-not-header : goal.returns-then-not-header
+returns-then-not-header c = inl refl
+
+pub returns-then-header-eq0 : goal.returns-then-header-eq0
+returns-then-header-eq0 c = inl refl
+
+pub returns-then-header-eq0-2 : goal.returns-then-header-eq0-2
+returns-then-header-eq0-2 c = inl refl
+
+abbrev called : tie.Else3 → tie.After-from-byte
+called c = c.before.before.before.before.before.before
+
+abbrev byte : tie.Else3 → ℕ
+byte c = (called c).before.args.byte
+
+pub overflow_add-result : goal.overflow_add-result
+overflow_add-result c = omega (arith, identifier-is (byte (goal.at.overflow_add-result c).Else-header-eq0-2) _ (called (goal.at.overflow_add-result c).Else-header-eq0-2).from_byte.ensures)
+
+pub overflow_add-result-2 : goal.overflow_add-result-2
+overflow_add-result-2 c =
+    let e = (called (goal.at.overflow_add-result-2 c).Else-header-eq0-2).from_byte.ensures in
+    omega (arith, identifier-is (byte (goal.at.overflow_add-result-2 c).Else-header-eq0-2) _ e, value-is (byte (goal.at.overflow_add-result-2 c).Else-header-eq0-2) _ e)
+
+pub returns : goal.returns
+returns c =
+    let e = (called (goal.at.returns c).Else-header-eq0-2).from_byte.ensures in
+    let i = identifier-is (byte (goal.at.returns c).Else-header-eq0-2) _ e in
+    let v = value-is (byte (goal.at.returns c).Else-header-eq0-2) _ e in
+    let g = leb-true 128 (byte (goal.at.returns c).Else-header-eq0-2) (sym (ap (λ (p : PairHeader). p.more) e) ∙ not-false _ c.if-not-header.false) in
+    let n : byte (goal.at.returns c).Else-header-eq0-2 / 16 % 8 ≡ 0 → ⊥ = λ z. c.if-header-eq0.false (i ∙ z) in
+    let m : byte (goal.at.returns c).Else-header-eq0-2 % 16 ≡ 0 → ⊥ = λ z. c.if-header-eq0-2.false (v ∙ z) in
+    inr (record { again = g; identifier = omega (arith, n); value = omega (arith, m); is = omega (arith, i, v) })

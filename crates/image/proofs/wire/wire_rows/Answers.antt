@@ -1,0 +1,29 @@
+use Prim.Native.Nat.{◌-◌}
+use native.Mathlib.Omega.{arith}
+use Rattle.image.proofs.WireRows.{begun, kept-length, next_fits, wired, ended}
+use Rattle.image.proofs.wire.wire_rows.Goals as goal
+
+pub loop-y-init : goal.loop-y-init
+loop-y-init c =
+    let a = c.args in
+    begun a.plane.now a.layout.width a.layout.height a.stride a.format a.out.now a.layout c.requires.laid c.requires.height_in_bounds
+
+pub overflow_add-end : goal.overflow_add-end
+overflow_add-end c = omega (arith, next_fits c.loop-y.invariant c.loop-y-test.true, kept-length c.loop-y.invariant)
+
+pub slice_bounds-wire_row-end : goal.slice_bounds-wire_row-end
+slice_bounds-wire_row-end c = next_fits c.loop-y.invariant c.loop-y-test.true
+
+pub loop-y-smaller : goal.loop-y-smaller
+loop-y-smaller c = omega arith
+
+pub loop-y-preserved : goal.loop-y-preserved
+loop-y-preserved c =
+    wired c.loop-y.invariant _ (λ i. let f = c.shared_slice_known-1.given i in omega arith) c.loop-y-test.true
+    c.wire_row.ensures
+
+pub shape_of-out : goal.shape_of-out
+shape_of-out c = kept-length c.loop-y.invariant
+
+pub returns : goal.returns
+returns c = ended c.loop-y.invariant c.loop-y-test.false

@@ -1,0 +1,61 @@
+use mathlib.Core.Path.{sym, ◌∙◌}
+use borrow.Author.Tests.{not-true, not-false}
+use Rattle.laws.proofs.Products.{product-below}
+use Rattle.options.specs.Limits.{decoding}
+use Rattle.options.proofs.LimitTests.{over-width, over-height, over-pixels, over-bytes, admitted}
+use Rattle.options.proofs.DecodeOptions.check.Goals as goal
+
+pub returns-then-not-admits : goal.returns-then-not-admits
+returns-then-not-admits c =
+    let a = c.args in
+    c.over.ensures
+    ∙ sym
+    (over-width (decoding a.self) a.width a.height a.bytes a.offset
+    (sym c.admits.ensures ∙ not-true _ c.if-not-admits.true-raw))
+
+pub returns-then-not-admits-2 : goal.returns-then-not-admits-2
+returns-then-not-admits-2 c =
+    let a = c.args in
+    c.over-then-not-admits-2.ensures
+    ∙ sym
+    (over-height (decoding a.self) a.width a.height a.bytes a.offset
+    (sym c.admits.ensures ∙ not-false _ c.if-not-admits.false-raw)
+    (sym c.admits-2.ensures ∙ not-true _ c.if-not-admits-2.true-raw))
+
+pub overflow_mul-w : goal.overflow_mul-w
+overflow_mul-w c = record { fits = product-below 32 32 c.ranges.width.fits c.ranges.height.fits }
+
+pub returns-then-not-admits-3 : goal.returns-then-not-admits-3
+returns-then-not-admits-3 c =
+    let a = c.args in
+    c.over-then-not-admits-3.ensures
+    ∙ sym
+    (over-pixels (decoding a.self) a.width a.height a.bytes a.offset
+    (sym c.admits.ensures
+    ∙ not-false _ c.if-not-admits.false-raw)
+    (sym c.admits-2.ensures ∙ not-false _ c.if-not-admits-2.false-raw)
+    (sym c.admits-3.ensures ∙ not-true _ c.if-not-admits-3.true-raw))
+
+pub returns-then-not-admits-4 : goal.returns-then-not-admits-4
+returns-then-not-admits-4 c =
+    let a = c.args in
+    c.over-then-not-admits-4.ensures
+    ∙ sym
+    (over-bytes (decoding a.self) a.width a.height a.bytes a.offset
+    (sym c.admits.ensures
+    ∙ not-false _ c.if-not-admits.false-raw)
+    (sym c.admits-2.ensures
+    ∙ not-false _ c.if-not-admits-2.false-raw)
+    (sym c.admits-3.ensures ∙ not-false _ c.if-not-admits-3.false-raw)
+    (sym c.admits-4.ensures ∙ not-true _ c.if-not-admits-4.true-raw))
+
+pub returns : goal.returns
+returns c =
+    let a = c.args in
+    sym
+    (admitted (decoding a.self) a.width a.height a.bytes a.offset
+    (sym c.admits.ensures
+    ∙ not-false _ c.if-not-admits.false-raw)
+    (sym c.admits-2.ensures ∙ not-false _ c.if-not-admits-2.false-raw)
+    (sym c.admits-3.ensures ∙ not-false _ c.if-not-admits-3.false-raw)
+    (sym c.admits-4.ensures ∙ not-false _ c.if-not-admits-4.false-raw))

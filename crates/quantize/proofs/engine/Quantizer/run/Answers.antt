@@ -1,0 +1,210 @@
+use Prim.Native.Nat.{ℕ, ◌+◌, ◌-◌, ◌*◌, ◌≤◌, ◌<◌}
+use mathlib.Core.Logic.{inl, inr, ⊎_elim}
+use native.Mathlib.Omega.{arith}
+use borrow.Rule.Slice.PartMut.{put_mid}
+use borrow.Author.Tests.{not-true, not-false}
+use lib.ListN.{length, get_or}
+use Rattle.quantize.specs.declared.engine.Quantizer.{Quantizer}
+use Rattle.quantize.specs.Finished.{Bytewise}
+use Rattle.quantize.specs.Internal.Turn.{rule_of}
+use Rattle.quantize.proofs.Places.{bytewise}
+use Rattle.quantize.proofs.RunLoop.{Loop, loop-start}
+use Rattle.quantize.proofs.TurnTakes.{end_fits, taking, took-room, loop-took}
+use Rattle.quantize.proofs.BytesAtOnce.{loop-filled}
+use Rattle.quantize.proofs.RunEnd.{none_told, full-byte, end-told}
+use Rattle.quantize.proofs.engine.Quantizer.run.Goals as goal
+use Rattle.quantize.proofs.engine.Quantizer.run.Goals.{After-shared_slice_known-1, After-work-1, Else-m-eq0, Then-t}
+
+abbrev start : tie.At-loop invariant-loop decreases-loop → tie.Start invariant-loop decreases-loop
+start l = l.before.before.before.before.before.before.before
+
+-- samples are bytes
+octets : (l : After-shared_slice_known-1) (i : ℕ) → get_or l.args.samples.now i 0 < 256
+octets l i = let f = l.shared_slice_known-1.given i in omega arith
+
+-- every row is finished byte after byte
+by_bytes : (q : Quantizer) (row : ℕ) → Bytewise (rule_of q.rule q.table) row
+by_bytes q row = bytewise (rule_of q.rule q.table) row
+
+-- where a turn of the loop is run, once whole bytes are filled in, and where it began
+abbrev running : tie.After-work invariant-loop decreases-loop → tie.Then2 invariant-loop decreases-loop
+running f = f.before.before.before.before.before.before.before
+
+abbrev looped : tie.After-work invariant-loop decreases-loop → tie.At-loop invariant-loop decreases-loop
+looped f = (running f).before.before
+
+-- the loop's invariant once whole bytes are filled in
+mid : (f : After-work-1)
+    → let l = looped f in
+    let r = f.fill_row-f in
+    Loop (start l).args.self (start l).args.samples.now (start l).args.out.now (start l).args.work.now
+    (put_mid l.loop.written (length l.loop.out - l.loop.written) l.loop.out r.new.1.1.1.1.0)
+    r.new.1.1.1.1.1.0
+    (record {
+      frames = l.loop.p.frames;
+      row = l.loop.p.row;
+      column = l.loop.p.column + 8 * r.result.count;
+      begun = l.loop.p.begun;
+      corner = r.result.corner;
+    })
+    (l.loop.taken + 8 * r.result.count) (l.loop.written + r.result.count)
+mid f =
+    let l = looped f in
+    let r = f.fill_row-f in
+    let q = (start l).args.self in
+    loop-filled q (omega (arith, (start l).good)) (start l).args.samples.now (start l).args.out.now (start l).args.work.now
+    l.loop.out l.loop.work l.loop.p
+    l.loop.taken l.loop.written l.loop.inv (running f).if2.true (by_bytes q l.loop.p.row)
+    r.result r.new.1.1.1.1.0 r.new.1.1.1.1.1.0 r.ensures
+
+-- where a samples-for-byte of the samples is taken: the whole bytes were filled in before
+abbrev filled : tie.Else3 invariant-loop decreases-loop → tie.After-work invariant-loop decreases-loop
+filled e = e.before.before.before.before.before.before
+
+abbrev begun : tie.Else3 invariant-loop decreases-loop → tie.Start invariant-loop decreases-loop
+begun e = start (looped (filled e))
+
+pub can_take-requires : goal.can_take-requires
+can_take-requires c = tt
+
+pub ran-requires : goal.ran-requires
+ran-requires c = tt
+
+pub returns-then-not-can_take : goal.returns-then-not-can_take
+returns-then-not-can_take c =
+    let a = c.args in
+    none_told a.self a.samples.now a.out.now a.work.now c.ran.result c.ran.ensures (octets (goal.at.returns-then-not-can_take c).After-shared_slice_known-1)
+    (λ s. c.can_take.ensures.no (not-true _ c.if-not-can_take.true-raw) s)
+
+pub loop-p-init : goal.loop-p-init
+loop-p-init c = loop-start _ _ _ _ (c.can_take.ensures.yes (not-false _ c.if-not-can_take.false-raw))
+
+pub slice_bounds-fill_row-count : goal.slice_bounds-fill_row-count
+slice_bounds-fill_row-count c = c.loop-p.invariant.taken_fits
+
+pub slice_bounds-fill_row-start : goal.slice_bounds-fill_row-start
+slice_bounds-fill_row-start c = c.loop-p.invariant.taken_fits
+
+pub slice_bounds-fill_row-end : goal.slice_bounds-fill_row-end
+slice_bounds-fill_row-end c = omega arith
+
+pub slice_bounds-fill_row-count-in-loop-p : goal.slice_bounds-fill_row-count-in-loop-p
+slice_bounds-fill_row-count-in-loop-p c = let i = c.loop-p.invariant in omega (arith, i.written_fits, i.out_long)
+
+pub slice_bounds-fill_row-start-in-loop-p : goal.slice_bounds-fill_row-start-in-loop-p
+slice_bounds-fill_row-start-in-loop-p c = let i = c.loop-p.invariant in omega (arith, i.written_fits, i.out_long)
+
+pub slice_bounds-fill_row-end-in-loop-p : goal.slice_bounds-fill_row-end-in-loop-p
+slice_bounds-fill_row-end-in-loop-p c = omega arith
+
+pub fill_row-f-requires : goal.fill_row-f-requires
+fill_row-f-requires c =
+    let so = c.loop-p.invariant.turn.sound in
+    record { in_row = so.in_row; small = so.corner_small; served = so.served }
+
+pub overflow_mul-taken : goal.overflow_mul-taken
+overflow_mul-taken c = omega (arith, (mid (goal.at.overflow_mul-taken c).After-work-1).taken_fits, (start (looped (goal.at.overflow_mul-taken c).After-work-1)).good)
+
+pub overflow_add-taken : goal.overflow_add-taken
+overflow_add-taken c = omega (arith, (mid (goal.at.overflow_add-taken c).After-work-1).taken_fits, (start (looped (goal.at.overflow_add-taken c).After-work-1)).good)
+
+pub overflow_add-written : goal.overflow_add-written
+overflow_add-written c = omega (arith, (mid (goal.at.overflow_add-written c).After-work-1).written_fits, (start (looped (goal.at.overflow_add-written c).After-work-1)).good)
+
+pub overflow_mul-p : goal.overflow_mul-p
+overflow_mul-p c = omega (arith, (mid (goal.at.overflow_mul-p c).After-work-1).taken_fits, (start (looped (goal.at.overflow_mul-p c).After-work-1)).good)
+
+pub overflow_add-p : goal.overflow_add-p
+overflow_add-p c = omega (arith, (mid (goal.at.overflow_add-p c).After-work-1).turn.sound.in_row, (start (looped (goal.at.overflow_add-p c).After-work-1)).good)
+
+pub overflow_sub-samples : goal.overflow_sub-samples
+overflow_sub-samples c = (mid (goal.at.overflow_sub-samples c).After-work-1).taken_fits
+
+pub overflow_sub-out : goal.overflow_sub-out
+overflow_sub-out c = let i = mid (goal.at.overflow_sub-out c).After-work-1 in omega (arith, i.written_fits, i.out_long)
+
+pub samples_for_byte-m-requires : goal.samples_for_byte-m-requires
+samples_for_byte-m-requires c = (mid (goal.at.samples_for_byte-m-requires c).After-work-1).turn.sound.in_row
+
+pub ran-requires-then-m-eq0 : goal.ran-requires-then-m-eq0
+ran-requires-then-m-eq0 c = tt
+
+pub shape_of-out-then-m-eq0 : goal.shape_of-out-then-m-eq0
+shape_of-out-then-m-eq0 c = (mid (goal.at.shape_of-out-then-m-eq0 c).After-work-1).out_long
+
+pub shape_of-work-then-m-eq0 : goal.shape_of-work-then-m-eq0
+shape_of-work-then-m-eq0 c = (mid (goal.at.shape_of-work-then-m-eq0 c).After-work-1).turn.long
+
+pub returns-then-m-eq0 : goal.returns-then-m-eq0
+returns-then-m-eq0 c =
+    let l = looped (goal.at.returns-then-m-eq0 c).After-work-1 in
+    let o = octets l.before.before.before.before.before.before in
+    end-told _ _ _ _ _ _ _ _ _ (mid (goal.at.returns-then-m-eq0 c).After-work-1) o
+    (full-byte _ _ _ _ _ _ _ _ _ (mid (goal.at.returns-then-m-eq0 c).After-work-1) o _ (running (goal.at.returns-then-m-eq0 c).After-work-1).if2.true (by_bytes (start l).args.self l.loop.p.row)
+    c.samples_for_byte-m.ensures c.if-m-eq0.true)
+    c.ran-then-m-eq0.result c.ran-then-m-eq0.ensures
+
+-- the samples-for-byte's samples are there
+there : (e : Else-m-eq0)
+    → (looped (filled e)).loop.taken + 8 * (filled e).before.before.before.fill-row.result.count + e.samples_for_byte-m.result
+    ≤ length (begun e).args.samples.now
+there e =
+    end_fits _ _ _ _ _ _ _ _ _ (mid (filled e)) (running (filled e)).if2.taken _ e.samples_for_byte-m.ensures e.if-m-eq0.false
+
+pub overflow_add-end : goal.overflow_add-end
+overflow_add-end c = omega (arith, there c, (begun c).well-formed)
+
+pub slice_bounds-take-count : goal.slice_bounds-take-count
+slice_bounds-take-count c = omega arith
+
+pub slice_bounds-take-start : goal.slice_bounds-take-start
+slice_bounds-take-start c = omega arith
+
+pub slice_bounds-take-end : goal.slice_bounds-take-end
+slice_bounds-take-end c = there (goal.at.slice_bounds-take-end c).Else-m-eq0
+
+pub take-t-requires : goal.take-t-requires
+take-t-requires c =
+    taking _ _ _ _ _ _ _ _ _ (mid (filled (goal.at.take-t-requires c).Else-m-eq0)) (running (filled (goal.at.take-t-requires c).Else-m-eq0)).if2.taken _ c.samples_for_byte-m.ensures c.if-m-eq0.false
+    (omega (arith, (begun (goal.at.take-t-requires c).Else-m-eq0).well-formed)) (omega (arith, (begun (goal.at.take-t-requires c).Else-m-eq0).well-formed))
+
+-- there is room for a finished byte
+room : (c : Then-t)
+    → let f = filled (goal.at.bounds-out-written c).Else-m-eq0 in
+    let l = looped f in
+    let r = f.before.before.before.fill-row in
+    l.loop.written + r.result.count
+    < length (put_mid l.loop.written (length l.loop.out - l.loop.written) l.loop.out r.last.1.1.1.1.0)
+room c =
+    took-room _ _ _ _ _ _ _ _ _ (mid (filled (goal.at.bounds-out-written c).Else-m-eq0)) (running (filled (goal.at.bounds-out-written c).Else-m-eq0)).if2.taken _ c.samples_for_byte-m.ensures c.if-m-eq0.false
+    _ _ c.take-t.ensures c.if-t.true
+
+pub bounds-out-written : goal.bounds-out-written
+bounds-out-written c = room c
+
+pub overflow_add-written-then-t : goal.overflow_add-written-then-t
+overflow_add-written-then-t c = omega (arith, room c, (mid (filled (goal.at.overflow_add-written-then-t c).Else-m-eq0)).out_long, (begun (goal.at.overflow_add-written-then-t c).Else-m-eq0).well-formed)
+
+pub loop-p-smaller : goal.loop-p-smaller
+loop-p-smaller c = omega (arith, there (goal.at.loop-p-smaller c).Else-m-eq0, c.if-m-eq0.false)
+
+pub loop-p-preserved : goal.loop-p-preserved
+loop-p-preserved c =
+    loop-took _ _ _ _ _ _ _ _ _ (mid (filled (goal.at.loop-p-preserved c).Else-m-eq0)) (running (filled (goal.at.loop-p-preserved c).Else-m-eq0)).if2.taken _ c.samples_for_byte-m.ensures c.if-m-eq0.false
+    _ _ c.take-t.ensures
+    (by_bytes (begun (goal.at.loop-p-preserved c).Else-m-eq0).args.self (looped (filled (goal.at.loop-p-preserved c).Else-m-eq0)).loop.p.row) _ _
+    (⊎_elim (λ v. inl (v.0.taken, v.1, v.2)) (λ v. inr (v.0.left, v.1, v.2)) c.if-t.branch)
+
+pub ran-requires-2 : goal.ran-requires-2
+ran-requires-2 c = tt
+
+pub shape_of-out : goal.shape_of-out
+shape_of-out c = c.loop-p.invariant.out_long
+
+pub shape_of-work : goal.shape_of-work
+shape_of-work c = c.loop-p.invariant.turn.long
+
+pub returns : goal.returns
+returns c =
+    end-told _ _ _ _ _ _ _ _ _ c.loop-p.invariant (octets (goal.at.returns c).After-shared_slice_known-1)
+    (λ s n t. inl c.loop-p-test.false) c.ran-2.result c.ran-2.ensures

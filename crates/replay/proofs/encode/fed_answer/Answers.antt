@@ -1,0 +1,14 @@
+use mathlib.Core.Path.{sym, ap, ◌∙◌}
+use Rattle.encode_session.specs.declared.EncodeFeed.{EncodeFeed}
+use Rattle.encode_session.specs.Session.{fed_meaning}
+use Rattle.replay.specs.Calls.{three_of}
+use Rattle.replay.specs.Encode.{numbers_of}
+use Rattle.replay.proofs.encode.fed_answer.Goals as goal
+
+pub returns-in-Took : goal.returns-in-Took
+returns-in-Took c = ap (λ (a : EncodeFeed). numbers_of (fed_meaning a)) c.in-Took.is
+
+pub returns-in-Refused : goal.returns-in-Refused
+returns-in-Refused c =
+    ap (λ (a : EncodeFeed). numbers_of (fed_meaning a)) c.in-Refused.is
+    ∙ ap three_of (sym c.refused.ensures)

@@ -1,0 +1,18 @@
+use Prim.Native.Nat.{ℕ, ◌-◌, ◌≤◌}
+use mathlib.Core.List.{List}
+use Rattle.rules.proofs.PlainRowWritten.{PlainTo}
+use Rattle.rules.proofs.plain.plain_row.Given as goal
+
+abbrev pub width : tie.At-loop invariant-loop decreases-loop → ℕ
+width l = l.before.before.before.before.before.args.width
+
+abbrev pub gray : tie.At-loop invariant-loop decreases-loop → List ℕ
+gray l = l.before.before.before.before.before.args.gray.now
+
+-- `rules::plain::plain_row` meets its contract: a byte more with each turn, and then the last.
+-- Assumes nothing.
+abbrev pub invariant-loop-k : goal.invariant-loop-k
+invariant-loop-k l = (l.k ≤ l.count) × PlainTo l.width l.gray l.initial.out l.out l.k
+
+abbrev pub decreases-loop-k : goal.decreases-loop-k
+decreases-loop-k l = l.count - l.k

@@ -1,0 +1,16 @@
+use Prim.Native.Nat.{ℕ, ◌-◌}
+use mathlib.Core.List.{List}
+use lib.ListN.{length}
+use Rattle.rules.specs.Internal.Planes.{PlaneFits}
+use Rattle.rules.proofs.PlaneWritten.{RowsTo}
+use Rattle.rules.proofs.plane.threshold_rows.Given as goal
+
+-- `rules::plane::threshold_rows` meets its contract: the rows at the front, and a row more with each turn.
+-- Assumes nothing.
+abbrev pub invariant-loop-y : goal.invariant-loop-y
+invariant-loop-y l =
+    (before : List ℕ) → PlaneFits l.width l.height (length l.gray) (length before)
+    → RowsTo l.bound l.width l.height l.gray before l.initial.out l.initial.at l.initial.to l.initial.y → RowsTo l.bound l.width l.height l.gray before l.out l.at l.to l.y
+
+abbrev pub decreases-loop-y : goal.decreases-loop-y
+decreases-loop-y l = l.height - l.y
