@@ -12,37 +12,34 @@ use Rattle.diffusion.proofs.PlaneServed.{rows_left, lent_still, rows-joined, row
 use Rattle.diffusion.proofs.plane.dither_plane.Goals as goal
 use Rattle.diffusion.proofs.plane.dither_plane.Goals.{Else-columns-eq0, Else-work-columns}
 
-abbrev start : tie.Else3 → tie.Start
-start e = e.before.before.before.before.before
-
 -- there are samples, room and numbers of work for the plane
 lent : (e : Else-columns-eq0)
-    → let a = (start (goal.at.NO_GOAL e).Else-work-columns).args in
+    → let a = e.args in
     PlaneLent a.width a.height (length a.gray.now) (length a.out.now)
 lent e =
     record {
       wide = omega (arith, e.if-columns-eq0.false);
-      small = (start (goal.at.NO_GOAL e).Else-work-columns).ranges.width.fits;
+      small = e.ranges.width.fits;
       there = e.if-gray-columns.false;
       room = e.if-out-rows.false;
     }
 
 served : (e : Else-work-columns) (out' : List ℕ) (work' : List ℤ)
-    → let a = (start e).args in
+    → let a = e.args in
     RowsWritten a.width a.height a.gray.now a.out.now a.height out'
     → drop a.width work' ≡ drop a.width a.work.now
     → DitherPlane a.width a.height a.gray.now a.out.now a.work.now out' work'
 served e out' work' r b =
-    let a = (start e).args in
+    let a = e.args in
     plane-served a.width a.height a.gray.now a.out.now a.work.now e.if-gray-columns.false e.if-out-rows.false
     e.if-work-columns.false out' work' r b
 
 -- planes of so many columns
-columns : (e : Else-work-columns) (n : ℕ) → let a = (start e).args in
+columns : (e : Else-work-columns) (n : ℕ) → let a = e.args in
     a.width ≡ n → (out' : List ℕ) → RowsWritten n a.height a.gray.now a.out.now a.height out'
     → RowsWritten a.width a.height a.gray.now a.out.now a.height out'
 columns e n is out' r =
-    let a = (start e).args in
+    let a = e.args in
     subst (λ (w : ℕ). RowsWritten w a.height a.gray.now a.out.now a.height out') (sym is) r
 
 pub overflow_mul-columns : goal.overflow_mul-columns
@@ -62,12 +59,12 @@ returns-then-work-columns c = work-short _ _ _ _ _ c.if-work-columns.true
 
 pub returns-then-columns-eq0 : goal.returns-then-columns-eq0
 returns-then-columns-eq0 c =
-    let a = (start (goal.at.returns-then-columns-eq0 c).Else-work-columns).args in
+    let a = c.args in
     served (goal.at.returns-then-columns-eq0 c).Else-work-columns _ _ (no-columns a.width a.height a.gray.now a.out.now c.if-columns-eq0.true) refl
 
 pub dither_ones-requires : goal.dither_ones-requires
 dither_ones-requires c =
-    let a = (start (goal.at.dither_ones-requires c).Else-work-columns).args in
+    let a = c.args in
     subst (λ (n : ℕ). PlaneLent n a.height (length a.gray.now) (length a.out.now)) c.if-columns-eq1.true (lent (goal.at.dither_ones-requires c).Else-columns-eq0)
 
 pub returns-then-columns-eq1 : goal.returns-then-columns-eq1
@@ -75,7 +72,7 @@ returns-then-columns-eq1 c = served (goal.at.returns-then-columns-eq1 c).Else-wo
 
 pub dither_pairs-requires : goal.dither_pairs-requires
 dither_pairs-requires c =
-    let a = (start (goal.at.dither_pairs-requires c).Else-work-columns).args in
+    let a = c.args in
     subst (λ (n : ℕ). PlaneLent n a.height (length a.gray.now) (length a.out.now)) c.if-columns-eq2.true (lent (goal.at.dither_pairs-requires c).Else-columns-eq0)
 
 pub returns-then-columns-eq2 : goal.returns-then-columns-eq2

@@ -7,33 +7,24 @@ use Rattle.diffusion.proofs.RowBytes.{first_flow, bytes-start, byte-lent, digits
 use Rattle.diffusion.proofs.row.bytes.Goals as goal
 use Rattle.diffusion.proofs.row.bytes.Goals.{After-slice_known-1, At-loop-j, Else-last-eq0}
 
-abbrev begun : tie.After-slice-known invariant-loop decreases-loop → tie.Start invariant-loop decreases-loop
-begun k = k.before.before
-
 -- no byte is made
 none_made : (k : After-slice_known-1) (n : ℕ) → n ≡ 0 →
-    let a = (begun k).args in
+    let a = k.args in
     BytesPassed a.gray.now a.work.now n (length a.out.now) first_flow a.out.now a.work.now
 none_made k n e =
-    let s = begun k in
-    bytes-start _ _ _ s.pre.1.1 (λ i. let f = k.shared_slice_known-1.given i in omega arith) n s.args.out.now e refl
+    bytes-start _ _ _ k.requires.1.1 (λ i. let f = k.shared_slice_known-1.given i in omega arith) n k.args.out.now e refl
 
-some : (e : Else-last-eq0) → 8 * 0 + 8 ≤ length (begun (goal.at.NO_GOAL e).After-slice_known-1).args.gray.now
+some : (e : Else-last-eq0) → 8 * 0 + 8 ≤ length e.args.gray.now
 some e = let z = e.if-last-eq0.false in omega (arith, z)
 
-abbrev start : tie.At-loop invariant-loop decreases-loop → tie.Start invariant-loop decreases-loop
-start l = l.before.before.before.before.before.before.before.before
-
 pub overflow_sub-last : goal.overflow_sub-last
-overflow_sub-last c = (begun c).requires.1.1.some
+overflow_sub-last c = c.requires.1.1.some
 
 pub returns-then-last-eq0 : goal.returns-then-last-eq0
 returns-then-last-eq0 c = none_made (goal.at.returns-then-last-eq0 c).After-slice_known-1 _ c.if-last-eq0.true
 
 pub dots-f-requires : goal.dots-f-requires
-dots-f-requires c =
-    let s = begun (goal.at.dots-f-requires c).After-slice_known-1 in
-    (s.pre.0, (s.pre.1.0, byte-lent _ _ 0 _ _ _ _ (none_made (goal.at.dots-f-requires c).After-slice_known-1 0 refl) s.pre.1.1.kept (some (goal.at.dots-f-requires c).Else-last-eq0)))
+dots-f-requires c = (c.requires.0, (c.requires.1.0, byte-lent _ _ 0 _ _ _ _ (none_made (goal.at.dots-f-requires c).After-slice_known-1 0 refl) c.requires.1.1.kept (some (goal.at.dots-f-requires c).Else-last-eq0)))
 
 pub overflow_cast-out : goal.overflow_cast-out
 overflow_cast-out c =
@@ -41,48 +32,46 @@ overflow_cast-out c =
     omega (arith, digits-byte _ _ 0 _ _ _ _ p _ _ (c.dots-f.ensures _ p.at))
 
 pub bounds-out-0 : goal.bounds-out-0
-bounds-out-0 c = omega (arith, some (goal.at.bounds-out-0 c).Else-last-eq0, (begun (goal.at.bounds-out-0 c).After-slice_known-1).pre.1.1.room)
+bounds-out-0 c = omega (arith, some (goal.at.bounds-out-0 c).Else-last-eq0, c.requires.1.1.room)
 
 pub loop-j-init : goal.loop-j-init
 loop-j-init c = record { from = omega arith; to = omega (arith, some (goal.at.loop-j-init c).Else-last-eq0); passed = λ old room p. p }
 
 -- the bytes so far
 made : (l : At-loop-j) →
-    let a = (start l).args in
+    let a = l.args in
     BytesPassed a.gray.now a.work.now l.loop-j.j (length a.out.now) l.loop-j.f l.loop-j.out l.loop-j.work
 made l =
-    let s = begun (goal.at.NO_GOAL l).After-slice_known-1 in
     let p = none_made (goal.at.NO_GOAL l).After-slice_known-1 0 refl in
-    l.loop-j.invariant.passed s.args.work.now (length s.args.out.now)
-    (bytes-more _ _ 0 _ _ _ _ p _ _ (l.dots-f.ensures _ p.at) (some (goal.at.NO_GOAL l).Else-last-eq0) (omega (arith, some (goal.at.NO_GOAL l).Else-last-eq0, s.pre.1.1.room)))
+    l.loop-j.invariant.passed l.args.work.now (length l.args.out.now)
+    (bytes-more _ _ 0 _ _ _ _ p _ _ (l.dots-f.ensures _ p.at) (some (goal.at.NO_GOAL l).Else-last-eq0) (omega (arith, some (goal.at.NO_GOAL l).Else-last-eq0, l.requires.1.1.room)))
 
 -- there are the dots of a byte more
 there : (l : At-loop-j) →
-    let w = length (start l).args.gray.now in
+    let w = length l.args.gray.now in
     l.loop-j.j < (w - 1) / 8 → 8 * l.loop-j.j + 8 ≤ w
 there l h = omega arith
 
 pub overflow_mul-j : goal.overflow_mul-j
-overflow_mul-j c = omega (arith, there (goal.at.overflow_mul-j c).At-loop-j c.loop-j-test.true, (start (goal.at.overflow_mul-j c).At-loop-j).well-formed)
+overflow_mul-j c = omega (arith, there (goal.at.overflow_mul-j c).At-loop-j c.loop-j-test.true, c.well_formed)
 
 pub eight_dots_or_level-f-requires : goal.eight_dots_or_level-f-requires
 eight_dots_or_level-f-requires c =
-    let s = start (goal.at.eight_dots_or_level-f-requires c).At-loop-j in
-    let q = byte-lent _ _ _ _ _ _ _ (made (goal.at.eight_dots_or_level-f-requires c).At-loop-j) s.pre.1.1.kept (there (goal.at.eight_dots_or_level-f-requires c).At-loop-j c.loop-j-test.true) in
-    (s.pre.0, (s.pre.1.0, (q, omega (arith, c.loop-j.invariant.from))))
+    let q = byte-lent _ _ _ _ _ _ _ (made (goal.at.eight_dots_or_level-f-requires c).At-loop-j) c.requires.1.1.kept (there (goal.at.eight_dots_or_level-f-requires c).At-loop-j c.loop-j-test.true) in
+    (c.requires.0, (c.requires.1.0, (q, omega (arith, c.loop-j.invariant.from))))
 
 pub overflow_cast-out-in-loop-j : goal.overflow_cast-out-in-loop-j
 overflow_cast-out-in-loop-j c = omega (arith, digits-byte _ _ _ _ _ _ _ (made (goal.at.overflow_cast-out-in-loop-j c).At-loop-j) _ _ (c.eight_dots_or_level-f.ensures _ (made (goal.at.overflow_cast-out-in-loop-j c).At-loop-j).at))
 
 -- there is room for a byte more
-fits : (l : At-loop-j) → l.loop-j.j < (length (start l).args.gray.now - 1) / 8 → l.loop-j.j < length l.loop-j.out
-fits l h = omega (arith, (made l).out_long, (start l).requires.1.1.room, h)
+fits : (l : At-loop-j) → l.loop-j.j < (length l.args.gray.now - 1) / 8 → l.loop-j.j < length l.loop-j.out
+fits l h = omega (arith, (made l).out_long, l.requires.1.1.room, h)
 
 pub bounds-out-j : goal.bounds-out-j
 bounds-out-j c = fits (goal.at.bounds-out-j c).At-loop-j c.loop-j-test.true
 
 pub overflow_add-j : goal.overflow_add-j
-overflow_add-j c = omega (arith, there (goal.at.overflow_add-j c).At-loop-j c.loop-j-test.true, (start (goal.at.overflow_add-j c).At-loop-j).good)
+overflow_add-j c = omega (arith, there (goal.at.overflow_add-j c).At-loop-j c.loop-j-test.true, c.well_formed)
 
 pub loop-j-smaller : goal.loop-j-smaller
 loop-j-smaller c = omega (arith, c.loop-j-test.true)
@@ -107,7 +96,7 @@ shape_of-out c = (made (goal.at.shape_of-out c).At-loop-j).out_long
 
 pub returns : goal.returns
 returns c =
-    let a = (start (goal.at.returns c).At-loop-j).args in
+    let a = c.args in
     let e : c.loop-j.j ≡ (length a.gray.now - 1) / 8 = omega (arith, c.loop-j.invariant.to, c.loop-j-test.false) in
     subst
     (λ (n : ℕ). BytesPassed a.gray.now a.work.now n (length a.out.now) c.loop-j.f c.loop-j.out c.loop-j.work)

@@ -5,30 +5,19 @@ use mir.Syntax.{w16}
 use mir.ValLaws.{to_z_pos}
 use Rattle.diffusion.proofs.RowEnds.{last-lent, shifted-small, shifted-is, row-dithered}
 use Rattle.diffusion.proofs.row.dither_row.Goals as goal
-use Rattle.diffusion.proofs.row.dither_row.Goals.{After-bytes-f, After-dots-s}
-
--- `diffusion::row::dither_row` meets its contract.
--- Assumes nothing.
-abbrev start : tie.After-bytes → tie.Start
-start b = b.before.before.before.before.before
-
--- all bytes but the last, before its dots
-abbrev filled : tie.After-dots → tie.After-bytes
-filled d = d.before.before.before.before.before
+use Rattle.diffusion.proofs.row.dither_row.Goals.{After-bytes-f}
 
 pub bytes-f-requires : goal.bytes-f-requires
 bytes-f-requires c = c.requires
 
 pub overflow_sub-end : goal.overflow_sub-end
-overflow_sub-end c = (start (goal.at.overflow_sub-end c).After-bytes-f).requires.1.1.some
+overflow_sub-end c = c.requires.1.1.some
 
 pub overflow_mul-x : goal.overflow_mul-x
-overflow_mul-x c = omega (arith, (start (goal.at.overflow_mul-x c).After-bytes-f).well-formed)
+overflow_mul-x c = omega (arith, c.well_formed)
 
 pub dots-s-requires : goal.dots-s-requires
-dots-s-requires c =
-    let s = start (goal.at.dots-s-requires c).After-bytes-f in
-    (s.pre.0, (s.pre.1.0, last-lent _ _ _ s.pre.1.1 _ _ _ c.bytes-f.ensures))
+dots-s-requires c = (c.requires.0, (c.requires.1.0, last-lent _ _ _ c.requires.1.1 _ _ _ c.bytes-f.ensures))
 
 pub overflow_sub-padding : goal.overflow_sub-padding
 overflow_sub-padding c = omega arith
@@ -44,16 +33,12 @@ overflow_shl-out c = omega arith
 
 pub overflow_cast-out : goal.overflow_cast-out
 overflow_cast-out c =
-    let b = filled (goal.at.overflow_cast-out c).After-dots-s in
-    let p = b.bytes.ensures in
+    let p = c.bytes-f.ensures in
     let q = c.dots-s.ensures _ p.at in
-    rw (shifted-is _ _ _ (start b).pre.1.1 _ _ _ p _ _ q) (record { fits = shifted-small _ _ _ (start b).pre.1.1 _ _ _ p _ _ q })
+    rw (shifted-is _ _ _ c.requires.1.1 _ _ _ p _ _ q) (record { fits = shifted-small _ _ _ c.requires.1.1 _ _ _ p _ _ q })
 
 pub bounds-out-last : goal.bounds-out-last
-bounds-out-last c =
-    let b = filled (goal.at.bounds-out-last c).After-dots-s in
-    let s = start b in
-    omega (arith, b.bytes.ensures.out_long, s.pre.1.1.room, s.pre.1.1.some)
+bounds-out-last c = omega (arith, c.bytes-f.ensures.out_long, c.requires.1.1.room, c.requires.1.1.some)
 
 pub overflow_add-work : goal.overflow_add-work
 overflow_add-work c = omega arith
@@ -62,25 +47,20 @@ pub overflow_cast-work : goal.overflow_cast-work
 overflow_cast-work c = record { sfits = omega arith }
 
 pub offset_bounds-work-end : goal.offset_bounds-work-end
-offset_bounds-work-end c = omega (arith, (start (filled (goal.at.offset_bounds-work-end c).After-dots-s)).well-formed)
+offset_bounds-work-end c = omega (arith, (start (goal.at.offset_bounds-work-end c).After-bytes-f).well-formed)
 
 pub bounds-work-end : goal.bounds-work-end
-bounds-work-end c =
-    let b = filled (goal.at.bounds-work-end c).After-dots-s in
-    let s = start b in
-    omega (arith, (c.dots-s.ensures _ b.bytes.ensures.at).at.long, s.pre.1.1.kept, s.pre.1.1.some)
+bounds-work-end c = omega (arith, (c.dots-s.ensures _ c.bytes-f.ensures.at).at.long, c.requires.1.1.kept, c.requires.1.1.some)
 
 pub shape_of-work : goal.shape_of-work
-shape_of-work c = simp length-set (c.dots-s.ensures _ (filled (goal.at.shape_of-work c).After-dots-s).bytes.ensures.at).at.long
+shape_of-work c = simp length-set (c.dots-s.ensures _ c.bytes-f.ensures.at).at.long
 
 pub shape_of-out : goal.shape_of-out
-shape_of-out c = simp length-set (filled (goal.at.shape_of-out c).After-dots-s).bytes.ensures.out_long
+shape_of-out c = simp length-set c.bytes-f.ensures.out_long
 
 pub returns : goal.returns
 returns c =
-    let b = filled (goal.at.returns c).After-dots-s in
-    let s = start b in
-    let p = b.bytes.ensures in
+    let p = c.bytes-f.ensures in
     let q = c.dots-s.ensures _ p.at in
-    let l = s.pre.1.1 in
+    let l = c.requires.1.1 in
     row-dithered _ _ _ l _ _ _ p _ _ q _ _ (shifted-is _ _ _ l _ _ _ p _ _ q) (to_z_pos w16 _ (omega arith)) _ (eqb-true _ 0)

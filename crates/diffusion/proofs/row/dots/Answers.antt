@@ -11,21 +11,17 @@ use Rattle.diffusion.proofs.RowGrows.{byte-begins, run-start, run_long, run_lent
 use Rattle.diffusion.proofs.row.dots.Goals as goal
 use Rattle.diffusion.proofs.row.dots.Goals.{After-dot-arg-1, At-loop-i}
 
-abbrev start : tie.At-loop invariant-loop decreases-loop → tie.Start invariant-loop decreases-loop
-start l = l.before.before
-
 -- the numbers of the work buffer are as many as they were
-long : (l : At-loop-i) → length l.loop-i.work ≡ length (start l).args.work.now
+long : (l : At-loop-i) → length l.loop-i.work ≡ length l.args.work.now
 long l =
-    let s = start l in
-    let p = s.pre.1.1 in
+    let p = l.requires.1.1 in
     run_long _ _ _ _ _ _ _ _ l.loop-i.invariant p.old (byte-begins _ _ _ _ _ p.at)
 
-in-row : (l : At-loop-i) → l.loop-i.i < (start l).args.end → l.loop-i.i < length (start l).args.gray.now
-in-row l h = omega (arith, (start l).requires.1.1.in_row)
+in-row : (l : At-loop-i) → l.loop-i.i < l.args.end → l.loop-i.i < length l.args.gray.now
+in-row l h = omega (arith, l.requires.1.1.in_row)
 
-in-work : (l : At-loop-i) → l.loop-i.i < (start l).args.end → l.loop-i.i < length l.loop-i.work
-in-work l h = omega (arith, in-row l h, long l, (start l).requires.1.1.kept)
+in-work : (l : At-loop-i) → l.loop-i.i < l.args.end → l.loop-i.i < length l.loop-i.work
+in-work l h = omega (arith, in-row l h, long l, l.requires.1.1.kept)
 
 pub loop-i-init : goal.loop-i-init
 loop-i-init c = run-start _ _ _ _ _ c.requires.1.1.order
@@ -34,7 +30,7 @@ pub bounds-gray-i : goal.bounds-gray-i
 bounds-gray-i c = in-row (goal.at.bounds-gray-i c).At-loop-i c.loop-i-test.true
 
 pub offset_bounds-work-i : goal.offset_bounds-work-i
-offset_bounds-work-i c = omega (arith, in-work (goal.at.offset_bounds-work-i c).At-loop-i c.loop-i-test.true, long (goal.at.offset_bounds-work-i c).At-loop-i, (start (goal.at.offset_bounds-work-i c).At-loop-i).well-formed)
+offset_bounds-work-i c = omega (arith, in-work (goal.at.offset_bounds-work-i c).At-loop-i c.loop-i-test.true, long (goal.at.offset_bounds-work-i c).At-loop-i, c.well_formed)
 
 pub slice_copy_out-dot : goal.slice_copy_out-dot
 slice_copy_out-dot c = in-work (goal.at.slice_copy_out-dot c).At-loop-i c.loop-i-test.true
@@ -47,13 +43,12 @@ same_sum c = to_z-of_z w16 _ (record { sfits = c.dot-arg-1.given })
 
 pub dot-s-requires : goal.dot-s-requires
 dot-s-requires c =
-    let s = start (goal.at.dot-s-requires c).At-loop-i in
-    let p = s.pre.1.1 in
+    let p = c.requires.1.1 in
     let t = c.loop-i-test.true in
     let b = byte-begins _ _ _ _ _ p.at in (
-      s.pre.0,
+      c.requires.0,
       (
-        s.pre.1.0,
+        c.requires.1.0,
         run_lent _ _ _ _ _ _ _ _ c.loop-i.invariant p.old b _ (same_sum c) (in-row (goal.at.dot-s-requires c).At-loop-i t) (omega (arith, p.one_byte)),
       ),
     )
@@ -65,22 +60,21 @@ pub overflow_cast-work : goal.overflow_cast-work
 overflow_cast-work c = record { sfits = omega arith }
 
 pub offset_bounds-work-j : goal.offset_bounds-work-j
-offset_bounds-work-j c = omega (arith, in-work (goal.at.offset_bounds-work-j c).At-loop-i c.loop-i-test.true, long (goal.at.offset_bounds-work-j c).At-loop-i, (start (goal.at.offset_bounds-work-j c).At-loop-i).well-formed)
+offset_bounds-work-j c = omega (arith, in-work (goal.at.offset_bounds-work-j c).At-loop-i c.loop-i-test.true, long (goal.at.offset_bounds-work-j c).At-loop-i, c.well_formed)
 
 pub bounds-work-j : goal.bounds-work-j
 bounds-work-j c = omega (arith, in-work (goal.at.bounds-work-j c).At-loop-i c.loop-i-test.true)
 
 pub overflow_add-i : goal.overflow_add-i
-overflow_add-i c = omega (arith, in-work (goal.at.overflow_add-i c).At-loop-i c.loop-i-test.true, long (goal.at.overflow_add-i c).At-loop-i, (start (goal.at.overflow_add-i c).At-loop-i).well-formed)
+overflow_add-i c = omega (arith, in-work (goal.at.overflow_add-i c).At-loop-i c.loop-i-test.true, long (goal.at.overflow_add-i c).At-loop-i, c.well_formed)
 
 pub loop-i-smaller : goal.loop-i-smaller
 loop-i-smaller c = omega arith
 
 pub loop-i-preserved : goal.loop-i-preserved
 loop-i-preserved c =
-    let s = start (goal.at.loop-i-preserved c).At-loop-i in
     let t = c.loop-i-test.true in
-    run_more _ _ _ _ _ _ _ _ c.loop-i.invariant _ (same_sum (goal.at.loop-i-preserved c).After-dot-arg-1) _ _ t s.pre.1.1.in_row c.dot-s.ensures
+    run_more _ _ _ _ _ _ _ _ c.loop-i.invariant _ (same_sum (goal.at.loop-i-preserved c).After-dot-arg-1) _ _ t c.requires.1.1.in_row c.dot-s.ensures
     (⊎_elim
     (λ v. sum_left _ _ _ _ _ v.0.taken (omega (arith, in-work (goal.at.loop-i-preserved c).At-loop-i t)) (to_z_pos w16 _ (omega arith)) v.2)
     (λ v. sum-none _ _ _ _ v.0.left v.1)

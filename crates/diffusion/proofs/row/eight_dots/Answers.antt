@@ -11,62 +11,58 @@ use Rattle.diffusion.proofs.RowGrows.{byte-begins, run-start, run_at, run_long, 
 use Rattle.diffusion.proofs.row.eight_dots.Goals as goal
 use Rattle.diffusion.proofs.row.eight_dots.Goals.{After-dot-arg-1, At-loop-i}
 
-abbrev start : tie.At-loop invariant-loop decreases-loop → tie.Start invariant-loop decreases-loop
-start l = l.before.before
-
 -- the numbers of the work buffer are as many as they were
-long : (l : At-loop-i) → length l.loop-i.work ≡ length (start l).args.work.now
+long : (l : At-loop-i) → length l.loop-i.work ≡ length l.args.work.now
 long l =
-    let p = (start l).requires.1.1.0 in
+    let p = l.requires.1.1.0 in
     run_long _ _ _ _ _ _ _ _ l.loop-i.invariant p.old (byte-begins _ _ _ _ _ p.at)
 
-in-row : (l : At-loop-i) → l.loop-i.i < 8 → (start l).args.x + l.loop-i.i < length (start l).args.gray.now
-in-row l h = omega (arith, (start l).requires.1.1.0.in_row)
+in-row : (l : At-loop-i) → l.loop-i.i < 8 → l.args.x + l.loop-i.i < length l.args.gray.now
+in-row l h = omega (arith, l.requires.1.1.0.in_row)
 
-in-work : (l : At-loop-i) → l.loop-i.i < 8 → (start l).args.x + l.loop-i.i < length l.loop-i.work
-in-work l h = omega (arith, in-row l h, long l, (start l).requires.1.1.0.kept)
+in-work : (l : At-loop-i) → l.loop-i.i < 8 → l.args.x + l.loop-i.i < length l.loop-i.work
+in-work l h = omega (arith, in-row l h, long l, l.requires.1.1.0.kept)
 
 pub loop-i-init : goal.loop-i-init
 loop-i-init c = rw (add-zero c.args.x) (run-start _ _ _ _ _ (omega arith))
 
 pub overflow_add-j : goal.overflow_add-j
-overflow_add-j c = omega (arith, in-row (goal.at.overflow_add-j c).At-loop-i c.loop-i-test.true, (start (goal.at.overflow_add-j c).At-loop-i).well-formed)
+overflow_add-j c = omega (arith, in-row (goal.at.overflow_add-j c).At-loop-i c.loop-i-test.true, c.well_formed)
 
 pub bounds-gray-j : goal.bounds-gray-j
 bounds-gray-j c = in-row (goal.at.bounds-gray-j c).At-loop-i c.loop-i-test.true
 
 pub offset_bounds-work-j : goal.offset_bounds-work-j
-offset_bounds-work-j c = omega (arith, in-work (goal.at.offset_bounds-work-j c).At-loop-i c.loop-i-test.true, long (goal.at.offset_bounds-work-j c).At-loop-i, (start (goal.at.offset_bounds-work-j c).At-loop-i).well-formed)
+offset_bounds-work-j c = omega (arith, in-work (goal.at.offset_bounds-work-j c).At-loop-i c.loop-i-test.true, long (goal.at.offset_bounds-work-j c).At-loop-i, c.well_formed)
 
 pub slice_copy_out-dot : goal.slice_copy_out-dot
 slice_copy_out-dot c = in-work (goal.at.slice_copy_out-dot c).At-loop-i c.loop-i-test.true
 
 -- the sum is read as it is held
 same_sum : (c : After-dot-arg-1) →
-    let z = get_or c.loop-i.work ((start (goal.at.dot-s-requires c).At-loop-i).args.x + c.loop-i.i) (pos 0) in
+    let z = get_or c.loop-i.work (c.args.x + c.loop-i.i) (pos 0) in
     to_z w16 (of_z w16 z) ≡ z
 same_sum c = to_z-of_z w16 _ (record { sfits = c.dot-arg-1.given })
 
 pub dot-s-requires : goal.dot-s-requires
 dot-s-requires c =
-    let s = start (goal.at.dot-s-requires c).At-loop-i in
-    let p = s.pre.1.1.0 in
+    let p = c.requires.1.1.0 in
     let t = c.loop-i-test.true in (
-      s.pre.0,
+      c.requires.0,
       (
-        s.pre.1.0,
+        c.requires.1.0,
         run_lent _ _ _ _ _ _ _ _ c.loop-i.invariant p.old (byte-begins _ _ _ _ _ p.at) _ (same_sum c) (in-row (goal.at.dot-s-requires c).At-loop-i t) (omega (arith, t)),
       ),
     )
 
 pub overflow_sub-k : goal.overflow_sub-k
-overflow_sub-k c = omega (arith, (start (goal.at.overflow_sub-k c).At-loop-i).requires.1.1.1)
+overflow_sub-k c = omega (arith, c.requires.1.1.1)
 
 pub overflow_cast-work : goal.overflow_cast-work
 overflow_cast-work c = record { sfits = omega arith }
 
 pub offset_bounds-work-k : goal.offset_bounds-work-k
-offset_bounds-work-k c = omega (arith, in-work (goal.at.offset_bounds-work-k c).At-loop-i c.loop-i-test.true, long (goal.at.offset_bounds-work-k c).At-loop-i, (start (goal.at.offset_bounds-work-k c).At-loop-i).well-formed)
+offset_bounds-work-k c = omega (arith, in-work (goal.at.offset_bounds-work-k c).At-loop-i c.loop-i-test.true, long (goal.at.offset_bounds-work-k c).At-loop-i, c.well_formed)
 
 pub bounds-work-k : goal.bounds-work-k
 bounds-work-k c = omega (arith, in-work (goal.at.bounds-work-k c).At-loop-i c.loop-i-test.true)
@@ -79,13 +75,12 @@ loop-i-smaller c = omega arith
 
 pub loop-i-preserved : goal.loop-i-preserved
 loop-i-preserved c =
-    let s = start (goal.at.loop-i-preserved c).At-loop-i in
-    let a = s.args in
+    let a = c.args in
     let t = c.loop-i-test.true in
     let e : a.x + c.loop-i.i + 1 ≡ a.x + (c.loop-i.i + 1) = omega arith in
     run_at _ _ _ _ _ _ _ _ _ e
-    (run_more _ _ _ _ _ _ _ _ c.loop-i.invariant _ (same_sum (goal.at.loop-i-preserved c).After-dot-arg-1) _ _ (omega (arith, t)) s.pre.1.1.0.in_row c.dot-s.ensures
-    (sum_left _ _ _ _ _ (omega (arith, s.pre.1.1.1)) (omega (arith, in-work (goal.at.loop-i-preserved c).At-loop-i t)) (to_z_pos w16 _ (omega arith)) refl))
+    (run_more _ _ _ _ _ _ _ _ c.loop-i.invariant _ (same_sum (goal.at.loop-i-preserved c).After-dot-arg-1) _ _ (omega (arith, t)) c.requires.1.1.0.in_row c.dot-s.ensures
+    (sum_left _ _ _ _ _ (omega (arith, c.requires.1.1.1)) (omega (arith, in-work (goal.at.loop-i-preserved c).At-loop-i t)) (to_z_pos w16 _ (omega arith)) refl))
 
 pub shape_of-work : goal.shape_of-work
 shape_of-work c = long (goal.at.shape_of-work c).At-loop-i

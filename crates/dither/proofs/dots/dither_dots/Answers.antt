@@ -13,19 +13,13 @@ use Rattle.dither.proofs.DitherDotsLoop.{inv-start, inv-more, inv-end, dot-le, r
 use Rattle.dither.proofs.dots.dither_dots.Goals as goal
 use Rattle.dither.proofs.dots.dither_dots.Goals.{After-over-above, After-struct_known-1, At-loop-i}
 
-abbrev reached : tie.At-loop invariant-loop decreases-loop → tie.After-reach invariant-loop decreases-loop
-reached l = l.before.before.before
-
-abbrev start : tie.At-loop invariant-loop decreases-loop → tie.Start invariant-loop decreases-loop
-start l = (reached l).before.before.before.before.before
-
 low : (l : At-loop-i) → l.loop-i.digits < 65536
 low l =
-    let a = (start l).args in
+    let a = l.args in
     let f = row_bit dither a.width a.y a.column a.gray.now (carry_of a.corner a.work.now) in
     subst (λ (n : ℕ). n < 65536) (sym l.loop-i.invariant.digits_is)
     (appended-fits a.begun f (row-bit-le dither a.width a.y a.column a.gray.now _) (length a.gray.now) l.loop-i.i
-    (start l).requires.packs l.loop-i.invariant.bound)
+    l.requires.packs l.loop-i.invariant.bound)
 
 pub left_of-left-requires : goal.left_of-left-requires
 left_of-left-requires c = let p = c.requires in omega (arith, p.within, p.room)
@@ -44,13 +38,13 @@ loop-i-init c =
     (rw (c.reach-near.ensures.is a.work.now a.column) c.over-above.ensures)
 
 pub overflow_add-x : goal.overflow_add-x
-overflow_add-x c = let s = start (goal.at.overflow_add-x c).At-loop-i in omega (arith, s.pre.within, s.pre.room, s.good)
+overflow_add-x c = omega (arith, c.requires.within, c.requires.room, c.well_formed)
 
 pub overflow_add-x-in-loop-i : goal.overflow_add-x-in-loop-i
-overflow_add-x-in-loop-i c = let s = start (goal.at.overflow_add-x-in-loop-i c).After-over-above in omega (arith, s.pre.within, s.pre.room, s.good)
+overflow_add-x-in-loop-i c = omega (arith, c.requires.within, c.requires.room, c.well_formed)
 
 pub over-ahead-requires : goal.over-ahead-requires
-over-ahead-requires c = omega (arith, c.loop-i.invariant.long, (reached (goal.at.over-ahead-requires c).After-over-above).reach.ensures.most, (start (goal.at.over-ahead-requires c).After-over-above).requires.room)
+over-ahead-requires c = omega (arith, c.loop-i.invariant.long, c.reach-near.ensures.most, c.requires.room)
 
 pub bounds-gray-i : goal.bounds-gray-i
 bounds-gray-i c = omega arith
@@ -64,11 +58,11 @@ pub from_held-requires : goal.from_held-requires
 from_held-requires c = c.step-d.ensures.rest_is.small
 
 pub offset_bounds-work-x : goal.offset_bounds-work-x
-offset_bounds-work-x c = let s = start (goal.at.offset_bounds-work-x c).After-over-above in omega (arith, s.pre.within, s.pre.room, s.good, c.loop-i.invariant.long)
+offset_bounds-work-x c = omega (arith, c.requires.within, c.requires.room, c.well_formed, c.loop-i.invariant.long)
 
-in-work : (l : At-loop-i) → l.loop-i.i < length (start l).args.gray.now
-    → (start l).args.column + l.loop-i.i < length l.loop-i.work
-in-work l h = let s = start l in omega (arith, s.pre.within, s.pre.room, l.loop-i.invariant.long)
+in-work : (l : At-loop-i) → l.loop-i.i < length l.args.gray.now
+    → l.args.column + l.loop-i.i < length l.loop-i.work
+in-work l h = omega (arith, l.requires.within, l.requires.room, l.loop-i.invariant.long)
 
 pub bounds-work-x : goal.bounds-work-x
 bounds-work-x c = in-work (goal.at.bounds-work-x c).After-over-above (omega arith)
@@ -80,7 +74,7 @@ pub overflow_add-digits : goal.overflow_add-digits
 overflow_add-digits c = omega (arith, low (goal.at.overflow_add-digits c).After-over-above, dot-le c.step-d.ensures)
 
 pub overflow_add-i : goal.overflow_add-i
-overflow_add-i c = omega (arith, (start (goal.at.overflow_add-i c).After-over-above).well-formed)
+overflow_add-i c = omega (arith, c.well_formed)
 
 pub loop-i-smaller : goal.loop-i-smaller
 loop-i-smaller c = omega arith
@@ -91,11 +85,11 @@ stored s = to_z-of_z w16 _ (record { sfits = s.from_held.type-inv }) ∙ s.from_
 
 pub loop-i-preserved : goal.loop-i-preserved
 loop-i-preserved c =
-    let a = (start (goal.at.loop-i-preserved c).After-over-above).args in
+    let a = c.args in
     let t = c.loop-i-test.true in
     inv-more a.width a.y a.column a.gray.now a.begun a.corner a.work.now c.loop-i.work _ _ _ _ c.loop-i.i
     c.loop-i.invariant _ _ _
-    (rw ((reached (goal.at.loop-i-preserved c).After-over-above).reach.ensures.is c.loop-i.work (a.column + c.loop-i.i + 1)) c.over-ahead.ensures)
+    (rw (c.reach-near.ensures.is c.loop-i.work (a.column + c.loop-i.i + 1)) c.over-ahead.ensures)
     c.step-d.ensures
     _ (stored c) t (in-work (goal.at.loop-i-preserved c).After-over-above t)
 
@@ -104,6 +98,6 @@ shape_of-work c = c.loop-i.invariant.long
 
 pub returns : goal.returns
 returns c =
-    let a = (start (goal.at.returns c).At-loop-i).args in
+    let a = c.args in
     inv-end a.width a.y a.column a.gray.now a.begun a.corner a.work.now _ _ _ _ _ _ c.loop-i.invariant
-    c.loop-i-test.false (start (goal.at.returns c).At-loop-i).requires.some
+    c.loop-i-test.false c.requires.some

@@ -13,16 +13,13 @@ use Rattle.dither.proofs.DitherDotsLoop.{inv-start, inv-more, inv-end, inv-near,
 use Rattle.dither.proofs.row.dither_byte.Goals as goal
 use Rattle.dither.proofs.row.dither_byte.Goals.{After-reach-reached, After-struct_known-1, At-loop-i}
 
-abbrev start : tie.At-loop invariant-loop decreases-loop → tie.Start invariant-loop decreases-loop
-start l = l.before.before.before
-
 low : (l : At-loop-i) → l.loop-i.digits < 65536
 low l =
-    let a = (start l).args in
+    let a = l.args in
     let f = row_bit dither a.width a.y a.column a.gray.now (carry_of a.near.corner a.work.now) in
     subst (λ (n : ℕ). n < 65536) (sym l.loop-i.invariant.digits_is)
     (appended-fits 0 f (row-bit-le dither a.width a.y a.column a.gray.now _) (length a.gray.now) l.loop-i.i
-    (start l).requires.0.packs l.loop-i.invariant.bound)
+    l.requires.0.packs l.loop-i.invariant.bound)
 
 pub loop-i-init : goal.loop-i-init
 loop-i-init c =
@@ -31,16 +28,15 @@ loop-i-init c =
     c.requires.2.corner_is c.requires.2.above_is
 
 pub overflow_add-x : goal.overflow_add-x
-overflow_add-x c = let s = start (goal.at.overflow_add-x c).At-loop-i in omega (arith, s.pre.0.within, s.pre.0.room, s.good)
+overflow_add-x c = omega (arith, c.requires.0.within, c.requires.0.room, c.well_formed)
 
 pub overflow_add-x-in-loop-i : goal.overflow_add-x-in-loop-i
-overflow_add-x-in-loop-i c = let s = start (goal.at.overflow_add-x-in-loop-i c).After-reach-reached in omega (arith, s.pre.0.within, s.pre.0.room, s.good)
+overflow_add-x-in-loop-i c = omega (arith, c.requires.0.within, c.requires.0.room, c.well_formed)
 
 pub inside-ahead-requires : goal.inside-ahead-requires
 inside-ahead-requires c =
-    let s = start (goal.at.inside-ahead-requires c).After-reach-reached in
     let r = c.reach-reached.ensures in
-    (omega (arith, r.most, s.pre.0.room, c.loop-i.invariant.long), λ h. omega (arith, r.all h, s.pre.1))
+    (omega (arith, r.most, c.requires.0.room, c.loop-i.invariant.long), λ h. omega (arith, r.all h, c.requires.1))
 
 pub bounds-gray-i : goal.bounds-gray-i
 bounds-gray-i c = omega arith
@@ -54,11 +50,11 @@ pub from_held-requires : goal.from_held-requires
 from_held-requires c = c.step-d.ensures.rest_is.small
 
 pub offset_bounds-work-x : goal.offset_bounds-work-x
-offset_bounds-work-x c = let s = start (goal.at.offset_bounds-work-x c).After-reach-reached in omega (arith, s.pre.0.within, s.pre.0.room, s.good, c.loop-i.invariant.long)
+offset_bounds-work-x c = omega (arith, c.requires.0.within, c.requires.0.room, c.well_formed, c.loop-i.invariant.long)
 
-in-work : (l : At-loop-i) → l.loop-i.i < length (start l).args.gray.now
-    → (start l).args.column + l.loop-i.i < length l.loop-i.work
-in-work l h = let s = start l in omega (arith, s.pre.0.within, s.pre.0.room, l.loop-i.invariant.long)
+in-work : (l : At-loop-i) → l.loop-i.i < length l.args.gray.now
+    → l.args.column + l.loop-i.i < length l.loop-i.work
+in-work l h = omega (arith, l.requires.0.within, l.requires.0.room, l.loop-i.invariant.long)
 
 pub bounds-work-x : goal.bounds-work-x
 bounds-work-x c = in-work (goal.at.bounds-work-x c).After-reach-reached (omega arith)
@@ -70,7 +66,7 @@ pub overflow_add-digits : goal.overflow_add-digits
 overflow_add-digits c = omega (arith, low (goal.at.overflow_add-digits c).After-reach-reached, dot-le c.step-d.ensures)
 
 pub overflow_add-i : goal.overflow_add-i
-overflow_add-i c = omega (arith, (start (goal.at.overflow_add-i c).After-reach-reached).well-formed)
+overflow_add-i c = omega (arith, c.well_formed)
 
 pub loop-i-smaller : goal.loop-i-smaller
 loop-i-smaller c = omega arith
@@ -81,7 +77,7 @@ stored s = to_z-of_z w16 _ (record { sfits = s.from_held.type-inv }) ∙ s.from_
 
 pub loop-i-preserved : goal.loop-i-preserved
 loop-i-preserved c =
-    let a = (start (goal.at.loop-i-preserved c).After-reach-reached).args in
+    let a = c.args in
     let t = c.loop-i-test.true in
     inv-more a.width a.y a.column a.gray.now 0 a.near.corner a.work.now c.loop-i.work _ _ _ _ c.loop-i.i
     c.loop-i.invariant _ _ _
@@ -94,9 +90,9 @@ shape_of-work c = c.loop-i.invariant.long
 
 pub returns : goal.returns
 returns c =
-    let a = (start (goal.at.returns c).At-loop-i).args in
+    let a = c.args in
     let end = c.loop-i-test.false in
-    let some = (start (goal.at.returns c).At-loop-i).requires.0.some in
+    let some = c.requires.0.some in
     record {
       dots = inv-end a.width a.y a.column a.gray.now 0 a.near.corner a.work.now _ _ _ _ _ _ c.loop-i.invariant end some;
       near = inv-near a.width a.y a.column a.gray.now 0 a.near.corner a.work.now _ _ _ _ _ _ c.loop-i.invariant end some;

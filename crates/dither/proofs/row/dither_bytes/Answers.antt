@@ -8,25 +8,18 @@ use Rattle.dither.specs.Internal.Row.{Bytes}
 use Rattle.dither.proofs.ResidualFreeBytes.{residual-free-all}
 use Rattle.dither.proofs.DitherBytesLoop.{bytes-none, chain-start, chain_more, chain-end, byte_small, near-own}
 use Rattle.rules.proofs.ListPiece.{piece-length}
-use Rattle.dither.proofs.row.dither_bytes.Invariants.{entered, near}
+use Rattle.dither.proofs.row.dither_bytes.Invariants.{near}
 use Rattle.dither.proofs.row.dither_bytes.Goals as goal
 use Rattle.dither.proofs.row.dither_bytes.Goals.{After-over, After-reach, At-loop-k}
 
-abbrev start : tie.At-loop invariant-loop decreases-loop → tie.Start invariant-loop decreases-loop
-start l = entered l.before.before.before.before
-
--- where a turn of the loop began
-abbrev begun : tie.After-struct-known invariant-loop decreases-loop → tie.In-loop invariant-loop decreases-loop
-begun c = c.before.before.before.before.before.before
-
 -- there is a byte
-some : (o : After-over) → 0 < length (entered o).args.out.now
+some : (o : After-over) → 0 < length o.args.out.now
 some o = let e = o.if-count-eq0.false in omega (arith, e)
 
 -- the samples of the next byte
-there : (l : At-loop-k) → l.loop-k.k < length (start l).args.out.now
-    → 8 * l.loop-k.k + 8 ≤ length (start l).args.samples.now
-there l h = let s = start l in omega (arith, s.pre.there)
+there : (l : At-loop-k) → l.loop-k.k < length l.args.out.now
+    → 8 * l.loop-k.k + 8 ≤ length l.args.samples.now
+there l h = omega (arith, l.requires.there)
 
 pub returns-then-count-eq0 : goal.returns-then-count-eq0
 returns-then-count-eq0 c =
@@ -46,39 +39,38 @@ pub over-requires : goal.over-requires
 over-requires c = let s = c.before.before.before.before.before.before.before.before in omega (arith, c.reach.ensures.most, s.requires.room)
 
 pub overflow_mul-count : goal.overflow_mul-count
-overflow_mul-count c = let s = entered c in omega (arith, s.pre.there, s.good)
+overflow_mul-count c = omega (arith, c.requires.there, c.well_formed)
 
 pub residual_free-requires : goal.residual_free-requires
-residual_free-requires c = let s = entered (goal.at.residual_free-requires c).After-reach in (s.pre.there, omega (arith, s.pre.in_row, s.pre.room))
+residual_free-requires c = (c.requires.there, omega (arith, c.requires.in_row, c.requires.room))
 
 pub returns-then-residual_free : goal.returns-then-residual_free
 returns-then-residual_free c =
-    let s = entered (goal.at.returns-then-residual_free c).After-reach in
-    let a = s.args in
+    let a = c.args in
     let n = near (goal.at.returns-then-residual_free c).After-reach in
     subst
     (λ (out : List ℕ). Bytes dither a.width a.y a.column a.samples.now a.corner a.work.now (length a.out.now)
     out 128 a.work.now)
-    (sym (c.threshold_row_bytes.ensures.does s.pre.there))
+    (sym (c.threshold_row_bytes.ensures.does c.requires.there))
     (residual-free-all a.width a.y a.column a.corner a.samples.now (length a.out.now) a.work.now _
-    s.pre.there s.pre.in_row s.pre.room
+    c.requires.there c.requires.in_row c.requires.room
     (λ i. let f = c.shared_slice_known-1.given i in omega arith)
     n.left_is n.corner_is (c.residual_free.ensures c.if-residual_free.true) (some (goal.at.returns-then-residual_free c).After-reach))
 
 pub loop-k-init : goal.loop-k-init
 loop-k-init c =
-    let a = (entered (goal.at.loop-k-init c).After-reach).args in
+    let a = c.args in
     chain-start a.width a.y a.column a.samples.now a.corner a.work.now (length a.out.now) a.out.now _ refl
     (near (goal.at.loop-k-init c).After-reach)
 
 pub overflow_mul-from : goal.overflow_mul-from
-overflow_mul-from c = omega (arith, there (goal.at.overflow_mul-from c).At-loop-k c.loop-k-test.true, (start (goal.at.overflow_mul-from c).At-loop-k).well-formed)
+overflow_mul-from c = omega (arith, there (goal.at.overflow_mul-from c).At-loop-k c.loop-k-test.true, c.well_formed)
 
 pub overflow_add-end : goal.overflow_add-end
-overflow_add-end c = omega (arith, there (goal.at.overflow_add-end c).At-loop-k c.loop-k-test.true, (start (goal.at.overflow_add-end c).At-loop-k).well-formed)
+overflow_add-end c = omega (arith, there (goal.at.overflow_add-end c).At-loop-k c.loop-k-test.true, c.well_formed)
 
 pub overflow_add-column : goal.overflow_add-column
-overflow_add-column c = let s = start (goal.at.overflow_add-column c).At-loop-k in omega (arith, s.pre.in_row, s.pre.room, s.good)
+overflow_add-column c = omega (arith, c.requires.in_row, c.requires.room, c.well_formed)
 
 pub slice_bounds-dither_byte-count : goal.slice_bounds-dither_byte-count
 slice_bounds-dither_byte-count c = omega arith
@@ -91,46 +83,43 @@ slice_bounds-dither_byte-end c = there (goal.at.slice_bounds-dither_byte-end c).
 
 pub dither_byte-d-requires : goal.dither_byte-d-requires
 dither_byte-d-requires c =
-    let s = start (goal.at.dither_byte-d-requires c).At-loop-k in
-    let a = s.args in
+    let a = c.args in
     let i = c.loop-k.invariant in
     let n = piece-length a.samples.now (8 * c.loop-k.k) 8 (there (goal.at.dither_byte-d-requires c).At-loop-k c.loop-k-test.true) in (
       record {
         some = omega arith;
         packs = (omega arith, omega arith);
-        within = omega (arith, s.pre.in_row);
-        room = omega (arith, s.pre.room, i.work_long);
+        within = omega (arith, c.requires.in_row);
+        room = omega (arith, c.requires.room, i.work_long);
         small = i.near.corner_is.small;
       },
-      omega (arith, s.pre.in_row),
+      omega (arith, c.requires.in_row),
       near-own a.width a.y (a.column + 8 * c.loop-k.k) i.last c.loop-k.work _ i.near,
     )
 
 pub overflow_cast-out : goal.overflow_cast-out
 overflow_cast-out c =
-    let t = (begun c).loop-test.true in
-    let l = (begun c).before in
-    let a = (start l).args in
+    let t = c.loop-k-test.true in
+    let a = c.args in
     let b = byte_small a.width a.y a.column a.samples.now a.corner a.work.now (length a.out.now)
-    l.loop.out l.loop.work _ l.loop.k l.loop.inv t (there l t) _ _ c.dither_byte-d.ensures in
+    c.loop-k.out c.loop-k.work _ c.loop-k.k c.loop-k.invariant t (there (goal.at.overflow_cast-out c).At-loop-k t) _ _ c.dither_byte-d.ensures in
     omega (arith, b)
 
 pub bounds-out-k : goal.bounds-out-k
-bounds-out-k c = let l = (begun c).before in omega (arith, (begun c).loop-test.true, l.loop.inv.out_long)
+bounds-out-k c = omega (arith, c.loop-k-test.true, c.loop-k.invariant.out_long)
 
 pub overflow_add-k : goal.overflow_add-k
-overflow_add-k c = let l = (begun c).before in omega (arith, (begun c).loop-test.true, (start l).good)
+overflow_add-k c = omega (arith, c.loop-k-test.true, c.well_formed)
 
 pub loop-k-smaller : goal.loop-k-smaller
-loop-k-smaller c = omega (arith, (begun c).loop-test.true)
+loop-k-smaller c = omega (arith, c.loop-k-test.true)
 
 pub loop-k-preserved : goal.loop-k-preserved
 loop-k-preserved c =
-    let t = (begun c).loop-test.true in
-    let l = (begun c).before in
-    let a = (start l).args in
+    let t = c.loop-k-test.true in
+    let a = c.args in
     chain_more a.width a.y a.column a.samples.now a.corner a.work.now (length a.out.now)
-    l.loop.out l.loop.work _ l.loop.k l.loop.inv t (there l t) _ _ c.dither_byte-d.ensures
+    c.loop-k.out c.loop-k.work _ c.loop-k.k c.loop-k.invariant t (there (goal.at.loop-k-preserved c).At-loop-k t) _ _ c.dither_byte-d.ensures
 
 pub shape_of-out : goal.shape_of-out
 shape_of-out c = c.loop-k.invariant.out_long
@@ -140,7 +129,7 @@ shape_of-work c = c.loop-k.invariant.work_long
 
 pub returns : goal.returns
 returns c =
-    let a = (start (goal.at.returns c).At-loop-k).args in
+    let a = c.args in
     chain-end a.width a.y a.column a.samples.now a.corner a.work.now (length a.out.now) _ _ _ _ c.loop-k.invariant
     c.loop-k-test.false
     (some (goal.at.returns c).After-reach)

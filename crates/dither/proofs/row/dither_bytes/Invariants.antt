@@ -3,13 +3,9 @@ use Rattle.dither.specs.Internal.Row.{Near}
 use Rattle.dither.proofs.DitherBytesLoop.{Chain}
 use Rattle.dither.proofs.row.dither_bytes.Given as goal
 
--- the function's entry, from where the residuals next to the first dot are known
-abbrev pub entered : tie.After-over invariant-loop decreases-loop → tie.Start invariant-loop decreases-loop
-entered o = o.before.before.before.before.before.before.before.before.before
-
 -- the residuals next to the first dot
-near : (o : After-over)
-    → let a = (entered o).args in
+pub near : (o : After-over)
+    → let a = o.args in
     Near a.width a.y a.column a.corner a.work.now
     (record {
       left = o.left_of.result;
@@ -17,7 +13,7 @@ near : (o : After-over)
       above = o.over.result;
     })
 near o =
-    let a = (entered o).args in
+    let a = o.args in
     record {
       left_is = o.left_of.ensures;
       corner_is = o.corner_of.ensures;

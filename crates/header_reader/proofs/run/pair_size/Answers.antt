@@ -17,23 +17,20 @@ returns-then-header-eq0 c = inl refl
 pub returns-then-header-eq0-2 : goal.returns-then-header-eq0-2
 returns-then-header-eq0-2 c = inl refl
 
-abbrev called : tie.Else3 → tie.After-from-byte
-called c = c.before.before.before.before.before.before
-
 abbrev byte : tie.Else3 → ℕ
 byte c = (called c).before.args.byte
 
 pub overflow_add-result : goal.overflow_add-result
-overflow_add-result c = omega (arith, identifier-is (byte (goal.at.overflow_add-result c).Else-header-eq0-2) _ (called (goal.at.overflow_add-result c).Else-header-eq0-2).from_byte.ensures)
+overflow_add-result c = omega (arith, identifier-is (byte (goal.at.overflow_add-result c).Else-header-eq0-2) _ c.from_byte-header.ensures)
 
 pub overflow_add-result-2 : goal.overflow_add-result-2
 overflow_add-result-2 c =
-    let e = (called (goal.at.overflow_add-result-2 c).Else-header-eq0-2).from_byte.ensures in
+    let e = c.from_byte-header.ensures in
     omega (arith, identifier-is (byte (goal.at.overflow_add-result-2 c).Else-header-eq0-2) _ e, value-is (byte (goal.at.overflow_add-result-2 c).Else-header-eq0-2) _ e)
 
 pub returns : goal.returns
 returns c =
-    let e = (called (goal.at.returns c).Else-header-eq0-2).from_byte.ensures in
+    let e = c.from_byte-header.ensures in
     let i = identifier-is (byte (goal.at.returns c).Else-header-eq0-2) _ e in
     let v = value-is (byte (goal.at.returns c).Else-header-eq0-2) _ e in
     let g = leb-true 128 (byte (goal.at.returns c).Else-header-eq0-2) (sym (ap (λ (p : PairHeader). p.more) e) ∙ not-false _ c.if-not-header.false) in

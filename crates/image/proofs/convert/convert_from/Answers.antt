@@ -10,24 +10,21 @@ use Rattle.image.proofs.ConvertLoop.{unchanged, changed}
 use Rattle.image.proofs.InvertedBytes.{invert-length}
 use Rattle.image.proofs.PlaneSizes.{laid, total-is}
 use Rattle.image.proofs.convert.convert_from.Goals as goal
-use Rattle.image.proofs.convert.convert_from.Goals.{After-new-layout, Else-white_bit}
-
-abbrev start : tie.After-new → tie.Start
-start c = c.before.before.before
+use Rattle.image.proofs.convert.convert_from.Goals.{Else-white_bit}
 
 -- the formats differ
 other : (c : Else-white_bit)
-    → let a = (start (goal.at.NO_GOAL c).After-new-layout).args in
+    → let a = c.args in
     convert_rows a.width (row_bytes a.width) a.height 0 a.plane.now ≡ convert_format a.from a.to a.width a.height
     (row_bytes a.width) a.plane.now
 other c =
-    let a = (start (goal.at.NO_GOAL c).After-new-layout).args in
+    let a = c.args in
     changed a.from a.to a.width a.height (row_bytes a.width) a.plane.now
     (λ e. c.if-white_bit.false (c.white_bit.ensures ∙ sym e ∙ sym c.white_bit-2.ensures))
 
 pub returns-then-white_bit : goal.returns-then-white_bit
 returns-then-white_bit c =
-    let a = (start (goal.at.returns-then-white_bit c).After-new-layout).args in
+    let a = c.args in
     c.copy.ensures
     ∙ unchanged a.from a.to a.width a.height (row_bytes a.width) a.plane.now
     (sym c.white_bit-2.ensures ∙ sym c.if-white_bit.true ∙ c.white_bit.ensures)
@@ -35,11 +32,11 @@ returns-then-white_bit c =
 pub clear_rows-requires : goal.clear_rows-requires
 clear_rows-requires c =
     let l = laid c.new-layout.ensures in
-    (l, omega (arith, ap length c.invert_from.ensures, invert-length (start (goal.at.clear_rows-requires c).After-new-layout).args.plane.now, c.if-plane-layout.true, total-is l))
+    (l, omega (arith, ap length c.invert_from.ensures, invert-length c.args.plane.now, c.if-plane-layout.true, total-is l))
 
 pub returns-then-plane-layout : goal.returns-then-plane-layout
 returns-then-plane-layout c =
-    let a = (start (goal.at.returns-then-plane-layout c).After-new-layout).args in
+    let a = c.args in
     let e = total-is c.new-layout.ensures in
     c.clear_rows.ensures
     ∙ ap (clear_rows c.new-layout.result.width c.new-layout.result.height) c.invert_from.ensures
@@ -52,7 +49,7 @@ convert_rows-requires c = laid c.new-layout.ensures
 
 pub returns : goal.returns
 returns c =
-    let a = (start (goal.at.returns c).After-new-layout).args in
+    let a = c.args in
     c.convert_rows.ensures
     ∙ ap (convert_rows c.new-layout.result.width c.new-layout.result.stride c.new-layout.result.height 0) c.copy-2.ensures
     ∙ ap (λ (l : PlaneLayout). convert_rows l.width l.stride l.height 0 a.plane.now) c.new-layout.ensures

@@ -5,20 +5,12 @@ use native.Mathlib.Omega.{arith}
 use mathlib.Core.List.{List}
 use lib.Bits.{bit_and}
 use lib.ListN.{length, get_or, set}
-use Rattle.image.specs.Geometry.{row_bytes, plane_bytes, padding_mask}
+use Rattle.image.specs.Geometry.{row_bytes, plane_bytes}
 use Rattle.image.specs.Internal.Parts.{clear_rows}
 use Rattle.image.proofs.PackedAsRows.{clear-length, clear_none, clear_next}
 use Rattle.image.proofs.PlaneSizes as sizes
+use Rattle.image.proofs.packed.clear_rows.Invariants.{Clearing}
 use Rattle.image.proofs.packed.clear_rows.Goals as goal
-
--- the rows before y are cleared
-record Clearing (plane₀ : List ℕ) (w h row mask : ℕ) (plane : List ℕ) (y : ℕ) : Type 0 where
-  row_is : row ≡ row_bytes w
-  mask_is : mask ≡ padding_mask w
-  wide : 0 < row
-  room : plane_bytes w h ≤ length plane₀
-  within : y ≤ h
-  now_is : plane ≡ clear_rows w y plane₀
 
 module _ {plane₀ : List ℕ} {w h row mask : ℕ} {plane : List ℕ} {y : ℕ} (i : Clearing plane₀ w h row mask plane y) where
   kept : length plane ≡ length plane₀

@@ -18,28 +18,25 @@ use Rattle.image.proofs.WireRows.{wire-length}
 use Rattle.image.proofs.wire.wire_bits_at.Goals as goal
 use Rattle.image.proofs.wire.wire_bits_at.Goals.{After-new-layout, After-slice_known-1, After-wire_packed}
 
-abbrev start : tie.After-new → tie.Start
-start c = c.before.before.before
-
 abbrev whole : tie.After-new → List ℕ
 whole c = let a = (start c).args in wire_bits a.format a.width a.height a.stride a.plane.now
 
 -- the layout has as many bytes as the rows
-long : (c : After-new-layout) → length (whole c) ≡ plane_bytes (start c).args.width (start c).args.height
+long : (c : After-new-layout) → length (whole c) ≡ plane_bytes c.args.width c.args.height
 long c =
-    let a = (start c).args in
+    let a = c.args in
     wire-length a.format a.width a.stride a.plane.now a.height ∙ mul_comm a.height (row_bytes a.width)
 
-done : (c : After-new-layout) {new : List ℕ} → let n = c.new-layout.result.total_bytes in let old = (start c).args.out.now in
+done : (c : After-new-layout) {new : List ℕ} → let n = c.new-layout.result.total_bytes in let old = c.args.out.now in
     n ≤ length old → new ≡ whole c ++ drop n old → Emits (gives (whole c)) (gives n) old new
 done c h e =
     let s : c.new-layout.result.total_bytes ≡ length (whole c) = total-is c.new-layout.ensures ∙ sym (long c) in
-    emits-all (whole c) (start c).args.out.now _ _ (omega arith) s (e ∙ ap (λ n. whole c ++ drop n (start c).args.out.now) s)
+    emits-all (whole c) c.args.out.now _ _ (omega arith) s (e ∙ ap (λ n. whole c ++ drop n c.args.out.now) s)
 
 pub returns-then-out-total : goal.returns-then-out-total
 returns-then-out-total c =
     rw c.refused.ensures
-    (emits_none (whole (goal.at.returns-then-out-total c).After-new-layout) (start (goal.at.returns-then-out-total c).After-new-layout).args.out.now (omega (arith, long (goal.at.returns-then-out-total c).After-new-layout, total-is c.new-layout.ensures, c.if-out-total.true)))
+    (emits_none (whole (goal.at.returns-then-out-total c).After-new-layout) c.args.out.now (omega (arith, long (goal.at.returns-then-out-total c).After-new-layout, total-is c.new-layout.ensures, c.if-out-total.true)))
 
 pub slice_bounds-wire_packed-end : goal.slice_bounds-wire_packed-end
 slice_bounds-wire_packed-end c = sym (length-take-le _ _ c.if-total-plane.true)
@@ -54,7 +51,7 @@ wire_packed-requires c =
 
 pub returns-then-total-plane : goal.returns-then-total-plane
 returns-then-total-plane c =
-    let a = (start (goal.at.returns-then-total-plane c).After-slice_known-1).args in
+    let a = c.args in
     let s : a.stride ≡ row_bytes a.width = c.if-stride-row.true ∙ stride-is c.new-layout.ensures in
     done (goal.at.returns-then-total-plane c).After-slice_known-1 c.if-out-total.false
     (ap (λ l. l ++ drop c.new-layout.result.total_bytes a.out.now)
@@ -71,7 +68,7 @@ wire_rows-requires c =
 
 pub returns : goal.returns
 returns c =
-    let a = (start (goal.at.returns c).After-new-layout).args in
+    let a = c.args in
     done (goal.at.returns c).After-new-layout c.if-out-total.false
     (c.wire_rows.ensures
     ∙ ap (λ (l : PlaneLayout). wire_bits a.format l.width l.height a.stride a.plane.now ++ drop

@@ -10,28 +10,25 @@ use Rattle.rules.proofs.DigitsAppended.{bit_le, one_more, appended-fits}
 use Rattle.ordered.proofs.dots.ordered_dots.Goals as goal
 use Rattle.ordered.proofs.dots.ordered_dots.Goals.{After-ordered_dot, At-loop-i}
 
-abbrev start : tie.At-loop invariant-loop decreases-loop → tie.Start invariant-loop decreases-loop
-start l = l.before.before
-
 low : (l : At-loop-i) → l.loop-i.digits < 65536
 low l =
-    let a = (start l).args in
+    let a = l.args in
     subst (λ (n : ℕ). n < 65536) (sym l.loop-i.invariant.1)
     (appended-fits a.begun (ordered_bit a.side a.table.now a.y a.column a.gray.now)
     (λ i. bit_le (leb (bound a.side (cell a.side a.table.now (a.column + i) a.y)) (get_or a.gray.now i 0)))
-    (length a.gray.now) l.loop-i.i (start l).requires.packs l.loop-i.invariant.0)
+    (length a.gray.now) l.loop-i.i l.requires.packs l.loop-i.invariant.0)
 
 dot-is : (c : After-ordered_dot) →
-    let a = (start (goal.at.overflow_add-digits c).At-loop-i).args in
+    let a = c.args in
     c.ordered_dot.result ≡ ordered_bit a.side a.table.now a.y a.column a.gray.now c.loop-i.i
 dot-is c =
-    let a = (start (goal.at.overflow_add-digits c).At-loop-i).args in
+    let a = c.args in
     c.ordered_dot.ensures
     ∙ ap (λ (n : ℕ). bit (leb (bound a.side n) (get_or a.gray.now c.loop-i.i 0))) c.cell_at-n.ensures
 
 dot-le : (c : After-ordered_dot) → c.ordered_dot.result ≤ 1
 dot-le c =
-    let a = (start (goal.at.overflow_add-digits c).At-loop-i).args in
+    let a = c.args in
     subst (λ (n : ℕ). n ≤ 1) (sym (dot-is c))
     (bit_le (leb (bound a.side (cell a.side a.table.now (a.column + c.loop-i.i) a.y)) (get_or a.gray.now c.loop-i.i 0)))
 
@@ -40,10 +37,10 @@ unfolding appended
 loop-i-init c = (omega arith, refl)
 
 pub overflow_add-column : goal.overflow_add-column
-overflow_add-column c = omega (arith, (start (goal.at.overflow_add-column c).At-loop-i).pre.fits)
+overflow_add-column c = omega (arith, c.requires.fits)
 
 pub cell_at-n-requires : goal.cell_at-n-requires
-cell_at-n-requires c = (start (goal.at.cell_at-n-requires c).At-loop-i).pre.known
+cell_at-n-requires c = c.requires.known
 
 pub overflow_mul-digits : goal.overflow_mul-digits
 overflow_mul-digits c = omega (arith, low (goal.at.overflow_mul-digits c).At-loop-i)
@@ -52,7 +49,7 @@ pub bounds-gray-i : goal.bounds-gray-i
 bounds-gray-i c = omega arith
 
 pub ordered_dot-requires : goal.ordered_dot-requires
-ordered_dot-requires c = (start (goal.at.ordered_dot-requires c).At-loop-i).pre.known
+ordered_dot-requires c = c.requires.known
 
 pub overflow_add-digits : goal.overflow_add-digits
 overflow_add-digits c = omega (arith, low (goal.at.overflow_add-digits c).At-loop-i, dot-le c)
@@ -65,13 +62,13 @@ loop-i-smaller c = omega arith
 
 pub loop-i-preserved : goal.loop-i-preserved
 loop-i-preserved c =
-    let a = (start (goal.at.loop-i-preserved c).At-loop-i).args in
+    let a = c.args in
     let more = one_more a.begun (ordered_bit a.side a.table.now a.y a.column a.gray.now) c.loop-i.i c.loop-i.digits
     c.ordered_dot.result c.loop-i.invariant.1 (dot-is c) in
     (omega arith, more)
 
 pub returns : goal.returns
 returns c =
-    let a = (start (goal.at.returns c).At-loop-i).args in
+    let a = c.args in
     let e : c.loop-i.i ≡ length a.gray.now = omega arith in
     c.loop-i.invariant.1 ∙ ap (appended a.begun (ordered_bit a.side a.table.now a.y a.column a.gray.now)) e

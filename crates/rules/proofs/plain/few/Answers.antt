@@ -8,16 +8,13 @@ use Rattle.rules.proofs.Words.{bytes_lt, bytes_next}
 use Rattle.rules.proofs.plain.few.Goals as goal
 use Rattle.rules.proofs.plain.few.Goals.{After-shared_slice_known-1, At-loop-i}
 
-abbrev start : tie.At-loop invariant-loop decreases-loop → tie.Start invariant-loop decreases-loop
-start l = l.before
-
 -- the samples so far fit seven bytes
-low : (l : At-loop-i) → Below 256 (samples_from (start l).args.gray.now (start l).args.at)
-    → l.loop-i.i < (start l).args.count → l.loop-i.samples < 2 ^ 56
+low : (l : At-loop-i) → Below 256 (samples_from l.args.gray.now l.args.at)
+    → l.loop-i.i < l.args.count → l.loop-i.samples < 2 ^ 56
 low l small h =
     subst (λ (n : ℕ). n < 2 ^ 56) (sym l.loop-i.invariant.1)
-    (lt_of_lt_of_le (bytes_lt (samples_from (start l).args.gray.now (start l).args.at) small l.loop-i.i)
-    (pow_mono {i = 8 * l.loop-i.i} {j = 56} (omega (arith, (start l).requires.1))))
+    (lt_of_lt_of_le (bytes_lt (samples_from l.args.gray.now l.args.at) small l.loop-i.i)
+    (pow_mono {i = 8 * l.loop-i.i} {j = 56} (omega (arith, l.requires.1))))
 
 pub loop-i-init : goal.loop-i-init
 unfolding bytes
@@ -30,18 +27,18 @@ pub bounds-gray-j : goal.bounds-gray-j
 bounds-gray-j c = omega arith
 
 pub overflow_cast-sample : goal.overflow_cast-sample
-overflow_cast-sample c = omega (arith, c.shared_slice_known-1.given ((start (goal.at.overflow_cast-sample c).At-loop-i).args.at + c.loop-i.i))
+overflow_cast-sample c = omega (arith, c.shared_slice_known-1.given (c.args.at + c.loop-i.i))
 
 -- with the next sample at hand
 next_low : (c : After-shared_slice_known-1) → c.loop-i.samples < 2 ^ 56
 next_low c =
-    low (goal.at.overflow_cast-sample c).At-loop-i (λ i. omega (arith, c.shared_slice_known-1.given ((start (goal.at.overflow_cast-sample c).At-loop-i).args.at + i))) c.loop-i-test.true
+    low (goal.at.overflow_cast-sample c).At-loop-i (λ i. omega (arith, c.shared_slice_known-1.given (c.args.at + i))) c.loop-i-test.true
 
 pub overflow_mul-samples : goal.overflow_mul-samples
 overflow_mul-samples c = omega (arith, next_low c)
 
 pub overflow_add-samples : goal.overflow_add-samples
-overflow_add-samples c = omega (arith, c.shared_slice_known-1.given ((start (goal.at.overflow_add-samples c).At-loop-i).args.at + c.loop-i.i), next_low c)
+overflow_add-samples c = omega (arith, c.shared_slice_known-1.given (c.args.at + c.loop-i.i), next_low c)
 
 pub overflow_add-i : goal.overflow_add-i
 overflow_add-i c = omega arith
@@ -51,10 +48,10 @@ loop-i-smaller c = omega arith
 
 pub loop-i-preserved : goal.loop-i-preserved
 loop-i-preserved c =
-    let f : ℕ → ℕ = samples_from (start (goal.at.loop-i-preserved c).At-loop-i).args.gray.now (start (goal.at.loop-i-preserved c).At-loop-i).args.at in
+    let f : ℕ → ℕ = samples_from c.args.gray.now c.args.at in
     (omega arith, bytes_next f c.loop-i.i c.loop-i.samples c.loop-i.invariant.1)
 
 pub returns : goal.returns
 returns c =
-    let e : c.loop-i.i ≡ (start (goal.at.returns c).At-loop-i).args.count = omega (arith, c.loop-i.invariant.0) in
-    c.loop-i.invariant.1 ∙ ap (bytes (samples_from (start (goal.at.returns c).At-loop-i).args.gray.now (start (goal.at.returns c).At-loop-i).args.at)) e
+    let e : c.loop-i.i ≡ c.args.count = omega (arith, c.loop-i.invariant.0) in
+    c.loop-i.invariant.1 ∙ ap (bytes (samples_from c.args.gray.now c.args.at)) e

@@ -5,22 +5,17 @@ use Rattle.rules.proofs.PlaneWritten.{rows_none, rows-length, word-there, two-ro
 use Rattle.rules.proofs.plane.narrow_rows.Goals as goal
 use Rattle.rules.proofs.plane.narrow_rows.Goals.{At-loop-y, In-loop-y}
 
-abbrev start : tie.At-loop invariant-loop decreases-loop → tie.Start invariant-loop decreases-loop
-start l = l.before.before.before
-
-narrow : (l : At-loop-y) → (start l).args.width < 5
-narrow l = (start l).requires.1.1
+narrow : (l : At-loop-y) → l.args.width < 5
+narrow l = l.requires.1.1
 
 -- the eight samples of two rows, and their bytes
-word : (i : In-loop-y) → i.loop-y.at + 8 ≤ length (start (goal.at.byte-dots-requires i).At-loop-y).args.gray.now
+word : (i : In-loop-y) → i.loop-y.at + 8 ≤ length i.args.gray.now
 word i =
-    let s = start (goal.at.byte-dots-requires i).At-loop-y in
-    omega (arith, narrow (goal.at.byte-dots-requires i).At-loop-y, word-there s.pre.0 i.loop-y.invariant s.pre.1.0 (omega (arith, i.loop-y-test.true)))
+    omega (arith, narrow (goal.at.byte-dots-requires i).At-loop-y, word-there i.requires.0 i.loop-y.invariant i.requires.1.0 (omega (arith, i.loop-y-test.true)))
 
 room : (i : In-loop-y) → i.loop-y.y + 2 ≤ length i.loop-y.out
 room i =
-    let s = start (goal.at.byte-dots-requires i).At-loop-y in
-    two-room s.pre.0 i.loop-y.invariant s.pre.1.0 (narrow (goal.at.byte-dots-requires i).At-loop-y) (omega (arith, i.loop-y-test.true))
+    two-room i.requires.0 i.loop-y.invariant i.requires.1.0 (narrow (goal.at.byte-dots-requires i).At-loop-y) (omega (arith, i.loop-y-test.true))
 
 pub loop-y-init : goal.loop-y-init
 loop-y-init c = let a = c.args in rows_none a.bound a.width a.height a.gray.now a.out.now
@@ -63,12 +58,11 @@ loop-y-smaller c = omega arith
 
 pub loop-y-preserved : goal.loop-y-preserved
 loop-y-preserved c =
-    let s = start (goal.at.loop-y-preserved c).At-loop-y in
-    two-more s.pre.0 c.loop-y.invariant s.pre.1.0 (narrow (goal.at.loop-y-preserved c).At-loop-y) (omega (arith, c.loop-y-test.true)) c.byte-dots.result
-    s.args.mask s.pre.1.2 c.byte-dots.ensures
+    two-more c.requires.0 c.loop-y.invariant c.requires.1.0 (narrow (goal.at.loop-y-preserved c).At-loop-y) (omega (arith, c.loop-y-test.true)) c.byte-dots.result
+    c.args.mask c.requires.1.2 c.byte-dots.ensures
 
 pub shape_of-out : goal.shape_of-out
-shape_of-out c = let s = start (goal.at.shape_of-out c).At-loop-y in rows-length s.pre.0 c.loop-y.invariant
+shape_of-out c = rows-length c.requires.0 c.loop-y.invariant
 
 pub returns : goal.returns
 returns c = (c.loop-y.invariant.within, c.loop-y.invariant.out_is)

@@ -6,57 +6,46 @@ use Rattle.image.specs.Geometry.{row_bytes}
 use Rattle.rules.proofs.PlaneWritten.{RowsTo, rows-some, rows-length, rows-there, rows-room, rows-ended}
 use Rattle.rules.proofs.PlaneWritten.{row-there, row_room, row_more}
 use Rattle.rules.proofs.plane.threshold_rows.Goals as goal
-use Rattle.rules.proofs.plane.threshold_rows.Goals.{After-front_rows-y, At-loop-y, In-loop-y}
+use Rattle.rules.proofs.plane.threshold_rows.Goals.{At-loop-y, In-loop-y}
 
-abbrev begun : tie.After-front-rows invariant-loop decreases-loop → tie.Start invariant-loop decreases-loop
-begun n = n.before.before.before.before
-
-abbrev start : tie.At-loop invariant-loop decreases-loop → tie.Start invariant-loop decreases-loop
-start l = begun l.before.before.before
-
-inv : (l : At-loop-y) → let a = (start l).args in
+inv : (l : At-loop-y) → let a = l.args in
     RowsTo a.bound a.width a.height a.gray.now a.out.now l.loop-y.out l.loop-y.at l.loop-y.to l.loop-y.y
 inv l =
-    let s = begun (goal.at.NO_GOAL l).After-front_rows-y in
-    l.loop-y.invariant s.args.out.now s.pre.0 (rows-some s.pre.1.1 l.front_rows-y.ensures)
+    l.loop-y.invariant l.args.out.now l.requires.0 (rows-some l.requires.1.1 l.front_rows-y.ensures)
 
-odd : (l : At-loop-y) → 0 < (start l).args.width % 8
-odd l = (start l).requires.1.1
+odd : (l : At-loop-y) → 0 < l.args.width % 8
+odd l = l.requires.1.1
 
-same : (l : At-loop-y) → length l.loop-y.out ≡ length (start l).args.out.now
-same l = let s = start l in rows-length s.pre.0 (inv l)
+same : (l : At-loop-y) → length l.loop-y.out ≡ length l.args.out.now
+same l = rows-length l.requires.0 (inv l)
 
 -- a row's samples and bytes
 there : (i : In-loop-y)
-    → i.loop-y.at + (start (goal.at.NO_GOAL i).At-loop-y).args.width ≤ length (start (goal.at.NO_GOAL i).At-loop-y).args.gray.now
+    → i.loop-y.at + i.args.width ≤ length i.args.gray.now
 there i =
-    let s = start (goal.at.NO_GOAL i).At-loop-y in
-    row-there s.pre.0 (inv (goal.at.NO_GOAL i).At-loop-y) i.loop-y-test.true
+    row-there i.requires.0 (inv (goal.at.NO_GOAL i).At-loop-y) i.loop-y-test.true
 
 room : (i : In-loop-y)
-    → i.loop-y.to + row_bytes (start (goal.at.NO_GOAL i).At-loop-y).args.width ≤ length i.loop-y.out
+    → i.loop-y.to + row_bytes i.args.width ≤ length i.loop-y.out
 room i =
-    let s = start (goal.at.NO_GOAL i).At-loop-y in
-    row_room s.pre.0 (inv (goal.at.NO_GOAL i).At-loop-y) i.loop-y-test.true
+    row_room i.requires.0 (inv (goal.at.NO_GOAL i).At-loop-y) i.loop-y-test.true
 
 pub front_rows-y-requires : goal.front_rows-y-requires
 front_rows-y-requires c = c.requires
 
 pub overflow_mul-at : goal.overflow_mul-at
 overflow_mul-at c =
-    let s = begun (goal.at.overflow_mul-at c).After-front_rows-y in
-    let a = s.args in
-    omega (arith, rows-there a.width a.height (length a.gray.now) _ s.pre.0.0 c.front_rows-y.ensures.0, s.good)
+    let a = c.args in
+    omega (arith, rows-there a.width a.height (length a.gray.now) _ c.requires.0.0 c.front_rows-y.ensures.0, c.well_formed)
 
 pub overflow_add-to : goal.overflow_add-to
 overflow_add-to c = omega arith
 
 pub overflow_mul-to : goal.overflow_mul-to
 overflow_mul-to c =
-    let s = begun (goal.at.overflow_mul-to c).After-front_rows-y in
-    let a = s.args in
+    let a = c.args in
     omega
-    (arith, rows-room a.width a.height (length a.out.now) _ s.pre.0.1 c.front_rows-y.ensures.0 s.pre.1.1, s.good)
+    (arith, rows-room a.width a.height (length a.out.now) _ c.requires.0.1 c.front_rows-y.ensures.0 c.requires.1.1, c.well_formed)
 
 pub loop-y-init : goal.loop-y-init
 loop-y-init c before f r = r
@@ -71,7 +60,7 @@ pub overflow_add-to-in-loop-y : goal.overflow_add-to-in-loop-y
 overflow_add-to-in-loop-y c = omega arith
 
 pub overflow_add-to-in-loop-y-2 : goal.overflow_add-to-in-loop-y-2
-overflow_add-to-in-loop-y-2 c = omega (arith, room (goal.at.overflow_add-to-in-loop-y-2 c).In-loop-y, odd (goal.at.overflow_add-to-in-loop-y-2 c).At-loop-y, same (goal.at.overflow_add-to-in-loop-y-2 c).At-loop-y, (start (goal.at.overflow_add-to-in-loop-y-2 c).At-loop-y).good)
+overflow_add-to-in-loop-y-2 c = omega (arith, room (goal.at.overflow_add-to-in-loop-y-2 c).In-loop-y, odd (goal.at.overflow_add-to-in-loop-y-2 c).At-loop-y, same (goal.at.overflow_add-to-in-loop-y-2 c).At-loop-y, c.well_formed)
 
 pub overflow_add-y : goal.overflow_add-y
 overflow_add-y c = omega arith
@@ -86,4 +75,4 @@ pub shape_of-out : goal.shape_of-out
 shape_of-out c = same (goal.at.shape_of-out c).At-loop-y
 
 pub returns : goal.returns
-returns c = let s = start (goal.at.returns c).At-loop-y in rows-ended s.pre.0 (inv (goal.at.returns c).At-loop-y) c.loop-y-test.false
+returns c = rows-ended c.requires.0 (inv (goal.at.returns c).At-loop-y) c.loop-y-test.false

@@ -8,33 +8,27 @@ use Rattle.rules.proofs.PlaneWritten.{row-there, row_room, word-there, row_more}
 use Rattle.rules.proofs.plane.wide_rows.Goals as goal
 use Rattle.rules.proofs.plane.wide_rows.Goals.{At-loop-y, In-loop-y}
 
-abbrev start : tie.At-loop invariant-loop decreases-loop → tie.Start invariant-loop decreases-loop
-start l = l.before.before.before
+odd : (l : At-loop-y) → 0 < l.args.width % 8
+odd l = l.requires.1.1
 
-odd : (l : At-loop-y) → 0 < (start l).args.width % 8
-odd l = (start l).requires.1.1
-
-same : (l : At-loop-y) → length l.loop-y.out ≡ length (start l).args.out.now
-same l = let s = start l in rows-length s.pre.0 l.loop-y.invariant
+same : (l : At-loop-y) → length l.loop-y.out ≡ length l.args.out.now
+same l = rows-length l.requires.0 l.loop-y.invariant
 
 -- a row's samples and bytes, and the eight samples at its end
 there : (i : In-loop-y)
-    → i.loop-y.at + (start (goal.at.NO_GOAL i).At-loop-y).args.width ≤ length (start (goal.at.NO_GOAL i).At-loop-y).args.gray.now
+    → i.loop-y.at + i.args.width ≤ length i.args.gray.now
 there i =
-    let s = start (goal.at.NO_GOAL i).At-loop-y in
-    row-there s.pre.0 i.loop-y.invariant (omega arith)
+    row-there i.requires.0 i.loop-y.invariant (omega arith)
 
 room : (i : In-loop-y)
-    → i.loop-y.to + row_bytes (start (goal.at.NO_GOAL i).At-loop-y).args.width ≤ length i.loop-y.out
+    → i.loop-y.to + row_bytes i.args.width ≤ length i.loop-y.out
 room i =
-    let s = start (goal.at.NO_GOAL i).At-loop-y in
-    row_room s.pre.0 i.loop-y.invariant (omega arith)
+    row_room i.requires.0 i.loop-y.invariant (omega arith)
 
 word : (i : In-loop-y)
-    → i.loop-y.at + 8 * ((start (goal.at.NO_GOAL i).At-loop-y).args.width / 8) + 8 ≤ length (start (goal.at.NO_GOAL i).At-loop-y).args.gray.now
+    → i.loop-y.at + 8 * (i.args.width / 8) + 8 ≤ length i.args.gray.now
 word i =
-    let s = start (goal.at.NO_GOAL i).At-loop-y in
-    word-there s.pre.0 i.loop-y.invariant s.pre.1.0 i.loop-y-test.true
+    word-there i.requires.0 i.loop-y.invariant i.requires.1.0 i.loop-y-test.true
 
 pub loop-y-init : goal.loop-y-init
 loop-y-init c = let a = c.args in rows_none a.bound a.width a.height a.gray.now a.out.now
@@ -52,7 +46,7 @@ pub overflow_add-to : goal.overflow_add-to
 overflow_add-to c = omega arith
 
 pub overflow_add-to-in-loop-y : goal.overflow_add-to-in-loop-y
-overflow_add-to-in-loop-y c = omega (arith, room (goal.at.overflow_add-to-in-loop-y c).In-loop-y, odd (goal.at.overflow_add-to-in-loop-y c).At-loop-y, same (goal.at.overflow_add-to-in-loop-y c).At-loop-y, (start (goal.at.overflow_add-to-in-loop-y c).At-loop-y).good)
+overflow_add-to-in-loop-y c = omega (arith, room (goal.at.overflow_add-to-in-loop-y c).In-loop-y, odd (goal.at.overflow_add-to-in-loop-y c).At-loop-y, same (goal.at.overflow_add-to-in-loop-y c).At-loop-y, c.well_formed)
 
 pub overflow_add-y : goal.overflow_add-y
 overflow_add-y c = omega arith
@@ -62,11 +56,10 @@ loop-y-smaller c = omega arith
 
 pub loop-y-preserved : goal.loop-y-preserved
 loop-y-preserved c =
-    let s = start (goal.at.loop-y-preserved c).At-loop-y in
-    let a = s.args in
-    row_more s.pre.0 c.loop-y.invariant _ (odd (goal.at.loop-y-preserved c).At-loop-y) (omega arith)
+    let a = c.args in
+    row_more c.requires.0 c.loop-y.invariant _ (odd (goal.at.loop-y-preserved c).At-loop-y) (omega arith)
     (c.threshold_row.ensures
-    ∙ masked_row-is a.bound a.width a.gray.now c.loop-y.at c.loop-y.out c.loop-y.to a.mask (odd (goal.at.loop-y-preserved c).At-loop-y) s.pre.1.2)
+    ∙ masked_row-is a.bound a.width a.gray.now c.loop-y.at c.loop-y.out c.loop-y.to a.mask (odd (goal.at.loop-y-preserved c).At-loop-y) c.requires.1.2)
 
 pub shape_of-out : goal.shape_of-out
 shape_of-out c = same (goal.at.shape_of-out c).At-loop-y

@@ -13,10 +13,7 @@ use Rattle.quantize.proofs.TurnTakes.{end_fits, taking, took-room, loop-took}
 use Rattle.quantize.proofs.BytesAtOnce.{loop-filled}
 use Rattle.quantize.proofs.RunEnd.{none_told, full-byte, end-told}
 use Rattle.quantize.proofs.engine.Quantizer.run.Goals as goal
-use Rattle.quantize.proofs.engine.Quantizer.run.Goals.{After-shared_slice_known-1, After-work-1, Else-m-eq0, Then-t}
-
-abbrev start : tie.At-loop invariant-loop decreases-loop → tie.Start invariant-loop decreases-loop
-start l = l.before.before.before.before.before.before.before
+use Rattle.quantize.proofs.engine.Quantizer.run.Goals.{After-shared_slice_known-1, After-work-1, At-loop-p, Else-m-eq0, Then-t}
 
 -- samples are bytes
 octets : (l : After-shared_slice_known-1) (i : ℕ) → get_or l.args.samples.now i 0 < 256
@@ -26,43 +23,27 @@ octets l i = let f = l.shared_slice_known-1.given i in omega arith
 by_bytes : (q : Quantizer) (row : ℕ) → Bytewise (rule_of q.rule q.table) row
 by_bytes q row = bytewise (rule_of q.rule q.table) row
 
--- where a turn of the loop is run, once whole bytes are filled in, and where it began
-abbrev running : tie.After-work invariant-loop decreases-loop → tie.Then2 invariant-loop decreases-loop
-running f = f.before.before.before.before.before.before.before
-
-abbrev looped : tie.After-work invariant-loop decreases-loop → tie.At-loop invariant-loop decreases-loop
-looped f = (running f).before.before
-
 -- the loop's invariant once whole bytes are filled in
 mid : (f : After-work-1)
-    → let l = looped f in
-    let r = f.fill_row-f in
-    Loop (start l).args.self (start l).args.samples.now (start l).args.out.now (start l).args.work.now
-    (put_mid l.loop.written (length l.loop.out - l.loop.written) l.loop.out r.new.1.1.1.1.0)
+    → let r = f.fill_row-f in
+    Loop f.args.self f.args.samples.now f.args.out.now f.args.work.now
+    (put_mid f.loop-p.written (length f.loop-p.out - f.loop-p.written) f.loop-p.out r.new.1.1.1.1.0)
     r.new.1.1.1.1.1.0
     (record {
-      frames = l.loop.p.frames;
-      row = l.loop.p.row;
-      column = l.loop.p.column + 8 * r.result.count;
-      begun = l.loop.p.begun;
+      frames = f.loop-p.p.frames;
+      row = f.loop-p.p.row;
+      column = f.loop-p.p.column + 8 * r.result.count;
+      begun = f.loop-p.p.begun;
       corner = r.result.corner;
     })
-    (l.loop.taken + 8 * r.result.count) (l.loop.written + r.result.count)
+    (f.loop-p.taken + 8 * r.result.count) (f.loop-p.written + r.result.count)
 mid f =
-    let l = looped f in
     let r = f.fill_row-f in
-    let q = (start l).args.self in
-    loop-filled q (omega (arith, (start l).good)) (start l).args.samples.now (start l).args.out.now (start l).args.work.now
-    l.loop.out l.loop.work l.loop.p
-    l.loop.taken l.loop.written l.loop.inv (running f).if2.true (by_bytes q l.loop.p.row)
+    let q = f.args.self in
+    loop-filled q (omega (arith, f.well_formed)) f.args.samples.now f.args.out.now f.args.work.now
+    f.loop-p.out f.loop-p.work f.loop-p.p
+    f.loop-p.taken f.loop-p.written f.loop-p.invariant f.loop-p-test.true (by_bytes q f.loop-p.p.row)
     r.result r.new.1.1.1.1.0 r.new.1.1.1.1.1.0 r.ensures
-
--- where a samples-for-byte of the samples is taken: the whole bytes were filled in before
-abbrev filled : tie.Else3 invariant-loop decreases-loop → tie.After-work invariant-loop decreases-loop
-filled e = e.before.before.before.before.before.before
-
-abbrev begun : tie.Else3 invariant-loop decreases-loop → tie.Start invariant-loop decreases-loop
-begun e = start (looped (filled e))
 
 pub can_take-requires : goal.can_take-requires
 can_take-requires c = tt
@@ -103,19 +84,19 @@ fill_row-f-requires c =
     record { in_row = so.in_row; small = so.corner_small; served = so.served }
 
 pub overflow_mul-taken : goal.overflow_mul-taken
-overflow_mul-taken c = omega (arith, (mid (goal.at.overflow_mul-taken c).After-work-1).taken_fits, (start (looped (goal.at.overflow_mul-taken c).After-work-1)).good)
+overflow_mul-taken c = omega (arith, (mid (goal.at.overflow_mul-taken c).After-work-1).taken_fits, (start (goal.at.overflow_mul-taken c).At-loop-p).good)
 
 pub overflow_add-taken : goal.overflow_add-taken
-overflow_add-taken c = omega (arith, (mid (goal.at.overflow_add-taken c).After-work-1).taken_fits, (start (looped (goal.at.overflow_add-taken c).After-work-1)).good)
+overflow_add-taken c = omega (arith, (mid (goal.at.overflow_add-taken c).After-work-1).taken_fits, (start (goal.at.overflow_add-taken c).At-loop-p).good)
 
 pub overflow_add-written : goal.overflow_add-written
-overflow_add-written c = omega (arith, (mid (goal.at.overflow_add-written c).After-work-1).written_fits, (start (looped (goal.at.overflow_add-written c).After-work-1)).good)
+overflow_add-written c = omega (arith, (mid (goal.at.overflow_add-written c).After-work-1).written_fits, (start (goal.at.overflow_add-written c).At-loop-p).good)
 
 pub overflow_mul-p : goal.overflow_mul-p
-overflow_mul-p c = omega (arith, (mid (goal.at.overflow_mul-p c).After-work-1).taken_fits, (start (looped (goal.at.overflow_mul-p c).After-work-1)).good)
+overflow_mul-p c = omega (arith, (mid (goal.at.overflow_mul-p c).After-work-1).taken_fits, (start (goal.at.overflow_mul-p c).At-loop-p).good)
 
 pub overflow_add-p : goal.overflow_add-p
-overflow_add-p c = omega (arith, (mid (goal.at.overflow_add-p c).After-work-1).turn.sound.in_row, (start (looped (goal.at.overflow_add-p c).After-work-1)).good)
+overflow_add-p c = omega (arith, (mid (goal.at.overflow_add-p c).After-work-1).turn.sound.in_row, (start (goal.at.overflow_add-p c).At-loop-p).good)
 
 pub overflow_sub-samples : goal.overflow_sub-samples
 overflow_sub-samples c = (mid (goal.at.overflow_sub-samples c).After-work-1).taken_fits
@@ -137,22 +118,21 @@ shape_of-work-then-m-eq0 c = (mid (goal.at.shape_of-work-then-m-eq0 c).After-wor
 
 pub returns-then-m-eq0 : goal.returns-then-m-eq0
 returns-then-m-eq0 c =
-    let l = looped (goal.at.returns-then-m-eq0 c).After-work-1 in
-    let o = octets l.before.before.before.before.before.before in
+    let o = octets (goal.at.returns-then-m-eq0 c).After-shared_slice_known-1 in
     end-told _ _ _ _ _ _ _ _ _ (mid (goal.at.returns-then-m-eq0 c).After-work-1) o
-    (full-byte _ _ _ _ _ _ _ _ _ (mid (goal.at.returns-then-m-eq0 c).After-work-1) o _ (running (goal.at.returns-then-m-eq0 c).After-work-1).if2.true (by_bytes (start l).args.self l.loop.p.row)
+    (full-byte _ _ _ _ _ _ _ _ _ (mid (goal.at.returns-then-m-eq0 c).After-work-1) o _ c.loop-p-test.true (by_bytes c.args.self c.loop-p.p.row)
     c.samples_for_byte-m.ensures c.if-m-eq0.true)
     c.ran-then-m-eq0.result c.ran-then-m-eq0.ensures
 
 -- the samples-for-byte's samples are there
 there : (e : Else-m-eq0)
-    → (looped (filled e)).loop.taken + 8 * (filled e).before.before.before.fill-row.result.count + e.samples_for_byte-m.result
-    ≤ length (begun e).args.samples.now
+    → (looped (goal.at.overflow_add-end e).After-work-1).loop.taken + 8 * e.fill_row-f.result.count + e.samples_for_byte-m.result
+    ≤ length e.args.samples.now
 there e =
-    end_fits _ _ _ _ _ _ _ _ _ (mid (filled e)) (running (filled e)).if2.taken _ e.samples_for_byte-m.ensures e.if-m-eq0.false
+    end_fits _ _ _ _ _ _ _ _ _ (mid (goal.at.overflow_add-end e).After-work-1) (running (goal.at.overflow_add-end e).After-work-1).if2.taken _ e.samples_for_byte-m.ensures e.if-m-eq0.false
 
 pub overflow_add-end : goal.overflow_add-end
-overflow_add-end c = omega (arith, there c, (begun c).well-formed)
+overflow_add-end c = omega (arith, there c, c.well_formed)
 
 pub slice_bounds-take-count : goal.slice_bounds-take-count
 slice_bounds-take-count c = omega arith
@@ -165,34 +145,32 @@ slice_bounds-take-end c = there (goal.at.slice_bounds-take-end c).Else-m-eq0
 
 pub take-t-requires : goal.take-t-requires
 take-t-requires c =
-    taking _ _ _ _ _ _ _ _ _ (mid (filled (goal.at.take-t-requires c).Else-m-eq0)) (running (filled (goal.at.take-t-requires c).Else-m-eq0)).if2.taken _ c.samples_for_byte-m.ensures c.if-m-eq0.false
-    (omega (arith, (begun (goal.at.take-t-requires c).Else-m-eq0).well-formed)) (omega (arith, (begun (goal.at.take-t-requires c).Else-m-eq0).well-formed))
+    taking _ _ _ _ _ _ _ _ _ (mid (goal.at.take-t-requires c).After-work-1) (running (goal.at.take-t-requires c).After-work-1).if2.taken _ c.samples_for_byte-m.ensures c.if-m-eq0.false
+    (omega (arith, c.well_formed)) (omega (arith, c.well_formed))
 
 -- there is room for a finished byte
 room : (c : Then-t)
-    → let f = filled (goal.at.bounds-out-written c).Else-m-eq0 in
-    let l = looped f in
-    let r = f.before.before.before.fill-row in
-    l.loop.written + r.result.count
-    < length (put_mid l.loop.written (length l.loop.out - l.loop.written) l.loop.out r.last.1.1.1.1.0)
+    → let r = c.fill_row-f in
+    c.loop-p.written + r.result.count
+    < length (put_mid c.loop-p.written (length c.loop-p.out - c.loop-p.written) c.loop-p.out r.last.1.1.1.1.0)
 room c =
-    took-room _ _ _ _ _ _ _ _ _ (mid (filled (goal.at.bounds-out-written c).Else-m-eq0)) (running (filled (goal.at.bounds-out-written c).Else-m-eq0)).if2.taken _ c.samples_for_byte-m.ensures c.if-m-eq0.false
+    took-room _ _ _ _ _ _ _ _ _ (mid (goal.at.bounds-out-written c).After-work-1) (running (goal.at.bounds-out-written c).After-work-1).if2.taken _ c.samples_for_byte-m.ensures c.if-m-eq0.false
     _ _ c.take-t.ensures c.if-t.true
 
 pub bounds-out-written : goal.bounds-out-written
 bounds-out-written c = room c
 
 pub overflow_add-written-then-t : goal.overflow_add-written-then-t
-overflow_add-written-then-t c = omega (arith, room c, (mid (filled (goal.at.overflow_add-written-then-t c).Else-m-eq0)).out_long, (begun (goal.at.overflow_add-written-then-t c).Else-m-eq0).well-formed)
+overflow_add-written-then-t c = omega (arith, room c, (mid (goal.at.overflow_add-written-then-t c).After-work-1).out_long, c.well_formed)
 
 pub loop-p-smaller : goal.loop-p-smaller
 loop-p-smaller c = omega (arith, there (goal.at.loop-p-smaller c).Else-m-eq0, c.if-m-eq0.false)
 
 pub loop-p-preserved : goal.loop-p-preserved
 loop-p-preserved c =
-    loop-took _ _ _ _ _ _ _ _ _ (mid (filled (goal.at.loop-p-preserved c).Else-m-eq0)) (running (filled (goal.at.loop-p-preserved c).Else-m-eq0)).if2.taken _ c.samples_for_byte-m.ensures c.if-m-eq0.false
+    loop-took _ _ _ _ _ _ _ _ _ (mid (goal.at.loop-p-preserved c).After-work-1) (running (goal.at.loop-p-preserved c).After-work-1).if2.taken _ c.samples_for_byte-m.ensures c.if-m-eq0.false
     _ _ c.take-t.ensures
-    (by_bytes (begun (goal.at.loop-p-preserved c).Else-m-eq0).args.self (looped (filled (goal.at.loop-p-preserved c).Else-m-eq0)).loop.p.row) _ _
+    (by_bytes c.args.self (looped (goal.at.loop-p-preserved c).After-work-1).loop.p.row) _ _
     (⊎_elim (λ v. inl (v.0.taken, v.1, v.2)) (λ v. inr (v.0.left, v.1, v.2)) c.if-t.branch)
 
 pub ran-requires-2 : goal.ran-requires-2
