@@ -14,7 +14,7 @@ use Rattle.capi.proofs.calls.wbmp_read.Goals.{After-asked, After-decode_frames}
 
 settings-read : (c : After-asked) (x : DecodeSettings) → c.asked.result ≡ x
     → let a = c.args in
-    meaning x ≡ settings_of a.format a.strict a.max-width a.max-height a.max-pixels a.max-bytes
+    meaning x ≡ settings_of a.format a.strict a.max_width a.max_height a.max_pixels a.max_bytes
 settings-read c x e = sym (ap meaning e) ∙ c.asked.ensures
 
 decodes : (c : After-decode_frames) (x : Decoded) → c.decode_frames.result ≡ x

@@ -17,7 +17,7 @@ use Rattle.ext.proofs.find.lookup.Goals.{After-from_byte-header, After-parse_ext
 -- what reading the fields says
 begun : (c : After-parse_ext_fields) (x : ExtRead) → c.parse_ext_fields.result ≡ x
     → let a = c.args in
-    LookupBegins (read_fields false a.fix-header.ext_fields_follow (kind_number a.fix-header.ext_type) a.bytes.now
+    LookupBegins (read_fields false a.fix_header.ext_fields_follow (kind_number a.fix_header.ext_type) a.bytes.now
     a.offset)
     a.bytes.now a.offset a.identifier.now x
 begun c x e =
@@ -32,7 +32,7 @@ abbrev walked : (c : At-loop-left) → let a = c.args in
     (ps : List Pair)
     × PairsLeft a.bytes.now a.identifier.now a.offset ps a.offset c.in-Fields.f.pairs
     × ((r : Found) → Finds a.bytes.now a.offset ps a.identifier.now r
-    → Looked (read_fields false a.fix-header.ext_fields_follow (kind_number a.fix-header.ext_type) a.bytes.now a.offset)
+    → Looked (read_fields false a.fix_header.ext_fields_follow (kind_number a.fix_header.ext_type) a.bytes.now a.offset)
     a.bytes.now a.offset a.identifier.now (gives r))
 walked c = begun (goal.at.NO_GOAL c).After-parse_ext_fields _ c.in-Fields.is
 

@@ -18,14 +18,14 @@ pub returns-then-not-fix_header : goal.returns-then-not-fix_header
 unfolding read_fields
 returns-then-not-fix_header c =
     let a = c.args in
-    simp (read_fields, not-true a.fix-header.ext_fields_follow c.if-not-fix_header.true)
+    simp (read_fields, not-true a.fix_header.ext_fields_follow c.if-not-fix_header.true)
 
 pub returns-in-Bitfield00 : goal.returns-in-Bitfield00
 unfolding read_fields
 returns-in-Bitfield00 c =
     let a = c.args in
     c.parse_bitfield00.ensures
-    ∙ read_as a.strict a.fix-header.ext_fields_follow a.fix-header.ext_type _ a.bytes.now a.offset
+    ∙ read_as a.strict a.fix_header.ext_fields_follow a.fix_header.ext_type _ a.bytes.now a.offset
     c.if-not-fix_header.false c.in-Bitfield00.is
 
 pub returns-in-Reserved01 : goal.returns-in-Reserved01
@@ -33,7 +33,7 @@ unfolding read_fields
 returns-in-Reserved01 c =
     let a = c.args in
     c.read_single_octet.ensures
-    ∙ read_as a.strict a.fix-header.ext_fields_follow a.fix-header.ext_type _ a.bytes.now a.offset
+    ∙ read_as a.strict a.fix_header.ext_fields_follow a.fix_header.ext_type _ a.bytes.now a.offset
     c.if-not-fix_header.false c.in-Reserved01.is
 
 pub returns-in-Reserved10 : goal.returns-in-Reserved10
@@ -41,7 +41,7 @@ unfolding read_fields
 returns-in-Reserved10 c =
     let a = c.args in
     c.read_single_octet-in-Reserved10.ensures
-    ∙ read_as a.strict a.fix-header.ext_fields_follow a.fix-header.ext_type _ a.bytes.now a.offset
+    ∙ read_as a.strict a.fix_header.ext_fields_follow a.fix_header.ext_type _ a.bytes.now a.offset
     c.if-not-fix_header.false c.in-Reserved10.is
 
 pub returns-in-ParameterPairs11 : goal.returns-in-ParameterPairs11
@@ -49,5 +49,5 @@ unfolding read_fields
 returns-in-ParameterPairs11 c =
     let a = c.args in
     c.parse_parameter_pairs.ensures
-    ∙ read_as a.strict a.fix-header.ext_fields_follow a.fix-header.ext_type _ a.bytes.now a.offset
+    ∙ read_as a.strict a.fix_header.ext_fields_follow a.fix_header.ext_type _ a.bytes.now a.offset
     c.if-not-fix_header.false c.in-ParameterPairs11.is

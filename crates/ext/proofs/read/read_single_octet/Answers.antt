@@ -12,7 +12,7 @@ pub returns-then-bytes-offset : goal.returns-then-bytes-offset
 unfolding fields_from octet
 returns-then-bytes-offset c =
     let a = c.args in
-    let kind = kind_number a.ext-type in
+    let kind = kind_number a.ext_type in
     c.refused.ensures
     ∙ sym (spans _ kind a.bytes.now a.offset
     ∙ simp (
@@ -27,7 +27,7 @@ pub returns : goal.returns
 unfolding fields_from octet
 returns c =
     let a = c.args in
-    let kind = kind_number a.ext-type in
+    let kind = kind_number a.ext_type in
     c.found.ensures
     ∙ sym (spans _ kind a.bytes.now a.offset
     ∙ simp (

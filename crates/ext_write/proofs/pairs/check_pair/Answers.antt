@@ -16,4 +16,4 @@ pub returns : goal.returns
 returns c =
     let a = c.args in
     step-within _ _ _ _ _ (omega arith) _ _ c.start_after-start.ensures
-    (c.first_code-code.ensures ∙ parts-pair a.strict a.s.code a.text.now a.s.at a.identifier-len a.value_len)
+    (c.first_code-code.ensures ∙ parts-pair a.strict a.s.code a.text.now a.s.at a.identifier_len a.value_len)

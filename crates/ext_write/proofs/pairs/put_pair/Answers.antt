@@ -32,7 +32,7 @@ shape_of-out c = ap length c.copy.ensures ∙ simp (length-sets, length-set)
 pub returns : goal.returns
 returns c =
     let a = c.args in
-    let q = room a.text.now a.out.now a.s a.identifier-len a.value_len (omega arith) (omega arith) (omega arith)
+    let q = room a.text.now a.out.now a.s a.identifier_len a.value_len (omega arith) (omega arith) (omega arith)
     (omega arith) in (
       put-moves _ _ _ _ _ a.more q,
       c.copy.ensures

@@ -21,7 +21,7 @@ use Rattle.header.proofs.write.begin_fields_header.Goals.{After-sizes_len-around
 checked : (c : After-sizes_len-around)
     → let a = c.args in
     (strict : Bool) (lengths : List ℕ) → ChecksPairs strict a.text.now lengths a.found
-    → gives c.in-Length.len ≡ map length (lent_bytes strict (kind_number a.ext-type) a.text.now lengths)
+    → gives c.in-Length.len ≡ map length (lent_bytes strict (kind_number a.ext_type) a.text.now lengths)
 checked c strict lengths h =
     sym (ap fields_length c.in-Length.is) ∙ c.check_fields.ensures strict lengths h
 
@@ -91,7 +91,7 @@ returns-else-out-around-2 c =
           b.new.1.1.1.0) (record { to = 2 + b.result.to; answer = Written.Bytes (2 + c.sizes_len-around.result + n) })
           (2 + length (size_bytes a.width a.height) + n) (ap (λ (x : ℕ). gives (2 + x + n)) c.sizes_len-around.ensures)
           (omega arith) (omega (arith, c.if-out-around-2.false, c.if-out-around.false, c.sizes_len-around.ensures)) kept,
-      λ strict lengths h. lent-left strict a.width a.height (kind_number a.ext-type) a.text.now lengths a.out.now
+      λ strict lengths h. lent-left strict a.width a.height (kind_number a.ext_type) a.text.now lengths a.out.now
           c.put_sizes.new.1.1.0 b.new.1.1.1.0 n b.result _
           (checked (goal.at.returns-else-out-around-2 c).After-sizes_len-around strict lengths h) (omega (arith, c.if-out-around-2.false, c.if-out-around.false, c.sizes_len-around.ensures))
           (c.put_sizes.ensures ∙ ap (λ (x : ℕ). sets (set (set a.out.now 0 0) 1 x) (2 + n) (size_bytes a.width a.height))
