@@ -26,7 +26,7 @@ returns-then-leading c = record { does = simp (c.new.ensures, sym c.leading.ensu
 
 pub returns-then-v-gt4294967295 : goal.returns-then-v-gt4294967295
 unfolding read_byte
-returns-then-v-gt4294967295 c = record { does = simp (c.new-then-v-gt4294967295.ensures, c.wrapping_add_usize-after.ensures, free (goal.at.returns-then-v-gt4294967295 c).Else-leading, lt-ltb _ _ c.if-v-gt4294967295.true) }
+returns-then-v-gt4294967295 c = record { does = simp (c.new-then-v-gt4294967295.ensures, c.wrapping_add_usize-after.ensures.value, free (goal.at.returns-then-v-gt4294967295 c).Else-leading, lt-ltb _ _ c.if-v-gt4294967295.true) }
 
 pub returns-then-count-ge-MAX_MBI_BYTES : goal.returns-then-count-ge-MAX_MBI_BYTES
 unfolding read_byte
@@ -34,7 +34,7 @@ returns-then-count-ge-MAX_MBI_BYTES c =
     record {
       does = simp (
         c.new-then-count-ge-MAX_MBI_BYTES.ensures,
-        c.wrapping_add_usize-after.ensures,
+        c.wrapping_add_usize-after.ensures.value,
         free (goal.at.returns-then-count-ge-MAX_MBI_BYTES c).Else-leading,
         le-ltb _ _ c.if-v-gt4294967295.false,
         eighth _ c.if-count-ge-MAX_MBI_BYTES.true,

@@ -1,4 +1,4 @@
-use Rattle.std.proofs.Common.{◌≡◌, ◌+◌, ◌-◌, ◌<◌, get_or, drop, sym, refl, ap, ◌∙◌, arith}
+use Rattle.std.proofs.Common.{◌≡◌, ◌+◌, ◌<◌, get_or, drop, sym, refl, ap, ◌∙◌, arith}
 use Rattle.error.specs.Answer.{gives}
 use Rattle.mbi.specs.Read.{ByteRead, read_byte, read_rest, read_mbi, upon, step_meaning}
 use Rattle.mbi.specs.declared.MbiStep.{MbiStep}

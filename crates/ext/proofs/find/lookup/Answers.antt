@@ -12,7 +12,7 @@ use Rattle.ext.specs.declared.ExtRead.{ExtRead}
 use Rattle.ext.specs.declared.PairHeader.{PairHeader}
 use Rattle.ext.proofs.PairsWalk.{PairsLeft, NextPair, LookupBegins, lookup-begins, stands-fields, walk-next, walk_end}
 use Rattle.ext.proofs.find.lookup.Goals as goal
-use Rattle.ext.proofs.find.lookup.Goals.{After-from_byte-header, After-parse_ext_fields, At-loop-left, In-loop-left}
+use Rattle.ext.proofs.find.lookup.Goals.{After-from_byte-header, After-parse_ext_fields, In-Fields, In-loop-left}
 
 -- what reading the fields says
 begun : (c : After-parse_ext_fields) (x : ExtRead) → c.parse_ext_fields.result ≡ x
@@ -28,13 +28,13 @@ begun c x e =
     c.parse_ext_fields.ensures)
 
 -- the pairs to walk over
-abbrev walked : (c : At-loop-left) → let a = c.args in
+abbrev walked : (c : In-Fields) → let a = c.args in
     (ps : List Pair)
     × PairsLeft a.bytes.now a.identifier.now a.offset ps a.offset c.in-Fields.f.pairs
     × ((r : Found) → Finds a.bytes.now a.offset ps a.identifier.now r
     → Looked (read_fields false a.fix_header.ext_fields_follow (kind_number a.fix_header.ext_type) a.bytes.now a.offset)
     a.bytes.now a.offset a.identifier.now (gives r))
-walked c = begun (goal.at.NO_GOAL c).After-parse_ext_fields _ c.in-Fields.is
+walked c = begun (goal.at.loop-left-init c).After-parse_ext_fields _ c.in-Fields.is
 
 -- the next of them, whose header byte is h
 step : (c : In-loop-left) (h : PairHeader) → let a = c.args in
@@ -45,23 +45,21 @@ step : (c : In-loop-left) (h : PairHeader) → let a = c.args in
     → NextPair a.bytes.now a.identifier.now a.offset ps h l.at l.left
 step c h e ps r = walk-next _ _ _ ps _ _ h e c.loop-left-test.true (c.loop-left.invariant ps r)
 
-abbrev next : (c : In-loop-left) (h : PairHeader) → let a = c.args in
-    let l = c.loop-left in
-    h ≡ pair_header (get_or a.bytes.now l.at 0)
-    → NextPair a.bytes.now a.identifier.now a.offset (walked (goal.at.NO_GOAL c).At-loop-left).0 h l.at l.left
-next c h e = let w = walked (goal.at.NO_GOAL c).At-loop-left in step c h e w.0 w.1
-
 -- the same for what `from_byte` answers
 abbrev headed : (c : After-from_byte-header) → let a = c.args in
     let l = c.loop-left in
-    NextPair a.bytes.now a.identifier.now a.offset (walked (goal.at.overflow_add-from c).At-loop-left).0 c.from_byte-header.result l.at l.left
-headed c = next (goal.at.overflow_add-from c).In-loop-left c.from_byte-header.result c.from_byte-header.ensures
+    NextPair a.bytes.now a.identifier.now a.offset (walked (goal.at.overflow_add-from c).In-Fields).0 c.from_byte-header.result l.at l.left
+headed c =
+    let w = walked (goal.at.overflow_add-from c).In-Fields in
+    step (goal.at.overflow_add-from c).In-loop-left c.from_byte-header.result c.from_byte-header.ensures w.0 w.1
 
 pub loop-left-init : goal.loop-left-init
 loop-left-init c = λ ps r. r
 
 pub bounds-bytes-at : goal.bounds-bytes-at
-bounds-bytes-at c = omega (arith, (next (goal.at.bounds-bytes-at c).In-loop-left _ refl).within)
+bounds-bytes-at c =
+    let w = walked (goal.at.bounds-bytes-at c).In-Fields in
+    omega (arith, (step (goal.at.bounds-bytes-at c).In-loop-left _ refl w.0 w.1).within)
 
 pub overflow_add-from : goal.overflow_add-from
 overflow_add-from c = omega (arith, (headed c).within)
@@ -81,8 +79,8 @@ returns-then-is_identifier c =
     let value = c.loop-left.at + 1 + c.from_byte-header.result.identifier_len in
     let size = c.from_byte-header.result.value_len in
     let len : size ≡ value + size - value = omega arith in
-    (walked (goal.at.returns-then-is_identifier c).At-loop-left).2 _
-    (subst (λ (n : ℕ). Finds a.bytes.now a.offset (walked (goal.at.returns-then-is_identifier c).At-loop-left).0 a.identifier.now (value_at value n)) len
+    (walked (goal.at.returns-then-is_identifier c).In-Fields).2 _
+    (subst (λ (n : ℕ). Finds a.bytes.now a.offset (walked (goal.at.returns-then-is_identifier c).In-Fields).0 a.identifier.now (value_at value n)) len
     ((headed (goal.at.returns-then-is_identifier c).After-from_byte-header).found (c.is_identifier.ensures.0 c.if-is_identifier.true)))
 
 pub loop-left-preserved : goal.loop-left-preserved
@@ -98,4 +96,4 @@ pub returns-in-Refused : goal.returns-in-Refused
 returns-in-Refused c = begun (goal.at.returns-in-Refused c).After-parse_ext_fields _ c.in-Refused.is
 
 pub returns-after-loop-left : goal.returns-after-loop-left
-returns-after-loop-left c = let w = walked (goal.at.returns-after-loop-left c).At-loop-left in w.2 _ (walk_end _ _ _ w.0 _ _ c.loop-left-test.false (c.loop-left.invariant w.0 w.1))
+returns-after-loop-left c = let w = walked (goal.at.returns-after-loop-left c).In-Fields in w.2 _ (walk_end _ _ _ w.0 _ _ c.loop-left-test.false (c.loop-left.invariant w.0 w.1))
