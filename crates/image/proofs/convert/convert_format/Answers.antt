@@ -41,7 +41,7 @@ slice_bounds-convert_packed-end-then-total-plane c = sym (front_long (goal.at.sl
 pub convert_packed-requires : goal.convert_packed-requires
 convert_packed-requires c =
     let l = laid c.new-layout.ensures in
-    (l, front_long (goal.at.convert_packed-requires c).Then-total-plane ∙ total-is l)
+    record { laid = l; plane_len = front_long (goal.at.convert_packed-requires c).Then-total-plane ∙ total-is l }
 
 pub returns-then-total-plane : goal.returns-then-total-plane
 returns-then-total-plane c =

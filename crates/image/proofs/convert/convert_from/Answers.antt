@@ -32,7 +32,7 @@ returns-then-white_bit c =
 pub clear_rows-requires : goal.clear_rows-requires
 clear_rows-requires c =
     let l = laid c.new-layout.ensures in
-    (l, omega (arith, ap length c.invert_from.ensures, invert-length c.args.plane.now, c.if-plane-layout.true, total-is l))
+    record { laid = l; height_in_bounds = omega (arith, ap length c.invert_from.ensures, invert-length c.args.plane.now, c.if-plane-layout.true, total-is l) }
 
 pub returns-then-plane-layout : goal.returns-then-plane-layout
 returns-then-plane-layout c =

@@ -6,7 +6,7 @@ use Rattle.image.proofs.InvertedBytes.{invert-length}
 use Rattle.image.proofs.convert.convert_packed.Goals as goal
 
 pub clear_rows-requires : goal.clear_rows-requires
-clear_rows-requires c = (c.requires.laid, omega (arith, ap length c.invert.ensures, invert-length c.args.plane.now, c.requires.plane_len))
+clear_rows-requires c = record { laid = c.requires.laid; height_in_bounds = omega (arith, ap length c.invert.ensures, invert-length c.args.plane.now, c.requires.plane_len) }
 
 pub returns : goal.returns
 returns c =

@@ -11,7 +11,7 @@ use Rattle.image.proofs.ConvertedBytes.{format-length}
 use Rattle.image.proofs.convert.into_format.Goals as goal
 use Rattle.image.proofs.convert.into_format.Goals.{Start}
 
-abbrev whole : tie.Start → List ℕ
+abbrev whole : Start → List ℕ
 whole c = let a = c.args in convert_format a.from a.to a.width a.height (row_bytes a.width) a.plane.now
 
 long : (c : Start) → length (whole c) ≡ length c.args.plane.now

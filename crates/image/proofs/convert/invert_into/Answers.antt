@@ -10,7 +10,7 @@ use Rattle.image.proofs.InvertedBytes.{invert-length}
 use Rattle.image.proofs.convert.invert_into.Goals as goal
 use Rattle.image.proofs.convert.invert_into.Goals.{Start}
 
-abbrev whole : tie.Start → List ℕ
+abbrev whole : Start → List ℕ
 whole c = invert c.args.bytes.now
 
 long : (c : Start) → length (whole c) ≡ length c.args.bytes.now

@@ -5,7 +5,7 @@ use lib.ListN.{length}
 use Rattle.image.proofs.DotsSame.{right_of, below, seen, missing-bit, read-bit}
 use Rattle.image.proofs.RowStarts.{Started, started, missed}
 use Rattle.image.proofs.dots.is_white.Goals as goal
-use Rattle.image.proofs.dots.is_white.Goals.{In-At-2}
+use Rattle.image.proofs.dots.is_white.Goals.{In-At}
 
 pub returns-then-x-width : goal.returns-then-x-width
 returns-then-x-width c =
@@ -18,23 +18,23 @@ returns-then-y-height c =
     sym (below a.format a.width a.height a.stride a.plane.now a.x a.y (omega arith) (omega arith))
 
 -- the byte is in the plane
-begun : (c : In-At-2)
+begun : (c : In-At)
     → let a = c.args in
     Started (length a.plane.now) a.stride a.y (a.x / 8 + 1) c.in-At.at
 begun c = started _ _ _ _ _ _ c.row_start.ensures c.in-At.is
 
 pub overflow_add-at : goal.overflow_add-at
-overflow_add-at c = omega (arith, begun (goal.at.overflow_add-at c).In-At-2)
+overflow_add-at c = omega (arith, begun (goal.at.overflow_add-at c).In-At)
 
 pub bounds-plane-at : goal.bounds-plane-at
-bounds-plane-at c = omega (arith, begun (goal.at.bounds-plane-at c).In-At-2)
+bounds-plane-at c = omega (arith, begun (goal.at.bounds-plane-at c).In-At)
 
 pub returns-in-At : goal.returns-in-At
 returns-in-At c =
     let a = c.args in
     seen a.format a.width a.height a.stride a.plane.now a.x a.y (omega arith) (omega arith) c.bit.result
     c.white_bit-white.result
-    (read-bit a.stride a.plane.now a.x a.y _ _ (begun (goal.at.returns-in-At c).In-At-2).place c.bit.ensures)
+    (read-bit a.stride a.plane.now a.x a.y _ _ (begun (goal.at.returns-in-At c).In-At).place c.bit.ensures)
     c.white_bit-white.ensures
 
 pub returns-in-Missing : goal.returns-in-Missing

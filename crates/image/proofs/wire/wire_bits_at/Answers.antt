@@ -16,10 +16,10 @@ use Rattle.image.proofs.PackedAsRows.{wires-at-once}
 use Rattle.image.proofs.PlaneSizes.{laid, stride-is, total-is}
 use Rattle.image.proofs.WireRows.{wire-length}
 use Rattle.image.proofs.wire.wire_bits_at.Goals as goal
-use Rattle.image.proofs.wire.wire_bits_at.Goals.{After-new-layout, After-slice_known-1, After-wire_packed}
+use Rattle.image.proofs.wire.wire_bits_at.Goals.{After-new-layout}
 
-abbrev whole : tie.After-new → List ℕ
-whole c = let a = (start c).args in wire_bits a.format a.width a.height a.stride a.plane.now
+abbrev whole : After-new-layout → List ℕ
+whole c = let a = c.args in wire_bits a.format a.width a.height a.stride a.plane.now
 
 -- the layout has as many bytes as the rows
 long : (c : After-new-layout) → length (whole c) ≡ plane_bytes c.args.width c.args.height
@@ -47,24 +47,28 @@ slice_bounds-wire_packed-end-then-total-plane-2 c = sym (length-take-le _ _ c.if
 pub wire_packed-requires : goal.wire_packed-requires
 wire_packed-requires c =
     let l = laid c.new-layout.ensures in
-    (l, (length-take-le _ _ c.if-total-plane.true ∙ total-is l, length-take-le _ _ c.if-out-total.false ∙ total-is l))
+    record {
+        laid = l;
+        plane_len = length-take-le _ _ c.if-total-plane.true ∙ total-is l;
+        out_len = length-take-le _ _ c.if-out-total.false ∙ total-is l
+    }
 
 pub returns-then-total-plane : goal.returns-then-total-plane
 returns-then-total-plane c =
     let a = c.args in
     let s : a.stride ≡ row_bytes a.width = c.if-stride-row.true ∙ stride-is c.new-layout.ensures in
-    done (goal.at.returns-then-total-plane c).After-slice_known-1 c.if-out-total.false
+    done (goal.at.returns-then-total-plane c).After-new-layout c.if-out-total.false
     (ap (λ l. l ++ drop c.new-layout.result.total_bytes a.out.now)
     (c.wire_packed.ensures
     ∙ ap (λ (l : PlaneLayout). clear_rows l.width l.height (to_native a.format (take l.total_bytes a.plane.now)))
     c.new-layout.ensures
     ∙ wires-at-once a.width a.height a.plane.now (omega (arith, total-is c.new-layout.ensures, c.if-total-plane.true)) a.format
-    ∙ ap (λ (goal.at.returns-then-total-plane c).After-wire_packed. wire_bits a.format a.width a.height (goal.at.returns-then-total-plane c).After-wire_packed a.plane.now) (sym s)))
+    ∙ ap (λ n. wire_bits a.format a.width a.height n a.plane.now) (sym s)))
 
 pub wire_rows-requires : goal.wire_rows-requires
 wire_rows-requires c =
     let l = laid c.new-layout.ensures in
-    (l, omega (arith, total-is l, c.if-out-total.false))
+    record { laid = l; height_in_bounds = omega (arith, total-is l, c.if-out-total.false) }
 
 pub returns : goal.returns
 returns c =
