@@ -9,11 +9,6 @@ pub mod StartCounted
 pub mod OctetsBack
 pub mod PairsBack
 pub mod ReadBack
-pub mod LendAgain
-pub mod Lend
-pub mod LoopTurns
 pub mod RecordsFlat
 pub mod Begun
-pub mod Calls
-pub mod WriteWalk
 pub mod Stores

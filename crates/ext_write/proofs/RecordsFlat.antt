@@ -4,9 +4,11 @@ use mathlib.Core.Path.{◌≡◌, ◌∙◌, sym, ap, refl}
 use mathlib.Core.Bool.{Bool, true, false}
 use mathlib.Core.List.{List, [], ◌∷◌}
 use native.Mathlib.Nat.{pos_of_ne-zero}
+use native.Mathlib.Numerals.{add-one}
 use native.Mathlib.Omega.{arith}
 use lib.Dec.{ltb, eqb}
 use lib.ListN.{length, get_or, drop, length-drop, drop_of_length-le}
+use lib.Seq.{drop-cons}
 use borrow.Author.Tests.{lt-ltb, le-ltb, eq-eqb, ne_eqb, eqb-true, eqb-false, ltb-true, ltb-false}
 use Rattle.error.specs.Answer.{map}
 use Rattle.laws.proofs.Tests.{if-false}
@@ -16,7 +18,6 @@ use Rattle.ext_write.specs.declared.Parameter.{Parameter}
 use Rattle.ext_write.specs.declared.PairsCheck.{PairsCheck}
 use Rattle.ext_write.specs.declared.PairsPut.{PairsPut}
 use Rattle.ext_write.proofs.CheckRun.{pairs-31, pairs-23, pairs_first, pairs-size}
-use Rattle.ext_write.proofs.LoopTurns.{next_of}
 
 abbrev pub no_parameter : Parameter
 no_parameter = record { identifier_len = 0; value_len = 0 }
@@ -34,6 +35,10 @@ flat-more : (ps : List Parameter) → ltb 0 (length (flattened ps)) ≡ ltb 0 (l
 flat-more [] = refl
 flat-more (p ∷ ps) =
     lt-ltb 0 (length (flattened (p ∷ ps))) (omega (arith, flat-long (p ∷ ps))) ∙ sym (lt-ltb 0 (length (p ∷ ps)) (omega arith))
+
+-- the records from k on are record k, and those from k + 1 on
+next_of : {X : Type 0} (l : List X) (k : ℕ) (d : X) → k < length l → drop k l ≡ get_or l k d ∷ drop (k + 1) l
+next_of l k d h = drop-cons l k d h ∙ ap (λ j. get_or l k d ∷ drop j l) (sym (add-one k))
 
 -- record k of the records, of the lengths i and v, before those from k + 1 on
 module _ (ps : List Parameter) (k : ℕ) (h : k < length ps) where
