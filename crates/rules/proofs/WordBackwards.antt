@@ -58,6 +58,7 @@ all-gather = refl
 
 gather-below : (n : ℕ) → gathers n ≡ true → (b : ℕ) → b < n → gather (spread 8 b * 128) ≡ b
 unfolding gathers
+gather-below zero h b l = elim l [ ]
 gather-below (suc n) h b l =
     let k = both_true (eqb (gather (spread 8 n * 128)) n) (gathers n) h in
     ⊎_elim

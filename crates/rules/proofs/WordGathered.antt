@@ -42,6 +42,7 @@ all-gather = refl
 
 gather-below : (n : ℕ) → gathers n ≡ true → (b : ℕ) → b < n → gather (spread 8 b) ≡ b
 unfolding gathers
+gather-below zero h b l = elim l [ ]
 gather-below (suc n) h b l =
     let k = both_true (eqb (gather (spread 8 n)) n) (gathers n) h in
     ⊎_elim

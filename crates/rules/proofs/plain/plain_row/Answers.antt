@@ -9,29 +9,24 @@ use Rattle.rules.specs.Internal.Planes.{row_sample}
 use Rattle.rules.specs.Internal.Words.{samples_from}
 use Rattle.rules.proofs.PlainRowWritten.{PlainTo, plain-none, plain-length, row-missing, row_done, row-stopped, row-goes-on}
 use Rattle.rules.proofs.WordPlain.{sample_in}
-use Rattle.rules.proofs.plain.plain_row.Invariants.{width, gray}
 use Rattle.rules.proofs.plain.plain_row.Goals as goal
 use Rattle.rules.proofs.plain.plain_row.Goals.{After-loop-k, At-loop-k, In-loop-k}
 
--- the output as it was given
-abbrev given : tie.At-loop invariant-loop decreases-loop → List ℕ
-given l = l.before.before.before.before.before.args.out.now
-
-there : (l : At-loop-k) → width l ≤ length (gray l)
+there : (l : At-loop-k) → l.args.width ≤ length l.args.gray.now
 there l = l.if-gray-width.false
 
-room : (l : At-loop-k) → row_bytes (width l) ≤ length (given l)
+room : (l : At-loop-k) → row_bytes l.args.width ≤ length l.args.out.now
 room l = l.if-out-width.false
 
 -- the word of byte k holds its samples
-held : (i : In-loop-k) → (j : ℕ) → j < 8 → samples_from (gray (goal.at.overflow_mul-k i).At-loop-k) (8 * i.loop-k.k) j ≡ row_sample (width (goal.at.overflow_mul-k i).At-loop-k) (gray (goal.at.overflow_mul-k i).At-loop-k) (8 * i.loop-k.k + j)
-held i j m = sym (sample_in (width (goal.at.overflow_mul-k i).At-loop-k) (gray (goal.at.overflow_mul-k i).At-loop-k) (8 * i.loop-k.k + j) (omega (arith, i.loop-k-test.true)))
+held : (i : In-loop-k) → (j : ℕ) → j < 8 → samples_from i.args.gray.now (8 * i.loop-k.k) j ≡ row_sample i.args.width i.args.gray.now (8 * i.loop-k.k + j)
+held i j m = sym (sample_in i.args.width i.args.gray.now (8 * i.loop-k.k + j) (omega (arith, i.loop-k-test.true)))
 
 -- all whole bytes
-ended : (a : After-loop-k) → PlainTo (width (goal.at.NO_GOAL a).At-loop-k) (gray (goal.at.NO_GOAL a).At-loop-k) (given (goal.at.NO_GOAL a).At-loop-k) a.loop-k.out (width (goal.at.NO_GOAL a).At-loop-k / 8)
+ended : (a : After-loop-k) → PlainTo a.args.width a.args.gray.now a.args.out.now a.loop-k.out (a.args.width / 8)
 ended a =
-    let e : a.loop-k.k ≡ width (goal.at.NO_GOAL a).At-loop-k / 8 = omega (arith, a.loop-k.invariant.0, a.loop-k-test.false) in
-    subst (λ (k : ℕ). PlainTo (width (goal.at.NO_GOAL a).At-loop-k) (gray (goal.at.NO_GOAL a).At-loop-k) (given (goal.at.NO_GOAL a).At-loop-k) a.loop-k.out k) e a.loop-k.invariant.1
+    let e : a.loop-k.k ≡ a.args.width / 8 = omega (arith, a.loop-k.invariant.0, a.loop-k-test.false) in
+    subst (λ (k : ℕ). PlainTo a.args.width a.args.gray.now a.args.out.now a.loop-k.out k) e a.loop-k.invariant.1
 
 pub returns-then-gray-width : goal.returns-then-gray-width
 returns-then-gray-width c =
@@ -60,7 +55,7 @@ shape_of-out-then-not-plain_word c = plain-length (room (goal.at.shape_of-out-th
 
 pub returns-then-not-plain_word : goal.returns-then-not-plain_word
 returns-then-not-plain_word c =
-    row-stopped (room (goal.at.returns-then-not-plain_word c).At-loop-k) c.loop-k.invariant.1 c.word-samples.result (samples_from (gray (goal.at.returns-then-not-plain_word c).At-loop-k) (8 * c.loop-k.k)) c.word-samples.ensures.1
+    row-stopped (room (goal.at.returns-then-not-plain_word c).At-loop-k) c.loop-k.invariant.1 c.word-samples.result (samples_from c.args.gray.now (8 * c.loop-k.k)) c.word-samples.ensures.1
     c.word-samples.ensures.0 (held (goal.at.returns-then-not-plain_word c).In-loop-k) c.plain_word.result c.plain_word.ensures (not-true _ c.if-not-plain_word.true-raw) (there (goal.at.returns-then-not-plain_word c).At-loop-k)
     (omega (arith, c.loop-k-test.true))
 
@@ -76,7 +71,7 @@ loop-k-smaller c = omega arith
 pub loop-k-preserved : goal.loop-k-preserved
 loop-k-preserved c = (
   omega arith,
-  row-goes-on (room (goal.at.loop-k-preserved c).At-loop-k) c.loop-k.invariant.1 c.word-samples.result (samples_from (gray (goal.at.loop-k-preserved c).At-loop-k) (8 * c.loop-k.k)) c.word-samples.ensures.1
+  row-goes-on (room (goal.at.loop-k-preserved c).At-loop-k) c.loop-k.invariant.1 c.word-samples.result (samples_from c.args.gray.now (8 * c.loop-k.k)) c.word-samples.ensures.1
       c.word-samples.ensures.0 (held (goal.at.loop-k-preserved c).In-loop-k) c.plain_word.result c.plain_word.ensures (not-false _ c.if-not-plain_word.false-raw)
       c.gathered.result c.gathered.ensures (omega arith),
 )
@@ -98,7 +93,7 @@ shape_of-out-then-not-plain_word-2 c = plain-length (room (goal.at.shape_of-out-
 
 pub returns-then-not-plain_word-2 : goal.returns-then-not-plain_word-2
 returns-then-not-plain_word-2 c =
-    row-stopped (room (goal.at.returns-then-not-plain_word-2 c).At-loop-k) (ended (goal.at.returns-then-not-plain_word-2 c).After-loop-k) c.ending_word-samples.result (λ i. row_sample (width (goal.at.returns-then-not-plain_word-2 c).At-loop-k) (gray (goal.at.returns-then-not-plain_word-2 c).At-loop-k) (8 * (width (goal.at.returns-then-not-plain_word-2 c).At-loop-k / 8) + i))
+    row-stopped (room (goal.at.returns-then-not-plain_word-2 c).At-loop-k) (ended (goal.at.returns-then-not-plain_word-2 c).After-loop-k) c.ending_word-samples.result (λ i. row_sample c.args.width c.args.gray.now (8 * (c.args.width / 8) + i))
     c.ending_word-samples.ensures.1 c.ending_word-samples.ensures.0 (λ i _. refl) c.plain_word-2.result c.plain_word-2.ensures
     (not-true _ c.if-not-plain_word-2.true-raw) (there (goal.at.returns-then-not-plain_word-2 c).At-loop-k) (omega (arith, c.if-width-eq0.false))
 
@@ -111,7 +106,7 @@ shape_of-out c = simp length-set (plain-length (room (goal.at.shape_of-out c).At
 pub returns : goal.returns
 returns c =
     row_done (room (goal.at.returns c).At-loop-k)
-    (row-goes-on (room (goal.at.returns c).At-loop-k) (ended (goal.at.returns c).After-loop-k) c.ending_word-samples.result (λ i. row_sample (width (goal.at.returns c).At-loop-k) (gray (goal.at.returns c).At-loop-k) (8 * (width (goal.at.returns c).At-loop-k / 8) + i))
+    (row-goes-on (room (goal.at.returns c).At-loop-k) (ended (goal.at.returns c).After-loop-k) c.ending_word-samples.result (λ i. row_sample c.args.width c.args.gray.now (8 * (c.args.width / 8) + i))
     c.ending_word-samples.ensures.1 c.ending_word-samples.ensures.0 (λ i _. refl) c.plain_word-2.result c.plain_word-2.ensures
     (not-false _ c.if-not-plain_word-2.false-raw) c.gathered-2.result c.gathered-2.ensures (omega (arith, c.if-width-eq0.false)))
     (there (goal.at.returns c).At-loop-k) (omega arith)

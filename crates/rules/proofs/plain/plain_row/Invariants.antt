@@ -3,12 +3,6 @@ use mathlib.Core.List.{List}
 use Rattle.rules.proofs.PlainRowWritten.{PlainTo}
 use Rattle.rules.proofs.plain.plain_row.Given as goal
 
-abbrev pub width : tie.At-loop invariant-loop decreases-loop → ℕ
-width l = l.before.before.before.before.before.args.width
-
-abbrev pub gray : tie.At-loop invariant-loop decreases-loop → List ℕ
-gray l = l.before.before.before.before.before.args.gray.now
-
 -- `rules::plain::plain_row` meets its contract: a byte more with each turn, and then the last.
 -- Assumes nothing.
 abbrev pub invariant-loop-k : goal.invariant-loop-k

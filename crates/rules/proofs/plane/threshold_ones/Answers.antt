@@ -11,8 +11,8 @@ use Rattle.rules.proofs.plane.threshold_ones.Goals as goal
 use Rattle.rules.proofs.plane.threshold_ones.Goals.{At-loop-i}
 
 -- the byte of each row
-abbrev bytes : tie.At-loop invariant-loop decreases-loop → ℕ → ℕ
-bytes l = let a = l.before.before.before.args in byte_at 1 (threshold_bit a.bound a.gray.now)
+abbrev bytes : At-loop-i → ℕ → ℕ
+bytes l = let a = l.args in byte_at 1 (threshold_bit a.bound a.gray.now)
 
 long : (l : At-loop-i) → length l.loop-i.out ≡ length l.args.out.now
 long l =

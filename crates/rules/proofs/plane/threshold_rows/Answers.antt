@@ -20,15 +20,19 @@ same : (l : At-loop-y) → length l.loop-y.out ≡ length l.args.out.now
 same l = rows-length l.requires.0 (inv l)
 
 -- a row's samples and bytes
+inv-in : (i : In-loop-y) → let a = i.args in
+    RowsTo a.bound a.width a.height a.gray.now a.out.now i.loop-y.out i.loop-y.at i.loop-y.to i.loop-y.y
+inv-in i = i.loop-y.invariant i.args.out.now i.requires.0 (rows-some i.requires.1.1 i.front_rows-y.ensures)
+
 there : (i : In-loop-y)
     → i.loop-y.at + i.args.width ≤ length i.args.gray.now
 there i =
-    row-there i.requires.0 (inv (goal.at.NO_GOAL i).At-loop-y) i.loop-y-test.true
+    row-there i.requires.0 (inv-in i) i.loop-y-test.true
 
 room : (i : In-loop-y)
     → i.loop-y.to + row_bytes i.args.width ≤ length i.loop-y.out
 room i =
-    row_room i.requires.0 (inv (goal.at.NO_GOAL i).At-loop-y) i.loop-y-test.true
+    row_room i.requires.0 (inv-in i) i.loop-y-test.true
 
 pub front_rows-y-requires : goal.front_rows-y-requires
 front_rows-y-requires c = c.requires
