@@ -1,4 +1,3 @@
-use Prim.Native.Nat.{◌-◌}
 use mathlib.Core.List.{List}
 use Rattle.ext.specs.Kinds.{Pair}
 use Rattle.ext.proofs.PairsWalk.{PairsLeft}

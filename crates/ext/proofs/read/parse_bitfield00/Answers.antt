@@ -1,6 +1,5 @@
-use Prim.Native.Nat.{◌-◌}
 use mathlib.Core.Path.{◌∙◌, sym}
-use mathlib.Core.Bool.{true, false}
+use mathlib.Core.Bool.{false}
 use native.Mathlib.Omega.{arith}
 use Rattle.ext.specs.Internal.Bytewise.{fields_from}
 use Rattle.ext.proofs.OctetsBytewise.{octets-end, octets-over, octets-last, octets-more}

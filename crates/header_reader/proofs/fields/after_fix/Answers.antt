@@ -1,6 +1,6 @@
 use mathlib.Core.Path.{◌∙◌, sym}
-use mathlib.Core.Logic.{⊎_elim}
 use Rattle.header_reader.proofs.fields.after_fix.Goals as goal
+use Rattle.header_reader.proofs.fields.after_fix.Goals.{then-honoured, else-honoured}
 
 pub returns-then-fix_header : goal.returns-then-fix_header
 returns-then-fix_header c =
@@ -9,5 +9,7 @@ returns-then-fix_header c =
 
 pub returns : goal.returns
 returns c =
-    ⊎_elim (λ w. simp (w.0.taken, sym c.from_byte-fix_header.ensures.follow_is ∙ w.1.left) c.to_width.ensures)
-    (λ w. simp w.left c.to_width.ensures) c.if-honoured.branch
+    elim c.if-honoured.branch [
+      | then-honoured w ↦ simp (w.if-honoured.true, sym c.from_byte-fix_header.ensures.follow_is ∙ w.if-fix_header.false) c.to_width.ensures
+      | else-honoured w ↦ simp w.if-honoured.false c.to_width.ensures
+    ]

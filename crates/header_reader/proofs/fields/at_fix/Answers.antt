@@ -1,7 +1,7 @@
-use mathlib.Core.Logic.{⊎_elim}
 use Rattle.header_reader.specs.Internal.Machine.{step_of}
 use borrow.Author.Tests.{lt-ltb, le-ltb}
 use Rattle.header_reader.proofs.fields.at_fix.Goals as goal
+use Rattle.header_reader.proofs.fields.at_fix.Goals.{then-mode, else-mode}
 
 pub returns-then-byte-gt0 : goal.returns-then-byte-gt0
 unfolding step_of
@@ -10,6 +10,7 @@ returns-then-byte-gt0 c = simp (c.if-mode.true, lt-ltb _ _ c.if-byte-gt0.true, c
 pub returns : goal.returns
 unfolding step_of
 returns c =
-    ⊎_elim (λ w. simp (w.0.taken, le-ltb _ _ w.1.left) c.after_fix.ensures)
-    (λ w. simp w.left c.after_fix.ensures)
-    c.if-mode.branch
+    elim c.if-mode.branch [
+      | then-mode w ↦ simp (w.if-mode.true, le-ltb _ _ w.if-byte-gt0.false) c.after_fix.ensures
+      | else-mode w ↦ simp w.if-mode.false c.after_fix.ensures
+    ]

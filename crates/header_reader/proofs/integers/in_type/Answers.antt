@@ -16,7 +16,7 @@ pub returns-in-Ends : goal.returns-in-Ends
 unfolding step_of
 returns-in-Ends c =
     simp (byte-is c.mbi_step.ensures c.in-Ends.is
-    (omega arith)) c.type-inv.ensures
+    (omega arith)) c.typed.ensures
 
 pub returns-in-Refused : goal.returns-in-Refused
 unfolding step_of
