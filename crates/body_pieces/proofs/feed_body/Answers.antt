@@ -9,7 +9,7 @@ use Rattle.image.specs.declared.PlaneLayout.{PlaneLayout}
 use Rattle.body_pieces.specs.Internal.Body.{advanced}
 use Rattle.body_pieces.proofs.BodyCounts.{in_bounds}
 use Rattle.body_pieces.proofs.feed_body.Goals as goal
-use Rattle.body_pieces.proofs.feed_body.Goals.{After-advance-next, After-new-layout}
+use Rattle.body_pieces.proofs.feed_body.Goals.{After-advance-next}
 
 -- what is written is given and has room
 module _ (c : After-advance-next) where
@@ -20,16 +20,16 @@ module _ (c : After-advance-next) where
   room = (in_bounds _ _ _ _ _ _ _ c.advance-next.ensures).1.1
 
 pub slice_bounds-convert-end : goal.slice_bounds-convert-end
-slice_bounds-convert-end c = sym (length-take-le _ _ (given (goal.at.slice_bounds-convert-end c).After-new-layout))
+slice_bounds-convert-end c = sym (length-take-le _ _ (given (goal.at.slice_bounds-convert-end c).After-advance-next))
 
 pub slice_bounds-convert-end-2 : goal.slice_bounds-convert-end-2
-slice_bounds-convert-end-2 c = room (goal.at.slice_bounds-convert-end-2 c).After-new-layout
+slice_bounds-convert-end-2 c = room (goal.at.slice_bounds-convert-end-2 c).After-advance-next
 
 pub slice_bounds-convert-end-3 : goal.slice_bounds-convert-end-3
-slice_bounds-convert-end-3 c = sym (length-take-le _ _ (room (goal.at.slice_bounds-convert-end-3 c).After-new-layout))
+slice_bounds-convert-end-3 c = sym (length-take-le _ _ (room (goal.at.slice_bounds-convert-end-3 c).After-advance-next))
 
 pub convert-requires : goal.convert-requires
-convert-requires c = length-take-le _ _ (given (goal.at.convert-requires c).After-new-layout) ∙ sym (length-take-le _ _ (room (goal.at.convert-requires c).After-new-layout))
+convert-requires c = length-take-le _ _ (given (goal.at.convert-requires c).After-advance-next) ∙ sym (length-take-le _ _ (room (goal.at.convert-requires c).After-advance-next))
 
 pub returns : goal.returns
 returns c =

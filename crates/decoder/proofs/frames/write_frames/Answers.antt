@@ -61,7 +61,7 @@ room : (c : Else-out-need)
     (1 + c.animated_frame_count-frames.result) * plane_of (parsed a.h) ≤ length a.out.now
 room c =
     let a = c.args in
-    subst (λ (n : ℕ). (1 + c.animated_frame_count-frames.result) * n ≤ length a.out.now) (plane-is (goal.at.NO_GOAL c).After-animated_frame_count-frames) c.if-out-need.false
+    subst (λ (n : ℕ). (1 + c.animated_frame_count-frames.result) * n ≤ length a.out.now) (ap (λ (l : PlaneLayout). l.total_bytes) c.new-layout.ensures) c.if-out-need.false
 
 pub write_planes-requires : goal.write_planes-requires
 write_planes-requires c = (inside (goal.at.write_planes-requires c).After-animated_frame_count-frames, room (goal.at.write_planes-requires c).Else-out-need)
