@@ -8,7 +8,7 @@ use Rattle.diffusion.proofs.row.level_byte.Goals.{Else-not-plain_row}
 
 -- `diffusion::row::level_byte` meets its contract.
 -- Assumes nothing.
-small : (c : Else-not-plain_row) → get_or c.plain_row.new.1.1.0 0 0 < 256
+small : (c : Else-not-plain_row) → get_or c.plain_row.new.out 0 0 < 256
 small c =
     told-small c.args.gray.now c.args.x _ _ _ c.plain_row.ensures (not-false _ c.if-not-plain_row.false-raw) c.requires.0
 

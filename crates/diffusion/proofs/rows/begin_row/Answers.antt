@@ -22,6 +22,6 @@ slice_bounds-level_sums-end-2 c = sym (length-take-le _ c.args.work.now c.requir
 pub returns : goal.returns
 returns c =
     let a = c.args in
-    let k = c.level_sums.auto.0 ∙ length-take-le _ a.work.now c.requires.kept in
-    begun-level a.gray.now a.work.now _ c.level_sums.new.0 k c.level_sums.ensures a.level
+    let k = c.level_sums.auto.sums ∙ length-take-le _ a.work.now c.requires.kept in
+    begun-level a.gray.now a.work.now _ c.level_sums.new.sums k c.level_sums.ensures a.level
     (not-false a.level c.if-not-level.false-raw)

@@ -17,8 +17,8 @@ dither_row-requires c =
         c.requires.1.0,
         record {
           some = p.some;
-          kept = omega (arith, p.kept, c.begin_row.auto.1.1.0);
-          room = c.begin_row.auto.1.1.1.0 ∙ p.room;
+          kept = omega (arith, p.kept, c.begin_row.auto.work);
+          room = c.begin_row.auto.out ∙ p.room;
           sums = c.begin_row.ensures.sums c.if-begin_row.false;
         },
       ),

@@ -1,6 +1,5 @@
 use Prim.Native.Nat.{◌+◌, ◌-◌}
 use mathlib.Core.Path.{◌≡◌, sym, ap, ◌∙◌}
-use mathlib.Core.Logic.{⊎_elim}
 use native.Mathlib.Omega.{arith}
 use borrow.Author.Tests.{eqb-true}
 use lib.IntN.{pos}
@@ -10,6 +9,7 @@ use mir.Val.{to_z}
 use mir.ValLaws.{to_z-of_z}
 use Rattle.rules.proofs.BelowGrows.{one_further}
 use Rattle.dither.proofs.row.clear.Goals as goal
+use Rattle.dither.proofs.row.clear.Goals.{then-work-j-ne0, else-work-j-ne0}
 
 pub loop-i-init : goal.loop-i-init
 loop-i-init c = (omega arith, λ e j h. let z : ⊥ = omega arith in absurd z)
@@ -33,10 +33,11 @@ pub loop-i-preserved : goal.loop-i-preserved
 loop-i-preserved c =
     let a = c.args in (
       omega arith,
-      λ e. ⊎_elim (λ v. let z : ⊥ = omega (arith, v.1) in absurd z)
-          (λ v. one_further (λ j. get_or a.work.now (a.x + j) (pos 0) ≡ pos 0) c.loop-i.i (c.loop-i.invariant.1 (sym v.1 ∙ e))
-          (sym (to_z-of_z w16 _ (record { sfits = c.t10-1.given })) ∙ ap (to_z w16) v.0.left))
-          c.if-work-j-ne0.branch,
+      λ e. elim c.if-work-j-ne0.branch [
+        then-work-j-ne0 w ↦ let z : ⊥ = omega (arith, w.others-is) in absurd z
+        | else-work-j-ne0 w ↦ one_further (λ j. get_or a.work.now (a.x + j) (pos 0) ≡ pos 0) c.loop-i.i (c.loop-i.invariant.1 (sym w.others-is ∙ e))
+            w.if-work-j-ne0.false
+      ],
     )
 
 pub returns : goal.returns

@@ -1,11 +1,11 @@
 use Prim.Native.Nat.{◌+◌, ◌-◌, ◌%◌}
 use mathlib.Core.Path.{◌≡◌, sym, ◌∙◌}
-use mathlib.Core.Logic.{⊎_elim}
 use native.Mathlib.Omega.{arith}
 use borrow.Author.Tests.{eqb-true}
 use lib.ListN.{get_or}
 use Rattle.rules.proofs.BelowGrows.{one_further}
 use Rattle.dither.proofs.row.plain.Goals as goal
+use Rattle.dither.proofs.row.plain.Goals.{then-samples-j-ne0, else-samples-j-ne0}
 
 pub loop-i-init : goal.loop-i-init
 loop-i-init c = (omega arith, λ e j h. let z : ⊥ = omega arith in absurd z)
@@ -26,10 +26,11 @@ pub loop-i-preserved : goal.loop-i-preserved
 loop-i-preserved c =
     let a = c.args in (
       omega arith,
-      λ e. ⊎_elim (λ v. let z : ⊥ = omega (arith, v.1) in absurd z)
-          (λ v. one_further (λ j. get_or a.samples.now (a.at + j) 0 % 255 ≡ 0) c.loop-i.i (c.loop-i.invariant.1 (sym v.1 ∙ e))
-          v.0.left)
-          c.if-samples-j-ne0.branch,
+      λ e. elim c.if-samples-j-ne0.branch [
+        then-samples-j-ne0 w ↦ let z : ⊥ = omega (arith, w.grays-is) in absurd z
+        | else-samples-j-ne0 w ↦ one_further (λ j. get_or a.samples.now (a.at + j) 0 % 255 ≡ 0) c.loop-i.i (c.loop-i.invariant.1 (sym w.grays-is ∙ e))
+            w.if-samples-j-ne0.false
+      ],
     )
 
 pub returns : goal.returns
