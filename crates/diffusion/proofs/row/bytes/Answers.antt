@@ -15,14 +15,14 @@ pub overflow_sub-last : goal.overflow_sub-last
 overflow_sub-last c = c.requires.1.1.some
 
 pub returns-then-last-eq0 : goal.returns-then-last-eq0
-returns-then-last-eq0 c = bytes-start _ _ _ c.requires.1.1 (λ i. let f = c.shared_slice_known-1.given i in omega arith) _ c.args.out.now c.if-last-eq0.true refl
+returns-then-last-eq0 c = bytes-start _ _ _ c.requires.1.1 (λ i. let f = c.type_inv.gray i in omega arith) _ c.args.out.now c.if-last-eq0.true refl
 
 pub dots-f-requires : goal.dots-f-requires
-dots-f-requires c = (c.requires.0, (c.requires.1.0, byte-lent _ _ 0 _ _ _ _ (bytes-start _ _ _ c.requires.1.1 (λ i. let f = c.shared_slice_known-1.given i in omega arith) 0 c.args.out.now refl refl) c.requires.1.1.kept (some _ c.if-last-eq0.false)))
+dots-f-requires c = (c.requires.0, (c.requires.1.0, byte-lent _ _ 0 _ _ _ _ (bytes-start _ _ _ c.requires.1.1 (λ i. let f = c.type_inv.gray i in omega arith) 0 c.args.out.now refl refl) c.requires.1.1.kept (some _ c.if-last-eq0.false)))
 
 pub overflow_cast-out : goal.overflow_cast-out
 overflow_cast-out c =
-    let p = bytes-start _ _ _ c.requires.1.1 (λ i. let f = c.shared_slice_known-1.given i in omega arith) 0 c.args.out.now refl refl in
+    let p = bytes-start _ _ _ c.requires.1.1 (λ i. let f = c.type_inv.gray i in omega arith) 0 c.args.out.now refl refl in
     omega (arith, digits-byte _ _ 0 _ _ _ _ p _ _ (c.dots-f.ensures _ p.at))
 
 pub bounds-out-0 : goal.bounds-out-0
@@ -36,7 +36,7 @@ made : (l : At-loop-j) →
     let a = l.args in
     BytesPassed a.gray.now a.work.now l.loop-j.j (length a.out.now) l.loop-j.f l.loop-j.out l.loop-j.work
 made l =
-    let p = bytes-start _ _ _ l.requires.1.1 (λ i. let f = l.shared_slice_known-1.given i in omega arith) 0 l.args.out.now refl refl in
+    let p = bytes-start _ _ _ l.requires.1.1 (λ i. let f = l.type_inv.gray i in omega arith) 0 l.args.out.now refl refl in
     l.loop-j.invariant.passed l.args.work.now (length l.args.out.now)
     (bytes-more _ _ 0 _ _ _ _ p _ _ (l.dots-f.ensures _ p.at) (some _ l.if-last-eq0.false) (omega (arith, some _ l.if-last-eq0.false, l.requires.1.1.room)))
 

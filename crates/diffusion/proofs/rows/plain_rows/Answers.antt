@@ -60,8 +60,8 @@ loop-y-smaller c = omega (arith, c.loop-y-test.true)
 
 pub loop-y-preserved : goal.loop-y-preserved
 loop-y-preserved c =
-    plain_more c.requires c.loop-y.invariant c.loop-y-test.true _ _ (λ i. let f = c.shared_slice_known-1.given i in omega arith)
-    (not-false _ c.if-not-plain_row.false-raw) c.plain_row.ensures
+    plain_more c.requires c.loop-y.invariant c.loop-y-test.true _ _ (λ i. let f = c.type_inv.gray i in omega arith)
+    c.if-not-plain_row.false c.plain_row.ensures
 
 pub shape_of-out : goal.shape_of-out
 shape_of-out c = c.loop-y.invariant.written.long

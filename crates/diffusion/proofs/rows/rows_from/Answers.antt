@@ -68,7 +68,7 @@ loop-y-smaller c = omega (arith, c.loop-y-test.true)
 pub loop-y-preserved : goal.loop-y-preserved
 loop-y-preserved c =
     going_next c.requires.plane_lent.0 c.loop-y.invariant c.loop-y-test.true
-    (λ i. let f = c.shared_slice_known-1.given i in omega arith) _ _ _
+    (λ i. let f = c.type_inv.gray i in omega arith) _ _ _
     c.next_row-level.auto.work c.next_row-level.ensures
 
 pub shape_of-work : goal.shape_of-work

@@ -70,7 +70,7 @@ returns-then-residual_free c =
     (sym (c.threshold_row_bytes.ensures.does c.requires.there))
     (residual-free-all a.width a.y a.column a.corner a.samples.now (length a.out.now) a.work.now _
     c.requires.there c.requires.in_row c.requires.room
-    (λ i. let f = c.shared_slice_known-1.given i in omega arith)
+    (λ i. let f = c.type_inv.samples i in omega arith)
     n.left_is n.corner_is (c.residual_free.ensures c.if-residual_free.true) (some (goal.at.returns-then-residual_free c).After-over))
 
 pub loop-k-init : goal.loop-k-init
