@@ -6,7 +6,7 @@ use Rattle.diffusion.proofs.ones.dither_ones.Goals as goal
 use Rattle.diffusion.proofs.ones.dither_ones.Goals.{After-part, In-loop-y}
 
 bytes : (c : In-loop-y) (n : ℕ) → get_or c.args.gray.now n 0 < 256
-bytes c n = let f = c.shared_slice_known-1.given n in omega arith
+bytes c n = let f = c.type_inv.gray n in omega arith
 
 small : (c : After-part)
     → get_or c.args.gray.now c.loop-y.y 0 + c.part.result + 88 < 512

@@ -6,7 +6,7 @@ use Rattle.diffusion.proofs.pairs.dither_pairs.Goals as goal
 use Rattle.diffusion.proofs.pairs.dither_pairs.Goals.{In-loop-y}
 
 bytes : (c : In-loop-y) (n : ℕ) → get_or c.args.gray.now n 0 < 256
-bytes c n = let f = c.shared_slice_known-1.given n in omega arith
+bytes c n = let f = c.type_inv.gray n in omega arith
 
 -- the row's samples are there
 there : (c : In-loop-y) → 2 * c.loop-y.y + 1 < length c.args.gray.now

@@ -82,7 +82,11 @@ pub plain_rows-first-requires : goal.plain_rows-first-requires
 plain_rows-first-requires c = lent (goal.at.plain_rows-first-requires c).Else-columns-eq0
 
 pub rows_from-requires : goal.rows_from-requires
-rows_from-requires c = ((lent_still c.plain_rows-first.ensures (lent (goal.at.rows_from-requires c).Else-columns-eq0), c.if-work-columns.false), rows_left c.plain_rows-first.ensures)
+rows_from-requires c =
+    record {
+      plane_lent = (lent_still c.plain_rows-first.ensures (lent (goal.at.rows_from-requires c).Else-columns-eq0), c.if-work-columns.false);
+      rows_left = rows_left c.plain_rows-first.ensures;
+    }
 
 pub returns-then-first-rows : goal.returns-then-first-rows
 returns-then-first-rows c = served (goal.at.returns-then-first-rows c).Else-work-columns _ _ (rows-joined c.plain_rows-first.ensures _ c.rows_from.ensures.rows_written) c.rows_from.ensures.work_unchanged

@@ -5,46 +5,40 @@ use lib.ListN.{length}
 use Rattle.diffusion.specs.Internal.Flow.{BytesPassed}
 use Rattle.diffusion.proofs.RowBytes.{first_flow, bytes-start, byte-lent, digits-byte, bytes-more}
 use Rattle.diffusion.proofs.row.bytes.Goals as goal
-use Rattle.diffusion.proofs.row.bytes.Goals.{After-slice_known-1, At-loop-j, Else-last-eq0}
+use Rattle.diffusion.proofs.row.bytes.Goals.{At-loop-j}
 
--- no byte is made
-none_made : (k : After-slice_known-1) (n : ℕ) → n ≡ 0 →
-    let a = k.args in
-    BytesPassed a.gray.now a.work.now n (length a.out.now) first_flow a.out.now a.work.now
-none_made k n e =
-    bytes-start _ _ _ k.requires.1.1 (λ i. let f = k.shared_slice_known-1.given i in omega arith) n k.args.out.now e refl
-
-some : (e : Else-last-eq0) → 8 * 0 + 8 ≤ length e.args.gray.now
-some e = let z = e.if-last-eq0.false in omega (arith, z)
+-- the first byte has eight columns
+some : (w : ℕ) → ((w - 1) / 8 ≡ 0 → ⊥) → 8 * 0 + 8 ≤ w
+some w h = omega arith
 
 pub overflow_sub-last : goal.overflow_sub-last
 overflow_sub-last c = c.requires.1.1.some
 
 pub returns-then-last-eq0 : goal.returns-then-last-eq0
-returns-then-last-eq0 c = none_made (goal.at.returns-then-last-eq0 c).After-slice_known-1 _ c.if-last-eq0.true
+returns-then-last-eq0 c = bytes-start _ _ _ c.requires.1.1 (λ i. let f = c.type_inv.gray i in omega arith) _ c.args.out.now c.if-last-eq0.true refl
 
 pub dots-f-requires : goal.dots-f-requires
-dots-f-requires c = (c.requires.0, (c.requires.1.0, byte-lent _ _ 0 _ _ _ _ (none_made (goal.at.dots-f-requires c).After-slice_known-1 0 refl) c.requires.1.1.kept (some (goal.at.dots-f-requires c).Else-last-eq0)))
+dots-f-requires c = (c.requires.0, (c.requires.1.0, byte-lent _ _ 0 _ _ _ _ (bytes-start _ _ _ c.requires.1.1 (λ i. let f = c.type_inv.gray i in omega arith) 0 c.args.out.now refl refl) c.requires.1.1.kept (some _ c.if-last-eq0.false)))
 
 pub overflow_cast-out : goal.overflow_cast-out
 overflow_cast-out c =
-    let p = none_made (goal.at.overflow_cast-out c).After-slice_known-1 0 refl in
+    let p = bytes-start _ _ _ c.requires.1.1 (λ i. let f = c.type_inv.gray i in omega arith) 0 c.args.out.now refl refl in
     omega (arith, digits-byte _ _ 0 _ _ _ _ p _ _ (c.dots-f.ensures _ p.at))
 
 pub bounds-out-0 : goal.bounds-out-0
-bounds-out-0 c = omega (arith, some (goal.at.bounds-out-0 c).Else-last-eq0, c.requires.1.1.room)
+bounds-out-0 c = omega (arith, some _ c.if-last-eq0.false, c.requires.1.1.room)
 
 pub loop-j-init : goal.loop-j-init
-loop-j-init c = record { from = omega arith; to = omega (arith, some (goal.at.loop-j-init c).Else-last-eq0); passed = λ old room p. p }
+loop-j-init c = record { from = omega arith; to = omega (arith, some _ c.if-last-eq0.false); passed = λ old room p. p }
 
 -- the bytes so far
 made : (l : At-loop-j) →
     let a = l.args in
     BytesPassed a.gray.now a.work.now l.loop-j.j (length a.out.now) l.loop-j.f l.loop-j.out l.loop-j.work
 made l =
-    let p = none_made (goal.at.NO_GOAL l).After-slice_known-1 0 refl in
+    let p = bytes-start _ _ _ l.requires.1.1 (λ i. let f = l.type_inv.gray i in omega arith) 0 l.args.out.now refl refl in
     l.loop-j.invariant.passed l.args.work.now (length l.args.out.now)
-    (bytes-more _ _ 0 _ _ _ _ p _ _ (l.dots-f.ensures _ p.at) (some (goal.at.NO_GOAL l).Else-last-eq0) (omega (arith, some (goal.at.NO_GOAL l).Else-last-eq0, l.requires.1.1.room)))
+    (bytes-more _ _ 0 _ _ _ _ p _ _ (l.dots-f.ensures _ p.at) (some _ l.if-last-eq0.false) (omega (arith, some _ l.if-last-eq0.false, l.requires.1.1.room)))
 
 -- there are the dots of a byte more
 there : (l : At-loop-j) →

@@ -5,7 +5,6 @@ use mir.Syntax.{w16}
 use mir.ValLaws.{to_z_pos}
 use Rattle.diffusion.proofs.RowEnds.{last-lent, shifted-small, shifted-is, row-dithered}
 use Rattle.diffusion.proofs.row.dither_row.Goals as goal
-use Rattle.diffusion.proofs.row.dither_row.Goals.{After-bytes-f}
 
 pub bytes-f-requires : goal.bytes-f-requires
 bytes-f-requires c = c.requires
@@ -47,7 +46,7 @@ pub overflow_cast-work : goal.overflow_cast-work
 overflow_cast-work c = record { sfits = omega arith }
 
 pub offset_bounds-work-end : goal.offset_bounds-work-end
-offset_bounds-work-end c = omega (arith, (start (goal.at.offset_bounds-work-end c).After-bytes-f).well-formed)
+offset_bounds-work-end c = omega (arith, c.well_formed)
 
 pub bounds-work-end : goal.bounds-work-end
 bounds-work-end c = omega (arith, (c.dots-s.ensures _ c.bytes-f.ensures.at).at.long, c.requires.1.1.kept, c.requires.1.1.some)

@@ -9,14 +9,14 @@ use mir.ValLaws.{to_z-of_z}
 use Rattle.diffusion.proofs.DotStep.{sum_fits, parts-lt, index_in, dot-passed}
 use Rattle.diffusion.proofs.SumsCorrect.{part_small, rest-small}
 use Rattle.diffusion.proofs.row.dot.Goals as goal
-use Rattle.diffusion.proofs.row.dot.Goals.{After-struct_known-1, After-way_told-1, Start}
+use Rattle.diffusion.proofs.row.dot.Goals.{Start}
 
 -- `diffusion::row::dot` meets its contract.
 -- Assumes nothing.
 same : (s : Start) → to_z w16 (of_z w16 s.args.sum) ≡ s.args.sum
 same s = to_z-of_z w16 s.args.sum s.ranges.sum
 
-abbrev index : tie.Start → ℕ
+abbrev index : Start → ℕ
 index s = s.args.gray + nat_abs (to_z w16 (of_z w16 s.args.sum)) + s.args.f.right
 
 below : (s : Start) → index s < 512
@@ -44,22 +44,22 @@ pub offset_bounds-downs-i : goal.offset_bounds-downs-i
 offset_bounds-downs-i c = omega (arith, below (goal.at.offset_bounds-downs-i c).Start)
 
 pub bounds-downs-i : goal.bounds-downs-i
-bounds-downs-i c = below (goal.at.bounds-downs-i c).After-struct_known-1
+bounds-downs-i c = below (goal.at.bounds-downs-i c).Start
 
 pub bounds-rights-i : goal.bounds-rights-i
-bounds-rights-i c = below (goal.at.bounds-rights-i c).After-way_told-1
+bounds-rights-i c = below (goal.at.bounds-rights-i c).Start
 
 pub overflow_cast-result : goal.overflow_cast-result
-overflow_cast-result c = omega (arith, c.requires.0 (index (goal.at.overflow_cast-result c).After-way_told-1) (below (goal.at.overflow_cast-result c).After-way_told-1), part_small 7 _ (rest-small (index (goal.at.overflow_cast-result c).After-way_told-1) (below (goal.at.overflow_cast-result c).After-way_told-1)))
+overflow_cast-result c = omega (arith, c.requires.0 (index (goal.at.overflow_cast-result c).Start) (below (goal.at.overflow_cast-result c).Start), part_small 7 _ (rest-small (index (goal.at.overflow_cast-result c).Start) (below (goal.at.overflow_cast-result c).Start)))
 
 pub overflow_add-result : goal.overflow_add-result
-overflow_add-result c = omega (arith, c.struct_known-2-1.given, entry (goal.at.overflow_add-result c).After-way_told-1)
+overflow_add-result c = omega (arith, c.struct_known-2-1.given, entry (goal.at.overflow_add-result c).Start)
 
 pub overflow_add-result-2 : goal.overflow_add-result-2
-overflow_add-result-2 c = omega (arith, below (goal.at.overflow_add-result-2 c).After-way_told-1, c.requires.1.1.digits_small)
+overflow_add-result-2 c = omega (arith, below (goal.at.overflow_add-result-2 c).Start, c.requires.1.1.digits_small)
 
 pub returns : goal.returns
 returns c =
     let a = c.args in
     let p = c.requires in
-    dot-passed a.rights.now a.downs.now a.f a.gray _ a.sum (same (goal.at.returns c).After-way_told-1) p.1.1 (omega arith) p.0 p.1.0
+    dot-passed a.rights.now a.downs.now a.f a.gray _ a.sum (same (goal.at.returns c).Start) p.1.1 (omega arith) p.0 p.1.0

@@ -1,6 +1,5 @@
 use Prim.Native.Nat.{◌-◌, ◌<◌}
 use mathlib.Core.Path.{◌≡◌}
-use mathlib.Core.Logic.{⊎_elim}
 use native.Mathlib.Omega.{arith}
 use lib.IntN.{pos}
 use lib.ListN.{length, get_or}
@@ -9,7 +8,7 @@ use mir.Val.{to_z, of_z}
 use mir.ValLaws.{to_z-of_z, to_z_pos}
 use Rattle.diffusion.proofs.RowGrows.{byte-begins, run-start, run_long, run_lent, run_more, run_end, sum-none, sum_left}
 use Rattle.diffusion.proofs.row.dots.Goals as goal
-use Rattle.diffusion.proofs.row.dots.Goals.{After-dot-arg-1, At-loop-i}
+use Rattle.diffusion.proofs.row.dots.Goals.{After-dot-arg-1, At-loop-i, then-i-gt0, else-i-gt0}
 
 -- the numbers of the work buffer are as many as they were
 long : (l : At-loop-i) → length l.loop-i.work ≡ length l.args.work.now
@@ -75,10 +74,10 @@ pub loop-i-preserved : goal.loop-i-preserved
 loop-i-preserved c =
     let t = c.loop-i-test.true in
     run_more _ _ _ _ _ _ _ _ c.loop-i.invariant _ (same_sum (goal.at.loop-i-preserved c).After-dot-arg-1) _ _ t c.requires.1.1.in_row c.dot-s.ensures
-    (⊎_elim
-    (λ v. sum_left _ _ _ _ _ v.0.taken (omega (arith, in-work (goal.at.loop-i-preserved c).At-loop-i t)) (to_z_pos w16 _ (omega arith)) v.2)
-    (λ v. sum-none _ _ _ _ v.0.left v.1)
-    c.if-i-gt0.branch)
+    (elim c.if-i-gt0.branch [
+      then-i-gt0 w ↦ sum_left _ _ _ _ _ w.if-i-gt0.true (omega (arith, in-work (goal.at.loop-i-preserved c).At-loop-i t)) (to_z_pos w16 _ (omega arith)) w.work-is
+      | else-i-gt0 w ↦ sum-none _ _ _ _ w.if-i-gt0.false w.work-is
+    ])
 
 pub shape_of-work : goal.shape_of-work
 shape_of-work c = long (goal.at.shape_of-work c).At-loop-i

@@ -6,9 +6,8 @@ use Rattle.diffusion.proofs.row.eight_dots_or_level.Goals as goal
 
 pub returns : goal.returns
 returns c =
-    let s = e.before.before.before in
-    let a = s.args in
-    let p = s.requires.1.1 in
+    let a = c.args in
+    let p = c.requires.1.1 in
     let l = c.level_byte-byte.ensures.0 (omega (arith, c.level_byte-byte.ensures.1, c.if-byte-eq256.false)) in
     λ old t. level-dots a.gray.now old a.x a.f a.work.now _ l t p.1 p.0.in_row p.0.kept _
     (to_z_pos w16 _ (omega arith))

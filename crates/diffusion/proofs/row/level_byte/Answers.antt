@@ -8,9 +8,9 @@ use Rattle.diffusion.proofs.row.level_byte.Goals.{Else-not-plain_row}
 
 -- `diffusion::row::level_byte` meets its contract.
 -- Assumes nothing.
-small : (c : Else-not-plain_row) → get_or c.plain_row.new.1.1.0 0 0 < 256
+small : (c : Else-not-plain_row) → get_or c.plain_row.new.out 0 0 < 256
 small c =
-    told-small c.args.gray.now c.args.x _ _ _ c.plain_row.ensures (not-false _ c.if-not-plain_row.false-raw) c.requires.0
+    told-small c.args.gray.now c.args.x _ _ _ c.plain_row.ensures c.if-not-plain_row.false c.requires.0
 
 pub returns-then-right-ne56 : goal.returns-then-right-ne56
 returns-then-right-ne56 c = (λ h. let z : ⊥ = omega arith in absurd z, omega arith)
@@ -27,7 +27,7 @@ overflow_cast-result c = record { fits = omega (arith, small c) }
 pub returns : goal.returns
 returns c =
     let a = c.args in (
-      λ h. level-told a.gray.now a.x _ _ _ c.plain_row.ensures (not-false _ c.if-not-plain_row.false-raw) c.requires.0 a.right
-          a.work.now c.if-right-ne56.false (c.eight_are_level.ensures (not-false _ c.if-not-eight_are_level.false-raw)),
+      λ h. level-told a.gray.now a.x _ _ _ c.plain_row.ensures c.if-not-plain_row.false c.requires.0 a.right
+          a.work.now c.if-right-ne56.false (c.eight_are_level.ensures c.if-not-eight_are_level.false),
       omega (arith, small c),
     )

@@ -7,13 +7,13 @@ use Rattle.diffusion.proofs.rows.begin_row.Goals as goal
 pub returns-then-not-level : goal.returns-then-not-level
 returns-then-not-level c =
     let a = c.args in
-    let e = not-true a.level c.if-not-level.true-raw in
+    let e = c.if-not-level.true in
     begun-handed a.gray.now a.work.now _ a.level e (c.requires.sums e)
 
 pub returns-then-plain_row : goal.returns-then-plain_row
 returns-then-plain_row c =
     let a = c.args in
-    begun-plain a.gray.now a.work.now _ a.level _ a.out.now (not-false a.level c.if-not-level.false-raw) c.if-plain_row.true
+    begun-plain a.gray.now a.work.now _ a.level _ a.out.now c.if-not-level.false c.if-plain_row.true
     c.requires.room c.plain_row.ensures
 
 pub slice_bounds-level_sums-end-2 : goal.slice_bounds-level_sums-end-2
@@ -22,6 +22,6 @@ slice_bounds-level_sums-end-2 c = sym (length-take-le _ c.args.work.now c.requir
 pub returns : goal.returns
 returns c =
     let a = c.args in
-    let k = c.level_sums.auto.0 ∙ length-take-le _ a.work.now c.requires.kept in
-    begun-level a.gray.now a.work.now _ c.level_sums.new.0 k c.level_sums.ensures a.level
-    (not-false a.level c.if-not-level.false-raw)
+    let k = c.level_sums.auto.sums ∙ length-take-le _ a.work.now c.requires.kept in
+    begun-level a.gray.now a.work.now _ c.level_sums.new.sums k c.level_sums.ensures a.level
+    c.if-not-level.false

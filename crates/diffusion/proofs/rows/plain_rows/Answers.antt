@@ -47,13 +47,10 @@ slice_bounds-plain_row-end-in-loop-y c = omega (arith, room (goal.at.slice_bound
 pub returns-then-not-plain_row : goal.returns-then-not-plain_row
 returns-then-not-plain_row c =
     plain_end c.requires c.loop-y.invariant c.loop-y-test.true c.plain_row.result
-    c.plain_row.new.1.1.0 c.plain_row.auto.1.1.0
+    c.plain_row.new.out c.plain_row.auto.out
 
 pub shape_of-out-then-not-plain_row : goal.shape_of-out-then-not-plain_row
 shape_of-out-then-not-plain_row c = (returns-then-not-plain_row c).written.long
-
-pub returns-then-not-plain_row : goal.returns-then-not-plain_row
-returns-then-not-plain_row c = returns-then-not-plain_row c
 
 pub overflow_add-y : goal.overflow_add-y
 overflow_add-y c = omega (arith, c.loop-y-test.true, c.ranges.height)
@@ -63,8 +60,8 @@ loop-y-smaller c = omega (arith, c.loop-y-test.true)
 
 pub loop-y-preserved : goal.loop-y-preserved
 loop-y-preserved c =
-    plain_more c.requires c.loop-y.invariant c.loop-y-test.true _ _ (λ i. let f = c.shared_slice_known-1.given i in omega arith)
-    (not-false _ c.if-not-plain_row.false-raw) c.plain_row.ensures
+    plain_more c.requires c.loop-y.invariant c.loop-y-test.true _ _ (λ i. let f = c.type_inv.gray i in omega arith)
+    c.if-not-plain_row.false c.plain_row.ensures
 
 pub shape_of-out : goal.shape_of-out
 shape_of-out c = c.loop-y.invariant.written.long

@@ -68,8 +68,8 @@ loop-y-smaller c = omega (arith, c.loop-y-test.true)
 pub loop-y-preserved : goal.loop-y-preserved
 loop-y-preserved c =
     going_next c.requires.plane_lent.0 c.loop-y.invariant c.loop-y-test.true
-    (λ i. let f = c.shared_slice_known-1.given i in omega arith) _ _ _
-    c.next_row-level.auto.1.1.1.1.0 c.next_row-level.ensures
+    (λ i. let f = c.type_inv.gray i in omega arith) _ _ _
+    c.next_row-level.auto.work c.next_row-level.ensures
 
 pub shape_of-work : goal.shape_of-work
 shape_of-work c = c.loop-y.invariant.kept
@@ -78,4 +78,4 @@ pub shape_of-out : goal.shape_of-out
 shape_of-out c = c.loop-y.invariant.here.written.long
 
 pub returns : goal.returns
-returns c = (going_end c.loop-y.invariant c.loop-y-test.false, c.loop-y.invariant.beyond)
+returns c = record { rows_written = going_end c.loop-y.invariant c.loop-y-test.false; work_unchanged = c.loop-y.invariant.beyond }

@@ -11,7 +11,7 @@ use Rattle.dither.specs.Internal.Kernels.{row_bit, carry_of}
 use Rattle.rules.proofs.DigitsAppended.{appended-fits}
 use Rattle.dither.proofs.DitherDotsLoop.{inv-start, inv-more, inv-end, dot-le, row-bit-le}
 use Rattle.dither.proofs.dots.dither_dots.Goals as goal
-use Rattle.dither.proofs.dots.dither_dots.Goals.{After-over-above, After-struct_known-1, At-loop-i}
+use Rattle.dither.proofs.dots.dither_dots.Goals.{After-struct_known-1, At-loop-i}
 
 low : (l : At-loop-i) → l.loop-i.digits < 65536
 low l =
@@ -65,13 +65,13 @@ in-work : (l : At-loop-i) → l.loop-i.i < length l.args.gray.now
 in-work l h = omega (arith, l.requires.within, l.requires.room, l.loop-i.invariant.long)
 
 pub bounds-work-x : goal.bounds-work-x
-bounds-work-x c = in-work (goal.at.bounds-work-x c).After-over-above (omega arith)
+bounds-work-x c = in-work (goal.at.bounds-work-x c).At-loop-i (omega arith)
 
 pub overflow_mul-digits : goal.overflow_mul-digits
-overflow_mul-digits c = omega (arith, low (goal.at.overflow_mul-digits c).After-over-above)
+overflow_mul-digits c = omega (arith, low (goal.at.overflow_mul-digits c).At-loop-i)
 
 pub overflow_add-digits : goal.overflow_add-digits
-overflow_add-digits c = omega (arith, low (goal.at.overflow_add-digits c).After-over-above, dot-le c.step-d.ensures)
+overflow_add-digits c = omega (arith, low (goal.at.overflow_add-digits c).At-loop-i, dot-le c.step-d.ensures)
 
 pub overflow_add-i : goal.overflow_add-i
 overflow_add-i c = omega (arith, c.well_formed)
@@ -81,7 +81,7 @@ loop-i-smaller c = omega arith
 
 stored : (s : After-struct_known-1)
     → to_z w16 (of_z w16 s.from_held.result) ≡ sub_ℕ s.step-d.result.rest 128
-stored s = to_z-of_z w16 _ (record { sfits = s.from_held.type-inv }) ∙ s.from_held.ensures
+stored s = to_z-of_z w16 _ (record { sfits = s.from_held.type_inv }) ∙ s.from_held.ensures
 
 pub loop-i-preserved : goal.loop-i-preserved
 loop-i-preserved c =
@@ -91,7 +91,7 @@ loop-i-preserved c =
     c.loop-i.invariant _ _ _
     (rw (c.reach-near.ensures.is c.loop-i.work (a.column + c.loop-i.i + 1)) c.over-ahead.ensures)
     c.step-d.ensures
-    _ (stored c) t (in-work (goal.at.loop-i-preserved c).After-over-above t)
+    _ (stored (goal.at.loop-i-preserved c).After-struct_known-1) t (in-work (goal.at.loop-i-preserved c).At-loop-i t)
 
 pub shape_of-work : goal.shape_of-work
 shape_of-work c = c.loop-i.invariant.long

@@ -8,10 +8,9 @@ use Rattle.dither.proofs.dots.step.Goals as goal
 use Rattle.dither.proofs.dots.step.Goals.{After-part-4}
 
 -- the value, plus 128, and that it is
-abbrev sum : tie.After-part4 → ℕ
+abbrev sum : After-part-4 → ℕ
 sum j =
-    j.before.before.before.before.args.gray + j.before.before.before.part.result
-    + j.before.before.part2.result + j.before.part3.result + j.part4.result
+    j.args.gray + j.part.result + j.part-2.result + j.part-3.result + j.part-4.result
 
 sum-is : (j : After-part-4)
     → let a = j.args in

@@ -9,7 +9,7 @@ pub returns-then-n-eq0 : goal.returns-then-n-eq0
 returns-then-n-eq0 c = told-no (λ p. omega (arith, p.some, c.if-n-eq0.true))
 
 pub returns-then-not-packs : goal.returns-then-not-packs
-returns-then-not-packs c = told-no (λ p. c.packs.ensures.no (not-true _ c.if-not-packs.true-raw) p.packs)
+returns-then-not-packs c = told-no (λ p. c.packs.ensures.no c.if-not-packs.true p.packs)
 
 pub returns-then-width-column : goal.returns-then-width-column
 returns-then-width-column c = told-no (λ p. omega (arith, p.within, c.if-width-column.true))
@@ -25,7 +25,7 @@ returns c =
     told-le _ _
     (λ h. record {
       some = omega (arith, c.if-n-eq0.false);
-      packs = c.packs.ensures.yes (not-false _ c.if-not-packs.false-raw);
+      packs = c.packs.ensures.yes c.if-not-packs.false;
       within = omega (arith, c.if-width-column.false, c.if-width-column-2.false);
       room = c.if-work-width.false;
       small = h;

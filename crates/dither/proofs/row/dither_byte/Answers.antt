@@ -11,7 +11,7 @@ use Rattle.dither.specs.Internal.Kernels.{row_bit, carry_of}
 use Rattle.rules.proofs.DigitsAppended.{appended-fits}
 use Rattle.dither.proofs.DitherDotsLoop.{inv-start, inv-more, inv-end, inv-near, dot-le, row-bit-le}
 use Rattle.dither.proofs.row.dither_byte.Goals as goal
-use Rattle.dither.proofs.row.dither_byte.Goals.{After-reach-reached, After-struct_known-1, At-loop-i}
+use Rattle.dither.proofs.row.dither_byte.Goals.{After-struct_known-1, At-loop-i}
 
 low : (l : At-loop-i) → l.loop-i.digits < 65536
 low l =
@@ -57,13 +57,13 @@ in-work : (l : At-loop-i) → l.loop-i.i < length l.args.gray.now
 in-work l h = omega (arith, l.requires.0.within, l.requires.0.room, l.loop-i.invariant.long)
 
 pub bounds-work-x : goal.bounds-work-x
-bounds-work-x c = in-work (goal.at.bounds-work-x c).After-reach-reached (omega arith)
+bounds-work-x c = in-work (goal.at.bounds-work-x c).At-loop-i (omega arith)
 
 pub overflow_mul-digits : goal.overflow_mul-digits
-overflow_mul-digits c = omega (arith, low (goal.at.overflow_mul-digits c).After-reach-reached)
+overflow_mul-digits c = omega (arith, low (goal.at.overflow_mul-digits c).At-loop-i)
 
 pub overflow_add-digits : goal.overflow_add-digits
-overflow_add-digits c = omega (arith, low (goal.at.overflow_add-digits c).After-reach-reached, dot-le c.step-d.ensures)
+overflow_add-digits c = omega (arith, low (goal.at.overflow_add-digits c).At-loop-i, dot-le c.step-d.ensures)
 
 pub overflow_add-i : goal.overflow_add-i
 overflow_add-i c = omega (arith, c.well_formed)
@@ -73,7 +73,7 @@ loop-i-smaller c = omega arith
 
 stored : (s : After-struct_known-1)
     → to_z w16 (of_z w16 s.from_held.result) ≡ sub_ℕ s.step-d.result.rest 128
-stored s = to_z-of_z w16 _ (record { sfits = s.from_held.type-inv }) ∙ s.from_held.ensures
+stored s = to_z-of_z w16 _ (record { sfits = s.from_held.type_inv }) ∙ s.from_held.ensures
 
 pub loop-i-preserved : goal.loop-i-preserved
 loop-i-preserved c =
@@ -83,7 +83,7 @@ loop-i-preserved c =
     c.loop-i.invariant _ _ _
     (rw (c.reach-reached.ensures.is c.loop-i.work (a.column + c.loop-i.i + 1)) c.inside-ahead.ensures)
     c.step-d.ensures
-    _ (stored c) t (in-work (goal.at.loop-i-preserved c).After-reach-reached t)
+    _ (stored (goal.at.loop-i-preserved c).After-struct_known-1) t (in-work (goal.at.loop-i-preserved c).At-loop-i t)
 
 pub shape_of-work : goal.shape_of-work
 shape_of-work c = c.loop-i.invariant.long

@@ -4,13 +4,29 @@ use mathlib.Core.List.{List}
 use native.Mathlib.Omega.{arith}
 use lib.ListN.{length}
 use Rattle.rules.specs.Rule.{dither}
-use Rattle.dither.specs.Internal.Row.{Bytes}
+use Rattle.dither.specs.Internal.Row.{Near, Bytes}
 use Rattle.dither.proofs.ResidualFreeBytes.{residual-free-all}
 use Rattle.dither.proofs.DitherBytesLoop.{bytes-none, chain-start, chain_more, chain-end, byte_small, near-own}
 use Rattle.rules.proofs.ListPiece.{piece-length}
-use Rattle.dither.proofs.row.dither_bytes.Invariants.{near}
 use Rattle.dither.proofs.row.dither_bytes.Goals as goal
-use Rattle.dither.proofs.row.dither_bytes.Goals.{After-over, After-reach, At-loop-k}
+use Rattle.dither.proofs.row.dither_bytes.Goals.{After-over, At-loop-k}
+
+-- the residuals next to the first dot
+near : (o : After-over)
+    → let a = o.args in
+    Near a.width a.y a.column a.corner a.work.now
+    (record {
+      left = o.left_of.result;
+      corner = o.corner_of.result;
+      above = o.over.result;
+    })
+near o =
+    let a = o.args in
+    record {
+      left_is = o.left_of.ensures;
+      corner_is = o.corner_of.ensures;
+      above_is = rw (o.reach.ensures.is a.work.now a.column) o.over.ensures;
+    }
 
 -- there is a byte
 some : (o : After-over) → 0 < length o.args.out.now
@@ -27,7 +43,7 @@ returns-then-count-eq0 c =
     bytes-none dither a.width a.y a.column a.samples.now a.corner a.work.now a.out.now c.if-count-eq0.true
 
 pub left_of-requires : goal.left_of-requires
-left_of-requires c = let s = c.before.before.before.before in omega (arith, s.requires.in_row, s.requires.room)
+left_of-requires c = omega (arith, c.requires.in_row, c.requires.room)
 
 pub corner_of-requires : goal.corner_of-requires
 corner_of-requires c = c.requires.small
@@ -36,7 +52,7 @@ pub reach-requires : goal.reach-requires
 reach-requires c = tt
 
 pub over-requires : goal.over-requires
-over-requires c = let s = c.before.before.before.before.before.before.before.before in omega (arith, c.reach.ensures.most, s.requires.room)
+over-requires c = omega (arith, c.reach.ensures.most, c.requires.room)
 
 pub overflow_mul-count : goal.overflow_mul-count
 overflow_mul-count c = omega (arith, c.requires.there, c.well_formed)
@@ -47,21 +63,21 @@ residual_free-requires c = (c.requires.there, omega (arith, c.requires.in_row, c
 pub returns-then-residual_free : goal.returns-then-residual_free
 returns-then-residual_free c =
     let a = c.args in
-    let n = near (goal.at.returns-then-residual_free c).After-reach in
+    let n = near (goal.at.returns-then-residual_free c).After-over in
     subst
     (λ (out : List ℕ). Bytes dither a.width a.y a.column a.samples.now a.corner a.work.now (length a.out.now)
     out 128 a.work.now)
     (sym (c.threshold_row_bytes.ensures.does c.requires.there))
     (residual-free-all a.width a.y a.column a.corner a.samples.now (length a.out.now) a.work.now _
     c.requires.there c.requires.in_row c.requires.room
-    (λ i. let f = c.shared_slice_known-1.given i in omega arith)
-    n.left_is n.corner_is (c.residual_free.ensures c.if-residual_free.true) (some (goal.at.returns-then-residual_free c).After-reach))
+    (λ i. let f = c.type_inv.samples i in omega arith)
+    n.left_is n.corner_is (c.residual_free.ensures c.if-residual_free.true) (some (goal.at.returns-then-residual_free c).After-over))
 
 pub loop-k-init : goal.loop-k-init
 loop-k-init c =
     let a = c.args in
     chain-start a.width a.y a.column a.samples.now a.corner a.work.now (length a.out.now) a.out.now _ refl
-    (near (goal.at.loop-k-init c).After-reach)
+    (near (goal.at.loop-k-init c).After-over)
 
 pub overflow_mul-from : goal.overflow_mul-from
 overflow_mul-from c = omega (arith, there (goal.at.overflow_mul-from c).At-loop-k c.loop-k-test.true, c.well_formed)
@@ -132,4 +148,4 @@ returns c =
     let a = c.args in
     chain-end a.width a.y a.column a.samples.now a.corner a.work.now (length a.out.now) _ _ _ _ c.loop-k.invariant
     c.loop-k-test.false
-    (some (goal.at.returns c).After-reach)
+    (some (goal.at.returns c).After-over)
