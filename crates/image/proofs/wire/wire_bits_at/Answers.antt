@@ -48,9 +48,9 @@ pub wire_packed-requires : goal.wire_packed-requires
 wire_packed-requires c =
     let l = laid c.new-layout.ensures in
     record {
-        laid = l;
-        plane_len = length-take-le _ _ c.if-total-plane.true ∙ total-is l;
-        out_len = length-take-le _ _ c.if-out-total.false ∙ total-is l
+      laid = l;
+      plane_len = length-take-le _ _ c.if-total-plane.true ∙ total-is l;
+      out_len = length-take-le _ _ c.if-out-total.false ∙ total-is l;
     }
 
 pub returns-then-total-plane : goal.returns-then-total-plane
