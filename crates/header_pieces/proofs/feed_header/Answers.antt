@@ -9,9 +9,9 @@ use Rattle.header_pieces.proofs.feed_header.Goals.{After-keep-kept}
 turn : (k : After-keep-kept)
     → let l = k.loop-taken in
     let a = k.args in
-    Turn a.piece.now a.reading.at l.taken l.reader l.auto l.ext
+    Turn a.piece.now a.reading.at l.taken l.reader l.kept l.ext
     k.step-step.result k.keep-kept.result
-    k.keep-kept.new.0
+    k.keep-kept.new.ext
 turn k =
     let l = k.loop-taken in
     record {
@@ -35,16 +35,16 @@ pub loop-taken-preserved : goal.loop-taken-preserved
 loop-taken-preserved c =
     let l = c.loop-taken in (
       c.run_on-run.ensures.within,
-      c.run_on-run.auto.1.1.1.1.0 ∙ c.keep-kept.auto.0 ∙ l.invariant.1,
+      c.run_on-run.auto.ext ∙ c.keep-kept.auto.ext ∙ l.invariant.1,
       λ o bytes h. going-run o bytes _ _ _ _ _ _ _ _ _ _
           (turn_more o bytes _ _ _ _ _ _ _ _ _ _ _ (l.invariant.2 o bytes h) (turn (goal.at.loop-taken-preserved c).After-keep-kept) _
           c.in-More.is)
-          c.run_on-run.ensures (omega (arith, (turn (goal.at.loop-taken-preserved c).After-keep-kept).big, c.keep-kept.auto.0)),
+          c.run_on-run.ensures (omega (arith, (turn (goal.at.loop-taken-preserved c).After-keep-kept).big, c.keep-kept.auto.ext)),
       l.invariant.3,
     )
 
 pub shape_of-ext-in-Done : goal.shape_of-ext-in-Done
-shape_of-ext-in-Done c = c.keep-kept.auto.0 ∙ c.loop-taken.invariant.1
+shape_of-ext-in-Done c = c.keep-kept.auto.ext ∙ c.loop-taken.invariant.1
 
 pub returns-in-Done : goal.returns-in-Done
 returns-in-Done c =
@@ -53,7 +53,7 @@ returns-in-Done c =
     (λ o bytes h. turn-done o bytes _ _ _ _ _ _ _ _ _ _ _ (l.invariant.2 o bytes h) (turn (goal.at.returns-in-Done c).After-keep-kept) _ c.in-Done.is)
 
 pub shape_of-ext-in-Refused : goal.shape_of-ext-in-Refused
-shape_of-ext-in-Refused c = c.keep-kept.auto.0 ∙ c.loop-taken.invariant.1
+shape_of-ext-in-Refused c = c.keep-kept.auto.ext ∙ c.loop-taken.invariant.1
 
 pub returns-in-Refused : goal.returns-in-Refused
 returns-in-Refused c =
@@ -69,4 +69,4 @@ returns c =
     let l = c.loop-taken in
     ends l.invariant.3 (λ h n e. zero_one (cc))
     (λ o bytes h. going-last o bytes _ _ _ _ _ _ _ _ _ (l.invariant.2 o bytes h) c.loop-taken-test.false
-    c.wrapping_add_usize-at.ensures)
+    c.wrapping_add_usize-at.ensures.value)
