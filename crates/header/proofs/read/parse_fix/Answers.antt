@@ -1,11 +1,11 @@
 use mathlib.Core.Path.{◌≡◌, ◌∙◌, sym, ap}
 use mathlib.Core.Bool.{false, ◌&&◌}
-use mathlib.Core.Logic.{⊎_elim}
 use borrow.Author.Tests.{lt-ltb, le-ltb, le-leb, lt-leb}
 use lib.Dec.{ltb}
 use lib.ListN.{get_or}
 use Rattle.header.specs.Read.{meaning}
 use Rattle.header.proofs.read.parse_fix.Goals as goal
+use Rattle.header.proofs.read.parse_fix.Goals.{then-mode+else-fix-gt0, else-mode}
 
 pub returns-then-bytes-at : goal.returns-then-bytes-at
 returns-then-bytes-at c = ap meaning c.refused.ensures ∙ sym (simp (le-leb _ _ c.if-bytes-at.true))
@@ -23,6 +23,6 @@ pub returns : goal.returns
 returns c =
     let a = c.args in
     let b = get_or a.bytes.now a.at 0 in
-    let q : (a.mode.fix_zero && ltb 0 b) ≡ false = ⊎_elim (λ w. simp (w.0.taken, le-ltb 0 b w.1.left)) (λ w. simp w.left)
-    c.if-mode.branch in
+    let q : (a.mode.fix_zero && ltb 0 b) ≡ false = elim c.if-mode.branch
+    [ then-mode+else-fix-gt0 w ↦ simp (w.if-mode.true, le-ltb 0 b w.if-fix-gt0.false) | else-mode w ↦ simp w.if-mode.false ] in
     c.parse_after_fix.ensures ∙ sym (simp (lt-leb _ _ c.if-bytes-at.false, q))

@@ -54,12 +54,12 @@ put_sizes-requires c = simp length-set (omega (arith, c.if-out-around-2.false, c
 
 pub slice_bounds-begin_fields-count : goal.slice_bounds-begin_fields-count
 slice_bounds-begin_fields-count c =
-    let k = simp length-set at c.put_sizes.auto.1.1.0 in
+    let k = simp length-set at c.put_sizes.auto.out in
     omega (arith, k, c.if-out-around-2.false, c.if-out-around.false)
 
 pub slice_bounds-begin_fields-start : goal.slice_bounds-begin_fields-start
 slice_bounds-begin_fields-start c =
-    let k = simp length-set at c.put_sizes.auto.1.1.0 in
+    let k = simp length-set at c.put_sizes.auto.out in
     omega (arith, k, c.if-out-around-2.false, c.if-out-around.false)
 
 pub overflow_add-result : goal.overflow_add-result
@@ -71,32 +71,32 @@ overflow_add-result c =
       arith,
       c.well_formed,
     ) in
-    fits-two _ c.put_sizes.new.1.1.0 b.new.1.1.1.0 _ b.ensures.0 b.auto.1.1.1.0
-    (simp length-set at c.put_sizes.auto.1.1.0) two most
+    fits-two _ c.put_sizes.new.out b.new.out _ b.ensures.0 b.auto.out
+    (simp length-set at c.put_sizes.auto.out) two most
 
 pub shape_of-out : goal.shape_of-out
 shape_of-out c =
-    same_len_mid 2 (length c.put_sizes.new.1.1.0 - 2) c.put_sizes.new.1.1.0
-    c.begin_fields-begun.new.1.1.1.0 c.begin_fields-begun.auto.1.1.1.0
-    ∙ simp length-set at c.put_sizes.auto.1.1.0
+    same_len_mid 2 (length c.put_sizes.new.out - 2) c.put_sizes.new.out
+    c.begin_fields-begun.new.out c.begin_fields-begun.auto.out
+    ∙ simp length-set at c.put_sizes.auto.out
 
 pub returns-else-out-around-2 : goal.returns-else-out-around-2
 returns-else-out-around-2 c =
     let b = c.begin_fields-begun in
     let a = c.args in
     let n : ℕ = c.in-Length.len in
-    let kept = same_len_mid 2 (length c.put_sizes.new.1.1.0 - 2) c.put_sizes.new.1.1.0 b.new.1.1.1.0
-    b.auto.1.1.1.0 ∙ simp length-set at c.put_sizes.auto.1.1.0 in (
-      bytes-within a.out.now (put_mid 2 (length c.put_sizes.new.1.1.0 - 2) c.put_sizes.new.1.1.0
-          b.new.1.1.1.0) (record { to = 2 + b.result.to; answer = Written.Bytes (2 + c.sizes_len-around.result + n) })
+    let kept = same_len_mid 2 (length c.put_sizes.new.out - 2) c.put_sizes.new.out b.new.out
+    b.auto.out ∙ simp length-set at c.put_sizes.auto.out in (
+      bytes-within a.out.now (put_mid 2 (length c.put_sizes.new.out - 2) c.put_sizes.new.out
+          b.new.out) (record { to = 2 + b.result.to; answer = Written.Bytes (2 + c.sizes_len-around.result + n) })
           (2 + length (size_bytes a.width a.height) + n) (ap (λ (x : ℕ). gives (2 + x + n)) c.sizes_len-around.ensures)
           (omega arith) (omega (arith, c.if-out-around-2.false, c.if-out-around.false, c.sizes_len-around.ensures)) kept,
       λ strict lengths h. lent-left strict a.width a.height (kind_number a.ext_type) a.text.now lengths a.out.now
-          c.put_sizes.new.1.1.0 b.new.1.1.1.0 n b.result _
+          c.put_sizes.new.out b.new.out n b.result _
           (checked (goal.at.returns-else-out-around-2 c).After-sizes_len-around strict lengths h) (omega (arith, c.if-out-around-2.false, c.if-out-around.false, c.sizes_len-around.ensures))
           (c.put_sizes.ensures ∙ ap (λ (x : ℕ). sets (set (set a.out.now 0 0) 1 x) (2 + n) (size_bytes a.width a.height))
           c.fix_byte.ensures)
-          b.auto.1.1.1.0 refl (ap (λ (x : ℕ). gives (2 + x + n)) c.sizes_len-around.ensures) (b.ensures.1 strict lengths h),
+          b.auto.out refl (ap (λ (x : ℕ). gives (2 + x + n)) c.sizes_len-around.ensures) (b.ensures.1 strict lengths h),
     )
 
 pub returns-in-Refused : goal.returns-in-Refused

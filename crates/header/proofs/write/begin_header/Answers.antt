@@ -26,7 +26,7 @@ pub returns-in-Absent : goal.returns-in-Absent
 returns-in-Absent c =
     let a = c.args in
     let t : (eqb a.width 0 || eqb a.height 0) ≡ false = simp (ne_eqb _ _ c.if-width-eq0.false, ne_eqb _ _ c.if-height-eq0.false) in (
-      plain-within a.width a.height a.out.now _ _ _ _ c.none_begun-in-Absent.ensures c.write_header-answer.auto.1.1.0
+      plain-within a.width a.height a.out.now _ _ _ _ c.none_begun-in-Absent.ensures c.write_header-answer.auto.out
           c.write_header-answer.ensures,
       λ strict lengths h. presence-left strict a.width a.height a.text.now lengths a.out.now _ _ _ _ _ t
           c.in-Absent.is

@@ -12,7 +12,7 @@ pub put_integer-requires : goal.put_integer-requires
 put_integer-requires c =
     let p = c.put_integer-next in
     let a = c.args in
-    omega (arith, p.ensures.0, p.auto.1.0, sizes-length a.width a.height, c.requires)
+    omega (arith, p.ensures.0, p.auto.out, sizes-length a.width a.height, c.requires)
 
 pub returns : goal.returns
 returns c =

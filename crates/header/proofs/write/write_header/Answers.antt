@@ -23,7 +23,7 @@ pub put_sizes-requires : goal.put_sizes-requires
 put_sizes-requires c = simp length-set (omega arith)
 
 pub shape_of-out : goal.shape_of-out
-shape_of-out c = simp length-set at c.put_sizes.auto.1.1.0
+shape_of-out c = simp length-set at c.put_sizes.auto.out
 
 pub returns : goal.returns
 returns c =

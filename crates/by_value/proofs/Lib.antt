@@ -1,4 +1,0 @@
-pub mod LentFront
-pub mod Locals
-pub mod Records
-pub mod WriteFields
