@@ -4,7 +4,7 @@
 # the compilers.
 set -eu
 cd "$(dirname "$0")/.."
-rt staticlib capi >/dev/null
+tools/staticlib.sh capi >/dev/null
 out=target/examples
 mkdir -p "$out"
 flags='-Wall -Wextra -Wpedantic -Werror -Iinclude'

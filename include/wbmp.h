@@ -1,5 +1,5 @@
 /* One-bit WBMP cards: sniffing, info and whole reading, for C99 and C++11 on x86-64. Link with
- * libcapi.a (rt staticlib capi).
+ * libcapi.a (tools/staticlib.sh capi).
  *
  * Every function may be called with bytes and numbers of all kinds and reads or writes nothing
  * but the buffers and numbers it is lent. It keeps nothing between calls.

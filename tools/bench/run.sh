@@ -5,8 +5,8 @@
 set -eu
 cd "$(dirname "$0")/../.."
 tools/oracle/build.sh
-rt staticlib capi >/dev/null
-rt staticlib bench >/dev/null
+tools/staticlib.sh capi >/dev/null
+tools/staticlib.sh bench >/dev/null
 asked=$(nm -u target/staticlib/libcapi.a | sed -n 's/^ *U //p' | sort -u | tr '\n' ' ')
 echo "libcapi.a, undefined symbols: ${asked:-none}"
 out=target/tools

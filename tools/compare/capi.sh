@@ -5,7 +5,7 @@
 set -eu
 cd "$(dirname "$0")/../.."
 tools/oracle/build.sh
-rt staticlib capi >/dev/null
+tools/staticlib.sh capi >/dev/null
 mkdir -p target/tools
 rustc --edition 2024 -O -D warnings --crate-name compare_capi \
     --extern oracle=target/oracle/liboracle.rlib -L native=target/staticlib -l static=capi \

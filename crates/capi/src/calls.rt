@@ -1,4 +1,4 @@
-// The functions that C calls.
+// The functions that C calls, through the exports of the crate capi_c.
 ghost use Rattle.std.specs.Prelude.{◌≡◌};
 ghost use Rattle.api.specs.Sniff.{sniffed};
 ghost use Rattle.capi.specs.Returned.{sniff_number};
@@ -12,8 +12,7 @@ use decoder::Decoded;
 use error::UNKNOWN_SETTING;
 
 // 0: neither; 1: a whole file; 2: the front of one.
-#[unsafe(no_mangle)]
-pub extern "C" fn wbmp_sniff(bytes: &[u8]) -> u8
+pub fn wbmp_sniff(bytes: &[u8]) -> u8
     ensures { result ≡ sniff_number (sniffed bytes.now) }
 {
     match api::sniff(bytes) {
@@ -24,8 +23,7 @@ pub extern "C" fn wbmp_sniff(bytes: &[u8]) -> u8
 }
 
 // Size, frames and fields of a file, to the lent numbers; a refusal writes none of them.
-#[unsafe(no_mangle)]
-pub extern "C" fn wbmp_info(
+pub fn wbmp_info(
     bytes: &[u8],
     width: &mut u32,
     height: &mut u32,
@@ -63,8 +61,7 @@ pub extern "C" fn wbmp_info(
 }
 
 // Whole reading: the planes of all frames, end to end, at the front of the lent output; a refusal writes nothing that is lent.
-#[unsafe(no_mangle)]
-pub extern "C" fn wbmp_read(
+pub fn wbmp_read(
     bytes: &[u8],
     format: u32,
     strict: u32,

@@ -1,4 +1,4 @@
-// Sniffing, info and whole reading for C; include/wbmp.h has the declarations.
+// Sniffing, info and whole reading as C asks for them; the crate capi_c exports them, and include/wbmp.h has the declarations.
 #![tactic(auto)]
 
 mod asked;

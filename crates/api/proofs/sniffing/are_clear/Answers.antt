@@ -15,9 +15,6 @@ module _ (s : Start) where
   abbrev rows : ℕ
   rows = length body / s.args.row
 
-  in-body : rows * s.args.row ≤ length body
-  in-body = div-mul-le_self (length body) s.args.row
-
   few : rows ≤ length body
   few = div-le_self (length body) s.args.row
 
@@ -25,20 +22,21 @@ module _ (s : Start) where
   some = (le-div_iff_mul-le {x = 1} s.requires.0).1 (omega (arith, s.requires.1))
 
 -- the last bytes of eight rows, and of one, are in the body
-eight-in : (c : In-loop-y)
-    → c.loop-y.at + 7 * c.args.row < length (body (goal.at.eight_ends-ends-requires c).Start)
+eight-in : (c : In-loop-y) → let a = c.args in c.loop-y.at + 7 * a.row < length a.body.now
 eight-in c =
-    room (body (goal.at.eight_ends-ends-requires c).Start) c.args.row c.args.mask (rows (goal.at.eight_ends-ends-requires c).Start) c.loop-y.y c.loop-y.at c.loop-y.invariant (length (body (goal.at.eight_ends-ends-requires c).Start)) 7 c.requires.0
-    (in-body (goal.at.eight_ends-ends-requires c).Start)
-    (omega (arith, c.loop-y-test.true))
+    let a = c.args in
+    let n = length a.body.now in
+    room a.body.now a.row a.mask (n / a.row) c.loop-y.y c.loop-y.at c.loop-y.invariant n 7 c.requires.0
+    (div-mul-le_self n a.row) (omega (arith, c.loop-y-test.true))
 
-one_in : (c : In-loop-y-2)
-    → c.loop-y-2.at < length (body (goal.at.NO_GOAL c).Start)
+one_in : (c : In-loop-y-2) → c.loop-y-2.at < length c.args.body.now
 one_in c =
+    let a = c.args in
+    let n = length a.body.now in
     omega (
       arith,
-      room (body (goal.at.NO_GOAL c).Start) c.args.row c.args.mask (rows (goal.at.NO_GOAL c).Start) c.loop-y-2.y c.loop-y-2.at c.loop-y-2.invariant (length (body (goal.at.NO_GOAL c).Start)) 0 c.requires.0
-          (in-body (goal.at.NO_GOAL c).Start) (omega (arith, c.loop-y-2-test.true)),
+      room a.body.now a.row a.mask (n / a.row) c.loop-y-2.y c.loop-y-2.at c.loop-y-2.invariant n 0 c.requires.0
+          (div-mul-le_self n a.row) (omega (arith, c.loop-y-2-test.true)),
     )
 
 pub nonzero_div-rows : goal.nonzero_div-rows

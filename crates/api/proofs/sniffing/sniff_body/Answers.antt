@@ -24,45 +24,39 @@ plane n =
       small-plane a.width a.height a.body.now n.new-layout.result n.new-layout.ensures n.requires.narrow n.requires.low,
     )
 
-some : (n : After-new-layout) → 0 < n.new-layout.result.stride
-some n = omega (arith, stride-is n.new-layout.ensures, n.requires.wide)
-
-rows : (n : After-new-layout) → Rows n.args.width n.new-layout.result.stride n.new-layout.result.last_byte_pad_mask
-rows n =
-    record {
-      row_is = stride-is n.new-layout.ensures;
-      mask_is = mask_is n.new-layout.ensures;
-    }
-
 -- a body whose length was told, by its padding
 module _ (m : After-sniff_length-2) where
-  abbrev n : tie.After-new
-  n = (goal.at.NO_GOAL m).After-new-layout
-
   abbrev width : ℕ
-  width = n.before.before.args.width
+  width = m.args.width
 
   abbrev height : ℕ
-  height = n.before.before.args.height
+  height = m.args.height
 
   abbrev body : List ℕ
-  body = n.before.before.args.body.now
+  body = m.args.body.now
 
   abbrev layout : PlaneLayout
-  layout = n.new.result
+  layout = m.new-layout.result
+
+  rows : Rows width layout.stride layout.last_byte_pad_mask
+  rows =
+      record {
+        row_is = stride-is m.new-layout.ensures;
+        mask_is = mask_is m.new-layout.ensures;
+      }
 
   lent : (0 < layout.stride) × (layout.stride ≤ length body)
-  lent = (some n, omega (arith, m.if-size-row.left))
+  lent = (omega (arith, stride-is m.new-layout.ensures, m.requires.wide), omega (arith, m.if-size-row.false))
 
   module _ (r : Bool) (told : AreClear body layout.stride layout.last_byte_pad_mask (length body / layout.stride) r) where
     where-dirty : r ≡ false → Neither ≡ sniff_body width height body
     where-dirty p =
-        sym (dirty width height body layout n.new.ensures m.if-size-row.left (sym (told width (rows n)) ∙ p))
+        sym (dirty width height body layout m.new-layout.ensures m.if-size-row.false (sym (told width rows) ∙ p))
 
     where-clear : r ≡ true → (t : Sniffed) → m.sniff_length-2.result ≡ t → t ≡ sniff_body width height body
     where-clear p t g =
         sym g ∙ m.sniff_length-2.ensures
-        ∙ sym (clean width height body layout n.new.ensures m.if-size-row.left (sym (told width (rows n)) ∙ p))
+        ∙ sym (clean width height body layout m.new-layout.ensures m.if-size-row.false (sym (told width rows) ∙ p))
 
 pub returns-then-size-row : goal.returns-then-size-row
 returns-then-size-row c =
