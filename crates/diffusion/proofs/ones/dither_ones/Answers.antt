@@ -17,9 +17,6 @@ loop-y-init c =
     let a = c.args in
     ones-begun a.height a.gray.now a.out.now
 
-pub bounds-gray-y : goal.bounds-gray-y
-bounds-gray-y c = omega (arith, c.requires.there, c.loop-y-test.true)
-
 pub overflow_cast-value : goal.overflow_cast-value
 overflow_cast-value c = omega (arith, c.shared_slice_known-in-loop-y-1.given c.loop-y.y)
 
@@ -38,23 +35,11 @@ overflow_mul-out c = omega (arith, small c)
 pub overflow_cast-out : goal.overflow_cast-out
 overflow_cast-out c = omega (arith, small c)
 
-pub bounds-out-y : goal.bounds-out-y
-bounds-out-y c = omega (arith, c.requires.room, c.loop-y.invariant.written.long, c.loop-y-test.true)
-
 pub overflow_add-rest : goal.overflow_add-rest
 overflow_add-rest c = omega (arith, small c)
 
-pub overflow_add-y : goal.overflow_add-y
-overflow_add-y c = omega (arith, c.loop-y-test.true, c.ranges.height)
-
-pub loop-y-smaller : goal.loop-y-smaller
-loop-y-smaller c = omega (arith, c.loop-y-test.true)
-
 pub loop-y-preserved : goal.loop-y-preserved
 loop-y-preserved c = ones-next (bytes (goal.at.loop-y-preserved c).In-loop-y) c.loop-y.invariant c.part.result c.part.ensures.0 c.loop-y-test.true c.requires
-
-pub shape_of-out : goal.shape_of-out
-shape_of-out c = c.loop-y.invariant.written.long
 
 pub returns : goal.returns
 returns c = ones-end c.loop-y.invariant c.loop-y-test.false

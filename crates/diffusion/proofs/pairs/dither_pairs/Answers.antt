@@ -35,20 +35,8 @@ bounds-gray-y-in-loop-y c = there (goal.at.bounds-gray-y-in-loop-y c).In-loop-y
 pub dither_pair-p-requires : goal.dither_pair-p-requires
 dither_pair-p-requires c = pairs_small c.loop-y.invariant
 
-pub bounds-out-y : goal.bounds-out-y
-bounds-out-y c = omega (arith, c.requires.room, c.loop-y.invariant.written.long, c.loop-y-test.true)
-
-pub overflow_add-y-in-loop-y : goal.overflow_add-y-in-loop-y
-overflow_add-y-in-loop-y c = omega (arith, c.loop-y-test.true, c.ranges.height)
-
-pub loop-y-smaller : goal.loop-y-smaller
-loop-y-smaller c = omega (arith, c.loop-y-test.true)
-
 pub loop-y-preserved : goal.loop-y-preserved
 loop-y-preserved c = pairs_next c.loop-y.invariant (bytes (goal.at.loop-y-preserved c).In-loop-y) c.dither_pair-p.result c.dither_pair-p.ensures c.loop-y-test.true c.requires
-
-pub shape_of-out : goal.shape_of-out
-shape_of-out c = c.loop-y.invariant.written.long
 
 pub returns : goal.returns
 returns c = pairs_end c.loop-y.invariant c.loop-y-test.false

@@ -11,9 +11,6 @@ use Rattle.diffusion.proofs.row.bytes.Goals.{At-loop-j}
 some : (w : ℕ) → ((w - 1) / 8 ≡ 0 → ⊥) → 8 * 0 + 8 ≤ w
 some w h = omega arith
 
-pub overflow_sub-last : goal.overflow_sub-last
-overflow_sub-last c = c.requires.1.1.some
-
 pub returns-then-last-eq0 : goal.returns-then-last-eq0
 returns-then-last-eq0 c = bytes-start _ _ _ c.requires.1.1 (λ i. let f = c.type_inv.gray i in omega arith) _ c.args.out.now c.if-last-eq0.true refl
 
@@ -66,9 +63,6 @@ bounds-out-j c = fits (goal.at.bounds-out-j c).At-loop-j c.loop-j-test.true
 
 pub overflow_add-j : goal.overflow_add-j
 overflow_add-j c = omega (arith, there (goal.at.overflow_add-j c).At-loop-j c.loop-j-test.true, c.well_formed)
-
-pub loop-j-smaller : goal.loop-j-smaller
-loop-j-smaller c = omega (arith, c.loop-j-test.true)
 
 pub loop-j-preserved : goal.loop-j-preserved
 loop-j-preserved c =

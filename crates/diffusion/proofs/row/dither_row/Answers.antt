@@ -6,47 +6,14 @@ use mir.ValLaws.{to_z_pos}
 use Rattle.diffusion.proofs.RowEnds.{last-lent, shifted-small, shifted-is, row-dithered}
 use Rattle.diffusion.proofs.row.dither_row.Goals as goal
 
-pub bytes-f-requires : goal.bytes-f-requires
-bytes-f-requires c = c.requires
-
-pub overflow_sub-end : goal.overflow_sub-end
-overflow_sub-end c = c.requires.1.1.some
-
-pub overflow_mul-x : goal.overflow_mul-x
-overflow_mul-x c = omega (arith, c.well_formed)
-
 pub dots-s-requires : goal.dots-s-requires
 dots-s-requires c = (c.requires.0, (c.requires.1.0, last-lent _ _ _ c.requires.1.1 _ _ _ c.bytes-f.ensures))
-
-pub overflow_sub-padding : goal.overflow_sub-padding
-overflow_sub-padding c = omega arith
-
-pub overflow_sub-padding-2 : goal.overflow_sub-padding-2
-overflow_sub-padding-2 c = omega arith
-
-pub overflow_cast-padding : goal.overflow_cast-padding
-overflow_cast-padding c = omega arith
-
-pub overflow_shl-out : goal.overflow_shl-out
-overflow_shl-out c = omega arith
 
 pub overflow_cast-out : goal.overflow_cast-out
 overflow_cast-out c =
     let p = c.bytes-f.ensures in
     let q = c.dots-s.ensures _ p.at in
     rw (shifted-is _ _ _ c.requires.1.1 _ _ _ p _ _ q) (record { fits = shifted-small _ _ _ c.requires.1.1 _ _ _ p _ _ q })
-
-pub bounds-out-last : goal.bounds-out-last
-bounds-out-last c = omega (arith, c.bytes-f.ensures.out_long, c.requires.1.1.room, c.requires.1.1.some)
-
-pub overflow_add-work : goal.overflow_add-work
-overflow_add-work c = omega arith
-
-pub overflow_cast-work : goal.overflow_cast-work
-overflow_cast-work c = record { sfits = omega arith }
-
-pub offset_bounds-work-end : goal.offset_bounds-work-end
-offset_bounds-work-end c = omega (arith, c.well_formed)
 
 pub bounds-work-end : goal.bounds-work-end
 bounds-work-end c = omega (arith, (c.dots-s.ensures _ c.bytes-f.ensures.at).at.long, c.requires.1.1.kept, c.requires.1.1.some)

@@ -52,12 +52,6 @@ dot-s-requires c =
       ),
     )
 
-pub overflow_sub-j : goal.overflow_sub-j
-overflow_sub-j c = c.if-i-gt0.true
-
-pub overflow_cast-work : goal.overflow_cast-work
-overflow_cast-work c = record { sfits = omega arith }
-
 pub offset_bounds-work-j : goal.offset_bounds-work-j
 offset_bounds-work-j c = omega (arith, in-work (goal.at.offset_bounds-work-j c).At-loop-i c.loop-i-test.true, long (goal.at.offset_bounds-work-j c).At-loop-i, c.well_formed)
 
@@ -66,9 +60,6 @@ bounds-work-j c = omega (arith, in-work (goal.at.bounds-work-j c).At-loop-i c.lo
 
 pub overflow_add-i : goal.overflow_add-i
 overflow_add-i c = omega (arith, in-work (goal.at.overflow_add-i c).At-loop-i c.loop-i-test.true, long (goal.at.overflow_add-i c).At-loop-i, c.well_formed)
-
-pub loop-i-smaller : goal.loop-i-smaller
-loop-i-smaller c = omega arith
 
 pub loop-i-preserved : goal.loop-i-preserved
 loop-i-preserved c =

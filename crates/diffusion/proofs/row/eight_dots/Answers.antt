@@ -55,23 +55,11 @@ dot-s-requires c =
       ),
     )
 
-pub overflow_sub-k : goal.overflow_sub-k
-overflow_sub-k c = omega (arith, c.requires.1.1.1)
-
-pub overflow_cast-work : goal.overflow_cast-work
-overflow_cast-work c = record { sfits = omega arith }
-
 pub offset_bounds-work-k : goal.offset_bounds-work-k
 offset_bounds-work-k c = omega (arith, in-work (goal.at.offset_bounds-work-k c).At-loop-i c.loop-i-test.true, long (goal.at.offset_bounds-work-k c).At-loop-i, c.well_formed)
 
 pub bounds-work-k : goal.bounds-work-k
 bounds-work-k c = omega (arith, in-work (goal.at.bounds-work-k c).At-loop-i c.loop-i-test.true)
-
-pub overflow_add-i : goal.overflow_add-i
-overflow_add-i c = omega arith
-
-pub loop-i-smaller : goal.loop-i-smaller
-loop-i-smaller c = omega arith
 
 pub loop-i-preserved : goal.loop-i-preserved
 loop-i-preserved c =

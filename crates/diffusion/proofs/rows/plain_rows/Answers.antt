@@ -26,20 +26,8 @@ overflow_add-end c = omega (arith, there c, c.well_formed)
 pub overflow_add-stop : goal.overflow_add-stop
 overflow_add-stop c = omega (arith, room c, c.loop-y.invariant.written.long, c.well_formed)
 
-pub slice_bounds-plain_row-count : goal.slice_bounds-plain_row-count
-slice_bounds-plain_row-count c = omega arith
-
-pub slice_bounds-plain_row-start : goal.slice_bounds-plain_row-start
-slice_bounds-plain_row-start c = omega arith
-
 pub slice_bounds-plain_row-end : goal.slice_bounds-plain_row-end
 slice_bounds-plain_row-end c = omega (arith, there c)
-
-pub slice_bounds-plain_row-count-in-loop-y : goal.slice_bounds-plain_row-count-in-loop-y
-slice_bounds-plain_row-count-in-loop-y c = omega arith
-
-pub slice_bounds-plain_row-start-in-loop-y : goal.slice_bounds-plain_row-start-in-loop-y
-slice_bounds-plain_row-start-in-loop-y c = omega arith
 
 pub slice_bounds-plain_row-end-in-loop-y : goal.slice_bounds-plain_row-end-in-loop-y
 slice_bounds-plain_row-end-in-loop-y c = omega (arith, room (goal.at.slice_bounds-plain_row-end-in-loop-y c).In-loop-y)
@@ -52,19 +40,10 @@ returns-then-not-plain_row c =
 pub shape_of-out-then-not-plain_row : goal.shape_of-out-then-not-plain_row
 shape_of-out-then-not-plain_row c = (returns-then-not-plain_row c).written.long
 
-pub overflow_add-y : goal.overflow_add-y
-overflow_add-y c = omega (arith, c.loop-y-test.true, c.ranges.height)
-
-pub loop-y-smaller : goal.loop-y-smaller
-loop-y-smaller c = omega (arith, c.loop-y-test.true)
-
 pub loop-y-preserved : goal.loop-y-preserved
 loop-y-preserved c =
     plain_more c.requires c.loop-y.invariant c.loop-y-test.true _ _ (λ i. let f = c.type_inv.gray i in omega arith)
     c.if-not-plain_row.false c.plain_row.ensures
-
-pub shape_of-out : goal.shape_of-out
-shape_of-out c = c.loop-y.invariant.written.long
 
 pub returns : goal.returns
 returns c =

@@ -32,20 +32,8 @@ overflow_add-end c = omega (arith, there c, c.well_formed)
 pub overflow_add-stop : goal.overflow_add-stop
 overflow_add-stop c = omega (arith, room c, c.loop-y.invariant.here.written.long, c.well_formed)
 
-pub slice_bounds-next_row-count : goal.slice_bounds-next_row-count
-slice_bounds-next_row-count c = omega arith
-
-pub slice_bounds-next_row-start : goal.slice_bounds-next_row-start
-slice_bounds-next_row-start c = omega arith
-
 pub slice_bounds-next_row-end : goal.slice_bounds-next_row-end
 slice_bounds-next_row-end c = omega (arith, there (goal.at.slice_bounds-next_row-end c).In-loop-y)
-
-pub slice_bounds-next_row-count-in-loop-y : goal.slice_bounds-next_row-count-in-loop-y
-slice_bounds-next_row-count-in-loop-y c = omega arith
-
-pub slice_bounds-next_row-start-in-loop-y : goal.slice_bounds-next_row-start-in-loop-y
-slice_bounds-next_row-start-in-loop-y c = omega arith
 
 pub slice_bounds-next_row-end-in-loop-y : goal.slice_bounds-next_row-end-in-loop-y
 slice_bounds-next_row-end-in-loop-y c = omega (arith, room (goal.at.slice_bounds-next_row-end-in-loop-y c).In-loop-y)
@@ -59,23 +47,11 @@ next_row-level-requires c = (
   ),
 )
 
-pub overflow_add-y : goal.overflow_add-y
-overflow_add-y c = omega (arith, c.loop-y-test.true, c.ranges.height.fits)
-
-pub loop-y-smaller : goal.loop-y-smaller
-loop-y-smaller c = omega (arith, c.loop-y-test.true)
-
 pub loop-y-preserved : goal.loop-y-preserved
 loop-y-preserved c =
     going_next c.requires.plane_lent.0 c.loop-y.invariant c.loop-y-test.true
     (λ i. let f = c.type_inv.gray i in omega arith) _ _ _
     c.next_row-level.auto.work c.next_row-level.ensures
-
-pub shape_of-work : goal.shape_of-work
-shape_of-work c = c.loop-y.invariant.kept
-
-pub shape_of-out : goal.shape_of-out
-shape_of-out c = c.loop-y.invariant.here.written.long
 
 pub returns : goal.returns
 returns c = record { rows_written = going_end c.loop-y.invariant c.loop-y-test.false; work_unchanged = c.loop-y.invariant.beyond }

@@ -24,12 +24,6 @@ low l =
 pub left_of-left-requires : goal.left_of-left-requires
 left_of-left-requires c = let p = c.requires in omega (arith, p.within, p.room)
 
-pub corner_of-above_left-requires : goal.corner_of-above_left-requires
-corner_of-above_left-requires c = c.requires.small
-
-pub over-above-requires : goal.over-above-requires
-over-above-requires c = omega (arith, c.reach-near.ensures.most, c.requires.room)
-
 pub loop-i-init : goal.loop-i-init
 loop-i-init c =
     let a = c.args in
@@ -37,28 +31,10 @@ loop-i-init c =
     c.left_of-left.ensures c.corner_of-above_left.ensures
     (rw (c.reach-near.ensures.is a.work.now a.column) c.over-above.ensures)
 
-pub overflow_add-x : goal.overflow_add-x
-overflow_add-x c = omega (arith, c.requires.within, c.requires.room, c.well_formed)
-
-pub overflow_add-x-in-loop-i : goal.overflow_add-x-in-loop-i
-overflow_add-x-in-loop-i c = omega (arith, c.requires.within, c.requires.room, c.well_formed)
-
-pub over-ahead-requires : goal.over-ahead-requires
-over-ahead-requires c = omega (arith, c.loop-i.invariant.long, c.reach-near.ensures.most, c.requires.room)
-
-pub bounds-gray-i : goal.bounds-gray-i
-bounds-gray-i c = omega arith
-
 pub step-d-requires : goal.step-d-requires
 step-d-requires c =
     let i = c.loop-i.invariant in
     (i.left_is.small, i.corner_is.small, i.above_is.small, c.over-ahead.ensures.small)
-
-pub from_held-requires : goal.from_held-requires
-from_held-requires c = c.step-d.ensures.rest_is.small
-
-pub offset_bounds-work-x : goal.offset_bounds-work-x
-offset_bounds-work-x c = omega (arith, c.requires.within, c.requires.room, c.well_formed, c.loop-i.invariant.long)
 
 in-work : (l : At-loop-i) → l.loop-i.i < length l.args.gray.now
     → l.args.column + l.loop-i.i < length l.loop-i.work
@@ -73,12 +49,6 @@ overflow_mul-digits c = omega (arith, low (goal.at.overflow_mul-digits c).At-loo
 pub overflow_add-digits : goal.overflow_add-digits
 overflow_add-digits c = omega (arith, low (goal.at.overflow_add-digits c).At-loop-i, dot-le c.step-d.ensures)
 
-pub overflow_add-i : goal.overflow_add-i
-overflow_add-i c = omega (arith, c.well_formed)
-
-pub loop-i-smaller : goal.loop-i-smaller
-loop-i-smaller c = omega arith
-
 stored : (s : After-struct_known-1)
     → to_z w16 (of_z w16 s.from_held.result) ≡ sub_ℕ s.step-d.result.rest 128
 stored s = to_z-of_z w16 _ (record { sfits = s.from_held.type_inv }) ∙ s.from_held.ensures
@@ -92,9 +62,6 @@ loop-i-preserved c =
     (rw (c.reach-near.ensures.is c.loop-i.work (a.column + c.loop-i.i + 1)) c.over-ahead.ensures)
     c.step-d.ensures
     _ (stored (goal.at.loop-i-preserved c).After-struct_known-1) t (in-work (goal.at.loop-i-preserved c).At-loop-i t)
-
-pub shape_of-work : goal.shape_of-work
-shape_of-work c = c.loop-i.invariant.long
 
 pub returns : goal.returns
 returns c =

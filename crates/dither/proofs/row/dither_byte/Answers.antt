@@ -27,30 +27,15 @@ loop-i-init c =
     inv-start a.width a.y a.column a.gray.now 0 a.near.corner a.work.now _ _ _ c.requires.2.left_is
     c.requires.2.corner_is c.requires.2.above_is
 
-pub overflow_add-x : goal.overflow_add-x
-overflow_add-x c = omega (arith, c.requires.0.within, c.requires.0.room, c.well_formed)
-
-pub overflow_add-x-in-loop-i : goal.overflow_add-x-in-loop-i
-overflow_add-x-in-loop-i c = omega (arith, c.requires.0.within, c.requires.0.room, c.well_formed)
-
 pub inside-ahead-requires : goal.inside-ahead-requires
 inside-ahead-requires c =
     let r = c.reach-reached.ensures in
     (omega (arith, r.most, c.requires.0.room, c.loop-i.invariant.long), λ h. omega (arith, r.all h, c.requires.1))
 
-pub bounds-gray-i : goal.bounds-gray-i
-bounds-gray-i c = omega arith
-
 pub step-d-requires : goal.step-d-requires
 step-d-requires c =
     let i = c.loop-i.invariant in
     (i.left_is.small, i.corner_is.small, i.above_is.small, c.inside-ahead.ensures.small)
-
-pub from_held-requires : goal.from_held-requires
-from_held-requires c = c.step-d.ensures.rest_is.small
-
-pub offset_bounds-work-x : goal.offset_bounds-work-x
-offset_bounds-work-x c = omega (arith, c.requires.0.within, c.requires.0.room, c.well_formed, c.loop-i.invariant.long)
 
 in-work : (l : At-loop-i) → l.loop-i.i < length l.args.gray.now
     → l.args.column + l.loop-i.i < length l.loop-i.work
@@ -65,12 +50,6 @@ overflow_mul-digits c = omega (arith, low (goal.at.overflow_mul-digits c).At-loo
 pub overflow_add-digits : goal.overflow_add-digits
 overflow_add-digits c = omega (arith, low (goal.at.overflow_add-digits c).At-loop-i, dot-le c.step-d.ensures)
 
-pub overflow_add-i : goal.overflow_add-i
-overflow_add-i c = omega (arith, c.well_formed)
-
-pub loop-i-smaller : goal.loop-i-smaller
-loop-i-smaller c = omega arith
-
 stored : (s : After-struct_known-1)
     → to_z w16 (of_z w16 s.from_held.result) ≡ sub_ℕ s.step-d.result.rest 128
 stored s = to_z-of_z w16 _ (record { sfits = s.from_held.type_inv }) ∙ s.from_held.ensures
@@ -84,9 +63,6 @@ loop-i-preserved c =
     (rw (c.reach-reached.ensures.is c.loop-i.work (a.column + c.loop-i.i + 1)) c.inside-ahead.ensures)
     c.step-d.ensures
     _ (stored (goal.at.loop-i-preserved c).After-struct_known-1) t (in-work (goal.at.loop-i-preserved c).At-loop-i t)
-
-pub shape_of-work : goal.shape_of-work
-shape_of-work c = c.loop-i.invariant.long
 
 pub returns : goal.returns
 returns c =

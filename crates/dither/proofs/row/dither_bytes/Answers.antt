@@ -42,21 +42,6 @@ returns-then-count-eq0 c =
     let a = c.args in
     bytes-none dither a.width a.y a.column a.samples.now a.corner a.work.now a.out.now c.if-count-eq0.true
 
-pub left_of-requires : goal.left_of-requires
-left_of-requires c = omega (arith, c.requires.in_row, c.requires.room)
-
-pub corner_of-requires : goal.corner_of-requires
-corner_of-requires c = c.requires.small
-
-pub reach-requires : goal.reach-requires
-reach-requires c = tt
-
-pub over-requires : goal.over-requires
-over-requires c = omega (arith, c.reach.ensures.most, c.requires.room)
-
-pub overflow_mul-count : goal.overflow_mul-count
-overflow_mul-count c = omega (arith, c.requires.there, c.well_formed)
-
 pub residual_free-requires : goal.residual_free-requires
 residual_free-requires c = (c.requires.there, omega (arith, c.requires.in_row, c.requires.room))
 
@@ -85,15 +70,6 @@ overflow_mul-from c = omega (arith, there (goal.at.overflow_mul-from c).At-loop-
 pub overflow_add-end : goal.overflow_add-end
 overflow_add-end c = omega (arith, there (goal.at.overflow_add-end c).At-loop-k c.loop-k-test.true, c.well_formed)
 
-pub overflow_add-column : goal.overflow_add-column
-overflow_add-column c = omega (arith, c.requires.in_row, c.requires.room, c.well_formed)
-
-pub slice_bounds-dither_byte-count : goal.slice_bounds-dither_byte-count
-slice_bounds-dither_byte-count c = omega arith
-
-pub slice_bounds-dither_byte-start : goal.slice_bounds-dither_byte-start
-slice_bounds-dither_byte-start c = omega arith
-
 pub slice_bounds-dither_byte-end : goal.slice_bounds-dither_byte-end
 slice_bounds-dither_byte-end c = there (goal.at.slice_bounds-dither_byte-end c).At-loop-k c.loop-k-test.true
 
@@ -121,27 +97,12 @@ overflow_cast-out c =
     c.loop-k.out c.loop-k.work _ c.loop-k.k c.loop-k.invariant t (there (goal.at.overflow_cast-out c).At-loop-k t) _ _ c.dither_byte-d.ensures in
     omega (arith, b)
 
-pub bounds-out-k : goal.bounds-out-k
-bounds-out-k c = omega (arith, c.loop-k-test.true, c.loop-k.invariant.out_long)
-
-pub overflow_add-k : goal.overflow_add-k
-overflow_add-k c = omega (arith, c.loop-k-test.true, c.well_formed)
-
-pub loop-k-smaller : goal.loop-k-smaller
-loop-k-smaller c = omega (arith, c.loop-k-test.true)
-
 pub loop-k-preserved : goal.loop-k-preserved
 loop-k-preserved c =
     let t = c.loop-k-test.true in
     let a = c.args in
     chain_more a.width a.y a.column a.samples.now a.corner a.work.now (length a.out.now)
     c.loop-k.out c.loop-k.work _ c.loop-k.k c.loop-k.invariant t (there (goal.at.loop-k-preserved c).At-loop-k t) _ _ c.dither_byte-d.ensures
-
-pub shape_of-out : goal.shape_of-out
-shape_of-out c = c.loop-k.invariant.out_long
-
-pub shape_of-work : goal.shape_of-work
-shape_of-work c = c.loop-k.invariant.work_long
 
 pub returns : goal.returns
 returns c =
