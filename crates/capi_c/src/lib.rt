@@ -70,17 +70,7 @@ pub extern "C" fn wbmp_read(
         (frames.old, frames.new) (written.old, written.new) }
 {
     capi::wbmp_read(
-        bytes,
-        format,
-        strict,
-        max_width,
-        max_height,
-        max_pixels,
-        max_bytes,
-        out,
-        width,
-        height,
-        frames,
-        written,
+        bytes, format, strict, max_width, max_height, max_pixels, max_bytes, out, width, height,
+        frames, written,
     )
 }

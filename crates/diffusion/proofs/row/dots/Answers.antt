@@ -66,7 +66,7 @@ loop-i-preserved c =
     let t = c.loop-i-test.true in
     run_more _ _ _ _ _ _ _ _ c.loop-i.invariant _ (same_sum (goal.at.loop-i-preserved c).After-dot-arg-1) _ _ t c.requires.1.1.in_row c.dot-s.ensures
     (elim c.if-i-gt0.branch [
-      then-i-gt0 w ↦ sum_left _ _ _ _ _ w.if-i-gt0.true (omega (arith, in-work (goal.at.loop-i-preserved c).At-loop-i t)) (to_z_pos w16 _ (omega arith)) w.work-is
+      | then-i-gt0 w ↦ sum_left _ _ _ _ _ w.if-i-gt0.true (omega (arith, in-work (goal.at.loop-i-preserved c).At-loop-i t)) (to_z_pos w16 _ (omega arith)) w.work-is
       | else-i-gt0 w ↦ sum-none _ _ _ _ w.if-i-gt0.false w.work-is
     ])
 
