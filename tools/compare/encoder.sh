@@ -11,7 +11,7 @@ cases=${2:-100000}
 out=target/compare
 mkdir -p "$out"
 tools/oracle/build.sh
-rt check vectors >"$out/check.log" || { tail -n 3 "$out/check.log"; exit 1; }
+tools/program.sh vectors >"$out/check.log" || { tail -n 3 "$out/check.log"; exit 1; }
 target/oracle/generate "$out/encoder.list" "$out/encoder.counts" "$seed" "$cases"
 target/bin/vectors <"$out/encoder.list" >"$out/encoder.out"
 if ! cmp -s "$out/encoder.out" "$out/encoder.counts"; then

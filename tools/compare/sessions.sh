@@ -12,7 +12,7 @@ lists=${2:-100000}
 out=target/compare
 mkdir -p "$out"
 tools/oracle/build.sh
-rt check vectors >"$out/check.log" || { tail -n 3 "$out/check.log"; exit 1; }
+tools/program.sh vectors >"$out/check.log" || { tail -n 3 "$out/check.log"; exit 1; }
 : >"$out/sessions.out"
 
 # part SEED LISTS CARDS: so many lists of each session and cards; without any, the cuts.

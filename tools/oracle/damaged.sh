@@ -1,7 +1,7 @@
 #!/bin/bash
 # Shows that the replay of a list with one count too large says so and ends soon: the counts of the sweep of
 # `from_byte` and of a list's stages are made larger by four bytes FF in front, each in its own copy.
-# Run after `rt check vectors`; ends with 0 only if every damage is reported within ten seconds.
+# Run after `tools/program.sh vectors`; ends with 0 only if every damage is reported within ten seconds.
 set -eu
 cd "$(dirname "$0")/../.."
 program=target/bin/vectors
