@@ -35,11 +35,11 @@ start = in_type 0 0 0
 abbrev pub in_fields : State → Bool
 in_fields (in_type at v n) = false
 in_fields (at_fix at) = false
-in_fields (in_octets fix start at) = true
+in_fields (in_octets fix _ at) = true
 in_fields (at_octet fix at) = true
-in_fields (at_pair fix start at pairs) = true
-in_fields (in_identifier fix start at pairs begun left size again fault) = true
-in_fields (in_value fix start at pairs begun left again fault) = true
+in_fields (at_pair fix _ at pairs) = true
+in_fields (in_identifier fix _ at pairs begun left size again fault) = true
+in_fields (in_value fix _ at pairs begun left again fault) = true
 in_fields (in_width fix f at v n) = false
 in_fields (in_height fix f w at v n) = false
 
