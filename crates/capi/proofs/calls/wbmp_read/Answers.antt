@@ -20,11 +20,11 @@ settings-read c x e = sym (ap meaning e) ∙ c.asked.ensures
 decodes : (c : After-decode_frames) (x : Decoded) → c.decode_frames.result ≡ x
     → let a = c.args in
     Decodes (ceiling_of (decoding c.in-Known.options)) (decoding c.in-Known.options) a.bytes.now (frames.meaning x)
-    a.out.now c.decode_frames.new.1.1.0
+    a.out.now c.decode_frames.new.out
 decodes c x e =
     let a = c.args in
     subst (λ (y : Decoded). Decodes (ceiling_of (decoding c.in-Known.options)) (decoding c.in-Known.options) a.bytes.now
-    (frames.meaning y) a.out.now c.decode_frames.new.1.1.0) e
+    (frames.meaning y) a.out.now c.decode_frames.new.out) e
     c.decode_frames.ensures
 
 pub pack-requires : goal.pack-requires
