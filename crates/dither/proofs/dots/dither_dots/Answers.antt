@@ -21,9 +21,6 @@ low l =
     (appended-fits a.begun f (row-bit-le dither a.width a.y a.column a.gray.now _) (length a.gray.now) l.loop-i.i
     l.requires.packs l.loop-i.invariant.bound)
 
-pub left_of-left-requires : goal.left_of-left-requires
-left_of-left-requires c = let p = c.requires in omega (arith, p.within, p.room)
-
 pub loop-i-init : goal.loop-i-init
 loop-i-init c =
     let a = c.args in
@@ -31,17 +28,9 @@ loop-i-init c =
     c.left_of-left.ensures c.corner_of-above_left.ensures
     (rw (c.reach-near.ensures.is a.work.now a.column) c.over-above.ensures)
 
-pub step-d-requires : goal.step-d-requires
-step-d-requires c =
-    let i = c.loop-i.invariant in
-    (i.left_is.small, i.corner_is.small, i.above_is.small, c.over-ahead.ensures.small)
-
 in-work : (l : At-loop-i) → l.loop-i.i < length l.args.gray.now
     → l.args.column + l.loop-i.i < length l.loop-i.work
 in-work l h = omega (arith, l.requires.within, l.requires.room, l.loop-i.invariant.long)
-
-pub bounds-work-x : goal.bounds-work-x
-bounds-work-x c = in-work (goal.at.bounds-work-x c).At-loop-i (omega arith)
 
 pub overflow_mul-digits : goal.overflow_mul-digits
 overflow_mul-digits c = omega (arith, low (goal.at.overflow_mul-digits c).At-loop-i)

@@ -27,22 +27,9 @@ loop-i-init c =
     inv-start a.width a.y a.column a.gray.now 0 a.near.corner a.work.now _ _ _ c.requires.2.left_is
     c.requires.2.corner_is c.requires.2.above_is
 
-pub inside-ahead-requires : goal.inside-ahead-requires
-inside-ahead-requires c =
-    let r = c.reach-reached.ensures in
-    (omega (arith, r.most, c.requires.0.room, c.loop-i.invariant.long), λ h. omega (arith, r.all h, c.requires.1))
-
-pub step-d-requires : goal.step-d-requires
-step-d-requires c =
-    let i = c.loop-i.invariant in
-    (i.left_is.small, i.corner_is.small, i.above_is.small, c.inside-ahead.ensures.small)
-
 in-work : (l : At-loop-i) → l.loop-i.i < length l.args.gray.now
     → l.args.column + l.loop-i.i < length l.loop-i.work
 in-work l h = omega (arith, l.requires.0.within, l.requires.0.room, l.loop-i.invariant.long)
-
-pub bounds-work-x : goal.bounds-work-x
-bounds-work-x c = in-work (goal.at.bounds-work-x c).At-loop-i (omega arith)
 
 pub overflow_mul-digits : goal.overflow_mul-digits
 overflow_mul-digits c = omega (arith, low (goal.at.overflow_mul-digits c).At-loop-i)

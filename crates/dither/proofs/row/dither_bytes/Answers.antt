@@ -42,9 +42,6 @@ returns-then-count-eq0 c =
     let a = c.args in
     bytes-none dither a.width a.y a.column a.samples.now a.corner a.work.now a.out.now c.if-count-eq0.true
 
-pub residual_free-requires : goal.residual_free-requires
-residual_free-requires c = (c.requires.there, omega (arith, c.requires.in_row, c.requires.room))
-
 pub returns-then-residual_free : goal.returns-then-residual_free
 returns-then-residual_free c =
     let a = c.args in
@@ -63,15 +60,6 @@ loop-k-init c =
     let a = c.args in
     chain-start a.width a.y a.column a.samples.now a.corner a.work.now (length a.out.now) a.out.now _ refl
     (near (goal.at.loop-k-init c).After-over)
-
-pub overflow_mul-from : goal.overflow_mul-from
-overflow_mul-from c = omega (arith, there (goal.at.overflow_mul-from c).At-loop-k c.loop-k-test.true, c.well_formed)
-
-pub overflow_add-end : goal.overflow_add-end
-overflow_add-end c = omega (arith, there (goal.at.overflow_add-end c).At-loop-k c.loop-k-test.true, c.well_formed)
-
-pub slice_bounds-dither_byte-end : goal.slice_bounds-dither_byte-end
-slice_bounds-dither_byte-end c = there (goal.at.slice_bounds-dither_byte-end c).At-loop-k c.loop-k-test.true
 
 pub dither_byte-d-requires : goal.dither_byte-d-requires
 dither_byte-d-requires c =

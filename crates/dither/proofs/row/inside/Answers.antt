@@ -10,14 +10,6 @@ use Rattle.dither.proofs.CarryRead.{over-in, over-past}
 use Rattle.dither.proofs.DitherDotsLoop.{biased-zero}
 use Rattle.dither.proofs.row.inside.Goals as goal
 
--- `quantize::row::inside` meets its contract.
--- Assumes nothing.
-pub offset_bounds-work-x : goal.offset_bounds-work-x
-offset_bounds-work-x c = omega (arith, c.requires.0, c.requires.1 c.if-reach-gt0.true, c.well_formed)
-
-pub bounds-work-x : goal.bounds-work-x
-bounds-work-x c = omega (arith, c.requires.0, c.requires.1 c.if-reach-gt0.true)
-
 pub returns-then-reach-gt0 : goal.returns-then-reach-gt0
 returns-then-reach-gt0 c =
     let a = c.args in
