@@ -61,22 +61,6 @@ loop-k-init c =
     chain-start a.width a.y a.column a.samples.now a.corner a.work.now (length a.out.now) a.out.now _ refl
     (near (goal.at.loop-k-init c).After-over)
 
-pub dither_byte-d-requires : goal.dither_byte-d-requires
-dither_byte-d-requires c =
-    let a = c.args in
-    let i = c.loop-k.invariant in
-    let n = piece-length a.samples.now (8 * c.loop-k.k) 8 (there (goal.at.dither_byte-d-requires c).At-loop-k c.loop-k-test.true) in (
-      record {
-        some = omega arith;
-        packs = (omega arith, omega arith);
-        within = omega (arith, c.requires.in_row);
-        room = omega (arith, c.requires.room, i.work_long);
-        small = i.near.corner_is.small;
-      },
-      omega (arith, c.requires.in_row),
-      near-own a.width a.y (a.column + 8 * c.loop-k.k) i.last c.loop-k.work _ i.near,
-    )
-
 pub overflow_cast-out : goal.overflow_cast-out
 overflow_cast-out c =
     let t = c.loop-k-test.true in
