@@ -17,26 +17,8 @@ loop-y-init c =
     let a = c.args in
     ones-begun a.height a.gray.now a.out.now
 
-pub overflow_cast-value : goal.overflow_cast-value
-overflow_cast-value c = omega (arith, c.shared_slice_known-in-loop-y-1.given c.loop-y.y)
-
-pub part-requires : goal.part-requires
-part-requires c = (omega arith, c.loop-y.invariant.small)
-
 pub overflow_add-value : goal.overflow_add-value
 overflow_add-value c = omega (arith, small c)
-
-pub overflow_add-value-in-loop-y : goal.overflow_add-value-in-loop-y
-overflow_add-value-in-loop-y c = omega (arith, small c)
-
-pub overflow_mul-out : goal.overflow_mul-out
-overflow_mul-out c = omega (arith, small c)
-
-pub overflow_cast-out : goal.overflow_cast-out
-overflow_cast-out c = omega (arith, small c)
-
-pub overflow_add-rest : goal.overflow_add-rest
-overflow_add-rest c = omega (arith, small c)
 
 pub loop-y-preserved : goal.loop-y-preserved
 loop-y-preserved c = ones-next (bytes (goal.at.loop-y-preserved c).In-loop-y) c.loop-y.invariant c.part.result c.part.ensures.0 c.loop-y-test.true c.requires

@@ -9,21 +9,6 @@ returns-then-is_level c =
     pair-level a.first a.second a.left a.right _ (omega (arith, c.ranges.first)) (omega (arith, c.ranges.second))
     (c.is_level.ensures c.if-is_level.true) refl refl refl
 
-pub part-requires : goal.part-requires
-part-requires c = (omega arith, omega arith)
-
-pub part-requires-2 : goal.part-requires-2
-part-requires-2 c = (omega arith, omega arith)
-
-pub part-requires-3 : goal.part-requires-3
-part-requires-3 c = (omega arith, omega arith)
-
-pub part-requires-4 : goal.part-requires-4
-part-requires-4 c = (omega arith, omega arith)
-
-pub part-requires-5 : goal.part-requires-5
-part-requires-5 c = (omega arith, omega arith)
-
 pub returns : goal.returns
 returns c =
     let a = c.args in

@@ -17,21 +17,6 @@ loop-y-init c =
     let a = c.args in
     pairs-begun a.height a.gray.now a.out.now
 
-pub overflow_mul-y : goal.overflow_mul-y
-overflow_mul-y c = omega (arith, there c, c.well_formed)
-
-pub bounds-gray-y : goal.bounds-gray-y
-bounds-gray-y c = omega (arith, there (goal.at.bounds-gray-y c).In-loop-y)
-
-pub overflow_mul-y-in-loop-y : goal.overflow_mul-y-in-loop-y
-overflow_mul-y-in-loop-y c = omega (arith, there (goal.at.overflow_mul-y-in-loop-y c).In-loop-y, c.well_formed)
-
-pub overflow_add-y : goal.overflow_add-y
-overflow_add-y c = omega (arith, there (goal.at.overflow_add-y c).In-loop-y, c.well_formed)
-
-pub bounds-gray-y-in-loop-y : goal.bounds-gray-y-in-loop-y
-bounds-gray-y-in-loop-y c = there (goal.at.bounds-gray-y-in-loop-y c).In-loop-y
-
 pub dither_pair-p-requires : goal.dither_pair-p-requires
 dither_pair-p-requires c = pairs_small c.loop-y.invariant
 

@@ -9,12 +9,6 @@ use Rattle.diffusion.proofs.parts.part.Goals.{Start}
 small : (c : Start) → let a = c.args in (128 * a.sixteenths + 1) * a.b ≤ 229632
 small c = product_small c.args.sixteenths c.args.b c.requires.0 c.requires.1
 
-pub overflow_mul-result-2 : goal.overflow_mul-result-2
-overflow_mul-result-2 c = omega (arith, small c)
-
-pub overflow_add-result-2 : goal.overflow_add-result-2
-overflow_add-result-2 c = omega (arith, small c)
-
 pub returns : goal.returns
 unfolding part_of
 returns c = (refl, part_small c.args.sixteenths c.args.b c.requires.1)

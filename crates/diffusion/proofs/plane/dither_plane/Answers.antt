@@ -42,51 +42,16 @@ columns e n is out' r =
     let a = e.args in
     subst (λ (w : ℕ). RowsWritten w a.height a.gray.now a.out.now a.height out') (sym is) r
 
-pub overflow_mul-columns : goal.overflow_mul-columns
-overflow_mul-columns c = record { fits = product-below 32 32 c.ranges.width.fits c.ranges.height.fits }
-
-pub returns-then-gray-columns : goal.returns-then-gray-columns
-returns-then-gray-columns c = gray-short _ _ _ _ _ c.if-gray-columns.true
-
-pub overflow_mul-rows : goal.overflow_mul-rows
-overflow_mul-rows c = record { fits = product-below 32 32 c.ranges.height.fits (omega (arith, c.ranges.width)) }
-
-pub returns-then-out-rows : goal.returns-then-out-rows
-returns-then-out-rows c = out-short _ _ _ _ _ c.if-out-rows.true
-
-pub returns-then-work-columns : goal.returns-then-work-columns
-returns-then-work-columns c = work-short _ _ _ _ _ c.if-work-columns.true
-
 pub returns-then-columns-eq0 : goal.returns-then-columns-eq0
 returns-then-columns-eq0 c =
     let a = c.args in
     served (goal.at.returns-then-columns-eq0 c).Else-work-columns _ _ (no-columns a.width a.height a.gray.now a.out.now c.if-columns-eq0.true) refl
 
-pub dither_ones-requires : goal.dither_ones-requires
-dither_ones-requires c =
-    let a = c.args in
-    subst (λ (n : ℕ). PlaneLent n a.height (length a.gray.now) (length a.out.now)) c.if-columns-eq1.true (lent (goal.at.dither_ones-requires c).Else-columns-eq0)
-
 pub returns-then-columns-eq1 : goal.returns-then-columns-eq1
 returns-then-columns-eq1 c = served (goal.at.returns-then-columns-eq1 c).Else-work-columns _ _ (columns (goal.at.returns-then-columns-eq1 c).Else-work-columns 1 c.if-columns-eq1.true _ c.dither_ones.ensures) refl
 
-pub dither_pairs-requires : goal.dither_pairs-requires
-dither_pairs-requires c =
-    let a = c.args in
-    subst (λ (n : ℕ). PlaneLent n a.height (length a.gray.now) (length a.out.now)) c.if-columns-eq2.true (lent (goal.at.dither_pairs-requires c).Else-columns-eq0)
-
 pub returns-then-columns-eq2 : goal.returns-then-columns-eq2
 returns-then-columns-eq2 c = served (goal.at.returns-then-columns-eq2 c).Else-work-columns _ _ (columns (goal.at.returns-then-columns-eq2 c).Else-work-columns 2 c.if-columns-eq2.true _ c.dither_pairs.ensures) refl
-
-pub plain_rows-first-requires : goal.plain_rows-first-requires
-plain_rows-first-requires c = lent (goal.at.plain_rows-first-requires c).Else-columns-eq0
-
-pub rows_from-requires : goal.rows_from-requires
-rows_from-requires c =
-    record {
-      plane_lent = (lent_still c.plain_rows-first.ensures (lent (goal.at.rows_from-requires c).Else-columns-eq0), c.if-work-columns.false);
-      rows_left = rows_left c.plain_rows-first.ensures;
-    }
 
 pub returns-then-first-rows : goal.returns-then-first-rows
 returns-then-first-rows c = served (goal.at.returns-then-first-rows c).Else-work-columns _ _ (rows-joined c.plain_rows-first.ensures _ c.rows_from.ensures.rows_written) c.rows_from.ensures.work_unchanged

@@ -22,12 +22,6 @@ overflow_cast-out c =
     let p = bytes-start _ _ _ c.requires.1.1 (λ i. let f = c.type_inv.gray i in omega arith) 0 c.args.out.now refl refl in
     omega (arith, digits-byte _ _ 0 _ _ _ _ p _ _ (c.dots-f.ensures _ p.at))
 
-pub bounds-out-0 : goal.bounds-out-0
-bounds-out-0 c = omega (arith, some _ c.if-last-eq0.false, c.requires.1.1.room)
-
-pub loop-j-init : goal.loop-j-init
-loop-j-init c = record { from = omega arith; to = omega (arith, some _ c.if-last-eq0.false); passed = λ old room p. p }
-
 -- the bytes so far
 made : (l : At-loop-j) →
     let a = l.args in
@@ -43,9 +37,6 @@ there : (l : At-loop-j) →
     l.loop-j.j < (w - 1) / 8 → 8 * l.loop-j.j + 8 ≤ w
 there l h = omega arith
 
-pub overflow_mul-j : goal.overflow_mul-j
-overflow_mul-j c = omega (arith, there (goal.at.overflow_mul-j c).At-loop-j c.loop-j-test.true, c.well_formed)
-
 pub eight_dots_or_level-f-requires : goal.eight_dots_or_level-f-requires
 eight_dots_or_level-f-requires c =
     let q = byte-lent _ _ _ _ _ _ _ (made (goal.at.eight_dots_or_level-f-requires c).At-loop-j) c.requires.1.1.kept (there (goal.at.eight_dots_or_level-f-requires c).At-loop-j c.loop-j-test.true) in
@@ -57,12 +48,6 @@ overflow_cast-out-in-loop-j c = omega (arith, digits-byte _ _ _ _ _ _ _ (made (g
 -- there is room for a byte more
 fits : (l : At-loop-j) → l.loop-j.j < (length l.args.gray.now - 1) / 8 → l.loop-j.j < length l.loop-j.out
 fits l h = omega (arith, (made l).out_long, l.requires.1.1.room, h)
-
-pub bounds-out-j : goal.bounds-out-j
-bounds-out-j c = fits (goal.at.bounds-out-j c).At-loop-j c.loop-j-test.true
-
-pub overflow_add-j : goal.overflow_add-j
-overflow_add-j c = omega (arith, there (goal.at.overflow_add-j c).At-loop-j c.loop-j-test.true, c.well_formed)
 
 pub loop-j-preserved : goal.loop-j-preserved
 loop-j-preserved c =

@@ -15,15 +15,6 @@ overflow_cast-out c =
     let q = c.dots-s.ensures _ p.at in
     rw (shifted-is _ _ _ c.requires.1.1 _ _ _ p _ _ q) (record { fits = shifted-small _ _ _ c.requires.1.1 _ _ _ p _ _ q })
 
-pub bounds-work-end : goal.bounds-work-end
-bounds-work-end c = omega (arith, (c.dots-s.ensures _ c.bytes-f.ensures.at).at.long, c.requires.1.1.kept, c.requires.1.1.some)
-
-pub shape_of-work : goal.shape_of-work
-shape_of-work c = simp length-set (c.dots-s.ensures _ c.bytes-f.ensures.at).at.long
-
-pub shape_of-out : goal.shape_of-out
-shape_of-out c = simp length-set c.bytes-f.ensures.out_long
-
 pub returns : goal.returns
 returns c =
     let p = c.bytes-f.ensures in

@@ -25,12 +25,6 @@ in-work l h = omega (arith, in-row l h, long l, l.requires.1.1.kept)
 pub loop-i-init : goal.loop-i-init
 loop-i-init c = run-start _ _ _ _ _ c.requires.1.1.order
 
-pub bounds-gray-i : goal.bounds-gray-i
-bounds-gray-i c = in-row (goal.at.bounds-gray-i c).At-loop-i c.loop-i-test.true
-
-pub offset_bounds-work-i : goal.offset_bounds-work-i
-offset_bounds-work-i c = omega (arith, in-work (goal.at.offset_bounds-work-i c).At-loop-i c.loop-i-test.true, long (goal.at.offset_bounds-work-i c).At-loop-i, c.well_formed)
-
 pub slice_copy_out-dot : goal.slice_copy_out-dot
 slice_copy_out-dot c = in-work (goal.at.slice_copy_out-dot c).At-loop-i c.loop-i-test.true
 
@@ -51,15 +45,6 @@ dot-s-requires c =
         run_lent _ _ _ _ _ _ _ _ c.loop-i.invariant p.old b _ (same_sum c) (in-row (goal.at.dot-s-requires c).At-loop-i t) (omega (arith, p.one_byte)),
       ),
     )
-
-pub offset_bounds-work-j : goal.offset_bounds-work-j
-offset_bounds-work-j c = omega (arith, in-work (goal.at.offset_bounds-work-j c).At-loop-i c.loop-i-test.true, long (goal.at.offset_bounds-work-j c).At-loop-i, c.well_formed)
-
-pub bounds-work-j : goal.bounds-work-j
-bounds-work-j c = omega (arith, in-work (goal.at.bounds-work-j c).At-loop-i c.loop-i-test.true)
-
-pub overflow_add-i : goal.overflow_add-i
-overflow_add-i c = omega (arith, in-work (goal.at.overflow_add-i c).At-loop-i c.loop-i-test.true, long (goal.at.overflow_add-i c).At-loop-i, c.well_formed)
 
 pub loop-i-preserved : goal.loop-i-preserved
 loop-i-preserved c =

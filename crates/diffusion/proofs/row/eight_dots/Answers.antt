@@ -26,15 +26,6 @@ in-work l h = omega (arith, in-row l h, long l, l.requires.1.1.0.kept)
 pub loop-i-init : goal.loop-i-init
 loop-i-init c = rw (add-zero c.args.x) (run-start _ _ _ _ _ (omega arith))
 
-pub overflow_add-j : goal.overflow_add-j
-overflow_add-j c = omega (arith, in-row (goal.at.overflow_add-j c).At-loop-i c.loop-i-test.true, c.well_formed)
-
-pub bounds-gray-j : goal.bounds-gray-j
-bounds-gray-j c = in-row (goal.at.bounds-gray-j c).At-loop-i c.loop-i-test.true
-
-pub offset_bounds-work-j : goal.offset_bounds-work-j
-offset_bounds-work-j c = omega (arith, in-work (goal.at.offset_bounds-work-j c).At-loop-i c.loop-i-test.true, long (goal.at.offset_bounds-work-j c).At-loop-i, c.well_formed)
-
 pub slice_copy_out-dot : goal.slice_copy_out-dot
 slice_copy_out-dot c = in-work (goal.at.slice_copy_out-dot c).At-loop-i c.loop-i-test.true
 
@@ -54,12 +45,6 @@ dot-s-requires c =
         run_lent _ _ _ _ _ _ _ _ c.loop-i.invariant p.old (byte-begins _ _ _ _ _ p.at) _ (same_sum c) (in-row (goal.at.dot-s-requires c).At-loop-i t) (omega (arith, t)),
       ),
     )
-
-pub offset_bounds-work-k : goal.offset_bounds-work-k
-offset_bounds-work-k c = omega (arith, in-work (goal.at.offset_bounds-work-k c).At-loop-i c.loop-i-test.true, long (goal.at.offset_bounds-work-k c).At-loop-i, c.well_formed)
-
-pub bounds-work-k : goal.bounds-work-k
-bounds-work-k c = omega (arith, in-work (goal.at.bounds-work-k c).At-loop-i c.loop-i-test.true)
 
 pub loop-i-preserved : goal.loop-i-preserved
 loop-i-preserved c =

@@ -12,15 +12,6 @@ small : (c : Else-not-plain_row) → get_or c.plain_row.new.out 0 0 < 256
 small c =
     told-small c.args.gray.now c.args.x _ _ _ c.plain_row.ensures c.if-not-plain_row.false c.requires.0
 
-pub returns-then-right-ne56 : goal.returns-then-right-ne56
-returns-then-right-ne56 c = (λ h. let z : ⊥ = omega arith in absurd z, omega arith)
-
-pub returns-then-not-eight_are_level : goal.returns-then-not-eight_are_level
-returns-then-not-eight_are_level c = (λ h. let z : ⊥ = omega arith in absurd z, omega arith)
-
-pub returns-then-not-plain_row : goal.returns-then-not-plain_row
-returns-then-not-plain_row c = (λ h. let z : ⊥ = omega arith in absurd z, omega arith)
-
 pub overflow_cast-result : goal.overflow_cast-result
 overflow_cast-result c = record { fits = omega (arith, small c) }
 

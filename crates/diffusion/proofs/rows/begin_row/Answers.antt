@@ -16,9 +16,6 @@ returns-then-plain_row c =
     begun-plain a.gray.now a.work.now _ a.level _ a.out.now c.if-not-level.false c.if-plain_row.true
     c.requires.room c.plain_row.ensures
 
-pub slice_bounds-level_sums-end-2 : goal.slice_bounds-level_sums-end-2
-slice_bounds-level_sums-end-2 c = sym (length-take-le _ c.args.work.now c.requires.kept)
-
 pub returns : goal.returns
 returns c =
     let a = c.args in

@@ -11,7 +11,7 @@ use Rattle.dither.specs.Internal.Kernels.{row_bit, carry_of}
 use Rattle.rules.proofs.DigitsAppended.{appended-fits}
 use Rattle.dither.proofs.DitherDotsLoop.{inv-start, inv-more, inv-end, dot-le, row-bit-le}
 use Rattle.dither.proofs.dots.dither_dots.Goals as goal
-use Rattle.dither.proofs.dots.dither_dots.Goals.{After-struct_known-1, At-loop-i}
+use Rattle.dither.proofs.dots.dither_dots.Goals.{At-loop-i}
 
 low : (l : At-loop-i) → l.loop-i.digits < 65536
 low l =
@@ -21,9 +21,6 @@ low l =
     (appended-fits a.begun f (row-bit-le dither a.width a.y a.column a.gray.now _) (length a.gray.now) l.loop-i.i
     l.requires.packs l.loop-i.invariant.bound)
 
-pub left_of-left-requires : goal.left_of-left-requires
-left_of-left-requires c = let p = c.requires in omega (arith, p.within, p.room)
-
 pub loop-i-init : goal.loop-i-init
 loop-i-init c =
     let a = c.args in
@@ -31,17 +28,9 @@ loop-i-init c =
     c.left_of-left.ensures c.corner_of-above_left.ensures
     (rw (c.reach-near.ensures.is a.work.now a.column) c.over-above.ensures)
 
-pub step-d-requires : goal.step-d-requires
-step-d-requires c =
-    let i = c.loop-i.invariant in
-    (i.left_is.small, i.corner_is.small, i.above_is.small, c.over-ahead.ensures.small)
-
 in-work : (l : At-loop-i) → l.loop-i.i < length l.args.gray.now
     → l.args.column + l.loop-i.i < length l.loop-i.work
 in-work l h = omega (arith, l.requires.within, l.requires.room, l.loop-i.invariant.long)
-
-pub bounds-work-x : goal.bounds-work-x
-bounds-work-x c = in-work (goal.at.bounds-work-x c).At-loop-i (omega arith)
 
 pub overflow_mul-digits : goal.overflow_mul-digits
 overflow_mul-digits c = omega (arith, low (goal.at.overflow_mul-digits c).At-loop-i)
@@ -49,19 +38,17 @@ overflow_mul-digits c = omega (arith, low (goal.at.overflow_mul-digits c).At-loo
 pub overflow_add-digits : goal.overflow_add-digits
 overflow_add-digits c = omega (arith, low (goal.at.overflow_add-digits c).At-loop-i, dot-le c.step-d.ensures)
 
-stored : (s : After-struct_known-1)
-    → to_z w16 (of_z w16 s.from_held.result) ≡ sub_ℕ s.step-d.result.rest 128
-stored s = to_z-of_z w16 _ (record { sfits = s.from_held.type_inv }) ∙ s.from_held.ensures
-
 pub loop-i-preserved : goal.loop-i-preserved
 loop-i-preserved c =
     let a = c.args in
     let t = c.loop-i-test.true in
+    let stored : to_z w16 (of_z w16 c.from_held.result) ≡ sub_ℕ c.step-d.result.rest 128 =
+        to_z-of_z w16 _ (record { sfits = c.from_held.type_inv }) ∙ c.from_held.ensures in
     inv-more a.width a.y a.column a.gray.now a.begun a.corner a.work.now c.loop-i.work _ _ _ _ c.loop-i.i
     c.loop-i.invariant _ _ _
     (rw (c.reach-near.ensures.is c.loop-i.work (a.column + c.loop-i.i + 1)) c.over-ahead.ensures)
     c.step-d.ensures
-    _ (stored (goal.at.loop-i-preserved c).After-struct_known-1) t (in-work (goal.at.loop-i-preserved c).At-loop-i t)
+    _ stored t (in-work (goal.at.loop-i-preserved c).At-loop-i t)
 
 pub returns : goal.returns
 returns c =

@@ -1,5 +1,6 @@
 use mathlib.Core.Path.{subst}
 use native.Mathlib.Omega.{arith}
+use borrow.Author.Rules.{rules}
 use lib.IntN.{ℤ, pos}
 use lib.ListN.{get_or}
 use mir.Syntax.{w16}
@@ -14,8 +15,7 @@ pub returns-then-x-reach : goal.returns-then-x-reach
 returns-then-x-reach c =
     let a = c.args in
     rw (over-in a.reach a.work.now 1 a.x (omega arith) c.if-x-reach.true)
-    (subst (λ (z : ℤ). Biased (clamp z) c.to_held.result) (to_z-of_z w16 (get_or a.work.now a.x (pos 0))
-    (record { sfits = c.to_held-arg-1.given })) c.to_held.ensures)
+    (search rules)
 
 pub returns-else-x-reach : goal.returns-else-x-reach
 returns-else-x-reach c =

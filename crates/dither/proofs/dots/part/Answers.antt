@@ -10,11 +10,5 @@ use Rattle.dither.proofs.dots.part.Goals.{Start}
 small : (c : Start) → (128 * c.args.k + 1) * c.args.b ≤ (128 * c.args.k + 1) * 256
 small c = mul-le-mul_left (128 * c.args.k + 1) c.requires.1
 
-pub overflow_mul-result-2 : goal.overflow_mul-result-2
-overflow_mul-result-2 c = omega (arith, small c)
-
-pub overflow_add-result-2 : goal.overflow_add-result-2
-overflow_add-result-2 c = omega (arith, small c)
-
 pub returns : goal.returns
 returns c = record { is = part-is c.args.k c.args.b c.requires.1; small = omega (arith, small c) }

@@ -11,7 +11,7 @@ use Rattle.dither.specs.Internal.Kernels.{row_bit, carry_of}
 use Rattle.rules.proofs.DigitsAppended.{appended-fits}
 use Rattle.dither.proofs.DitherDotsLoop.{inv-start, inv-more, inv-end, inv-near, dot-le, row-bit-le}
 use Rattle.dither.proofs.row.dither_byte.Goals as goal
-use Rattle.dither.proofs.row.dither_byte.Goals.{After-struct_known-1, At-loop-i}
+use Rattle.dither.proofs.row.dither_byte.Goals.{At-loop-i}
 
 low : (l : At-loop-i) → l.loop-i.digits < 65536
 low l =
@@ -27,22 +27,9 @@ loop-i-init c =
     inv-start a.width a.y a.column a.gray.now 0 a.near.corner a.work.now _ _ _ c.requires.2.left_is
     c.requires.2.corner_is c.requires.2.above_is
 
-pub inside-ahead-requires : goal.inside-ahead-requires
-inside-ahead-requires c =
-    let r = c.reach-reached.ensures in
-    (omega (arith, r.most, c.requires.0.room, c.loop-i.invariant.long), λ h. omega (arith, r.all h, c.requires.1))
-
-pub step-d-requires : goal.step-d-requires
-step-d-requires c =
-    let i = c.loop-i.invariant in
-    (i.left_is.small, i.corner_is.small, i.above_is.small, c.inside-ahead.ensures.small)
-
 in-work : (l : At-loop-i) → l.loop-i.i < length l.args.gray.now
     → l.args.column + l.loop-i.i < length l.loop-i.work
 in-work l h = omega (arith, l.requires.0.within, l.requires.0.room, l.loop-i.invariant.long)
-
-pub bounds-work-x : goal.bounds-work-x
-bounds-work-x c = in-work (goal.at.bounds-work-x c).At-loop-i (omega arith)
 
 pub overflow_mul-digits : goal.overflow_mul-digits
 overflow_mul-digits c = omega (arith, low (goal.at.overflow_mul-digits c).At-loop-i)
@@ -50,19 +37,17 @@ overflow_mul-digits c = omega (arith, low (goal.at.overflow_mul-digits c).At-loo
 pub overflow_add-digits : goal.overflow_add-digits
 overflow_add-digits c = omega (arith, low (goal.at.overflow_add-digits c).At-loop-i, dot-le c.step-d.ensures)
 
-stored : (s : After-struct_known-1)
-    → to_z w16 (of_z w16 s.from_held.result) ≡ sub_ℕ s.step-d.result.rest 128
-stored s = to_z-of_z w16 _ (record { sfits = s.from_held.type_inv }) ∙ s.from_held.ensures
-
 pub loop-i-preserved : goal.loop-i-preserved
 loop-i-preserved c =
     let a = c.args in
     let t = c.loop-i-test.true in
+    let stored : to_z w16 (of_z w16 c.from_held.result) ≡ sub_ℕ c.step-d.result.rest 128 =
+        to_z-of_z w16 _ (record { sfits = c.from_held.type_inv }) ∙ c.from_held.ensures in
     inv-more a.width a.y a.column a.gray.now 0 a.near.corner a.work.now c.loop-i.work _ _ _ _ c.loop-i.i
     c.loop-i.invariant _ _ _
     (rw (c.reach-reached.ensures.is c.loop-i.work (a.column + c.loop-i.i + 1)) c.inside-ahead.ensures)
     c.step-d.ensures
-    _ (stored (goal.at.loop-i-preserved c).After-struct_known-1) t (in-work (goal.at.loop-i-preserved c).At-loop-i t)
+    _ stored t (in-work (goal.at.loop-i-preserved c).At-loop-i t)
 
 pub returns : goal.returns
 returns c =

@@ -42,9 +42,6 @@ returns-then-count-eq0 c =
     let a = c.args in
     bytes-none dither a.width a.y a.column a.samples.now a.corner a.work.now a.out.now c.if-count-eq0.true
 
-pub residual_free-requires : goal.residual_free-requires
-residual_free-requires c = (c.requires.there, omega (arith, c.requires.in_row, c.requires.room))
-
 pub returns-then-residual_free : goal.returns-then-residual_free
 returns-then-residual_free c =
     let a = c.args in
@@ -63,31 +60,6 @@ loop-k-init c =
     let a = c.args in
     chain-start a.width a.y a.column a.samples.now a.corner a.work.now (length a.out.now) a.out.now _ refl
     (near (goal.at.loop-k-init c).After-over)
-
-pub overflow_mul-from : goal.overflow_mul-from
-overflow_mul-from c = omega (arith, there (goal.at.overflow_mul-from c).At-loop-k c.loop-k-test.true, c.well_formed)
-
-pub overflow_add-end : goal.overflow_add-end
-overflow_add-end c = omega (arith, there (goal.at.overflow_add-end c).At-loop-k c.loop-k-test.true, c.well_formed)
-
-pub slice_bounds-dither_byte-end : goal.slice_bounds-dither_byte-end
-slice_bounds-dither_byte-end c = there (goal.at.slice_bounds-dither_byte-end c).At-loop-k c.loop-k-test.true
-
-pub dither_byte-d-requires : goal.dither_byte-d-requires
-dither_byte-d-requires c =
-    let a = c.args in
-    let i = c.loop-k.invariant in
-    let n = piece-length a.samples.now (8 * c.loop-k.k) 8 (there (goal.at.dither_byte-d-requires c).At-loop-k c.loop-k-test.true) in (
-      record {
-        some = omega arith;
-        packs = (omega arith, omega arith);
-        within = omega (arith, c.requires.in_row);
-        room = omega (arith, c.requires.room, i.work_long);
-        small = i.near.corner_is.small;
-      },
-      omega (arith, c.requires.in_row),
-      near-own a.width a.y (a.column + 8 * c.loop-k.k) i.last c.loop-k.work _ i.near,
-    )
 
 pub overflow_cast-out : goal.overflow_cast-out
 overflow_cast-out c =

