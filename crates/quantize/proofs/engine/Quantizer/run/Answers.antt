@@ -1,8 +1,10 @@
 use Prim.Native.Nat.{ℕ, ◌+◌, ◌-◌, ◌*◌, ◌≤◌, ◌<◌}
+use mir.Syntax.{w8}
+use mir.Val.{Fits}
+use mathlib.Core.List.{List}
 use mathlib.Core.Logic.{inl, inr, ⊎_elim}
 use native.Mathlib.Omega.{arith}
 use borrow.Rule.Slice.PartMut.{put_mid}
-use borrow.Author.Tests.{not-true, not-false}
 use lib.ListN.{length, get_or}
 use Rattle.quantize.specs.declared.engine.Quantizer.{Quantizer}
 use Rattle.quantize.specs.Finished.{Bytewise}
@@ -13,22 +15,22 @@ use Rattle.quantize.proofs.TurnTakes.{end_fits, taking, took-room, loop-took}
 use Rattle.quantize.proofs.BytesAtOnce.{loop-filled}
 use Rattle.quantize.proofs.RunEnd.{none_told, full-byte, end-told}
 use Rattle.quantize.proofs.engine.Quantizer.run.Goals as goal
-use Rattle.quantize.proofs.engine.Quantizer.run.Goals.{After-shared_slice_known-1, After-work-1, At-loop-p, Else-m-eq0, Then-t}
+use Rattle.quantize.proofs.engine.Quantizer.run.Goals.{After-fill_row-f, Else-m-eq0, Then-t, then-t, else-t}
 
 -- samples are bytes
-octets : (l : After-shared_slice_known-1) (i : ℕ) → get_or l.args.samples.now i 0 < 256
-octets l i = let f = l.shared_slice_known-1.given i in omega arith
+octets : (samples : List ℕ) → ((i : ℕ) → Fits w8 (get_or samples i 0)) → (i : ℕ) → get_or samples i 0 < 256
+octets samples h i = let f = h i in omega arith
 
 -- every row is finished byte after byte
 by_bytes : (q : Quantizer) (row : ℕ) → Bytewise (rule_of q.rule q.table) row
 by_bytes q row = bytewise (rule_of q.rule q.table) row
 
 -- the loop's invariant once whole bytes are filled in
-mid : (f : After-work-1)
+mid : (f : After-fill_row-f)
     → let r = f.fill_row-f in
     Loop f.args.self f.args.samples.now f.args.out.now f.args.work.now
-    (put_mid f.loop-p.written (length f.loop-p.out - f.loop-p.written) f.loop-p.out r.new.1.1.1.1.0)
-    r.new.1.1.1.1.1.0
+    (put_mid f.loop-p.written (length f.loop-p.out - f.loop-p.written) f.loop-p.out r.new.out)
+    r.new.work
     (record {
       frames = f.loop-p.p.frames;
       row = f.loop-p.p.row;
@@ -43,7 +45,7 @@ mid f =
     loop-filled q (omega (arith, f.well_formed)) f.args.samples.now f.args.out.now f.args.work.now
     f.loop-p.out f.loop-p.work f.loop-p.p
     f.loop-p.taken f.loop-p.written f.loop-p.invariant f.loop-p-test.true (by_bytes q f.loop-p.p.row)
-    r.result r.new.1.1.1.1.0 r.new.1.1.1.1.1.0 r.ensures
+    r.result r.new.out r.new.work r.ensures
 
 pub can_take-requires : goal.can_take-requires
 can_take-requires c = tt
@@ -54,11 +56,11 @@ ran-requires c = tt
 pub returns-then-not-can_take : goal.returns-then-not-can_take
 returns-then-not-can_take c =
     let a = c.args in
-    none_told a.self a.samples.now a.out.now a.work.now c.ran.result c.ran.ensures (octets (goal.at.returns-then-not-can_take c).After-shared_slice_known-1)
-    (λ s. c.can_take.ensures.no (not-true _ c.if-not-can_take.true-raw) s)
+    none_told a.self a.samples.now a.out.now a.work.now c.ran.result c.ran.ensures (octets _ c.type_inv.samples)
+    (λ s. c.can_take.ensures.no (c.if-not-can_take.true) s)
 
 pub loop-p-init : goal.loop-p-init
-loop-p-init c = loop-start _ _ _ _ (c.can_take.ensures.yes (not-false _ c.if-not-can_take.false-raw))
+loop-p-init c = loop-start _ _ _ _ (c.can_take.ensures.yes (c.if-not-can_take.false))
 
 pub slice_bounds-fill_row-count : goal.slice_bounds-fill_row-count
 slice_bounds-fill_row-count c = c.loop-p.invariant.taken_fits
@@ -84,52 +86,52 @@ fill_row-f-requires c =
     record { in_row = so.in_row; small = so.corner_small; served = so.served }
 
 pub overflow_mul-taken : goal.overflow_mul-taken
-overflow_mul-taken c = omega (arith, (mid (goal.at.overflow_mul-taken c).After-work-1).taken_fits, (start (goal.at.overflow_mul-taken c).At-loop-p).good)
+overflow_mul-taken c = omega (arith, (mid (goal.at.overflow_mul-taken c).After-fill_row-f).taken_fits, c.well_formed)
 
 pub overflow_add-taken : goal.overflow_add-taken
-overflow_add-taken c = omega (arith, (mid (goal.at.overflow_add-taken c).After-work-1).taken_fits, (start (goal.at.overflow_add-taken c).At-loop-p).good)
+overflow_add-taken c = omega (arith, (mid (goal.at.overflow_add-taken c).After-fill_row-f).taken_fits, c.well_formed)
 
 pub overflow_add-written : goal.overflow_add-written
-overflow_add-written c = omega (arith, (mid (goal.at.overflow_add-written c).After-work-1).written_fits, (start (goal.at.overflow_add-written c).At-loop-p).good)
+overflow_add-written c = omega (arith, (mid (goal.at.overflow_add-written c).After-fill_row-f).written_fits, c.well_formed)
 
 pub overflow_mul-p : goal.overflow_mul-p
-overflow_mul-p c = omega (arith, (mid (goal.at.overflow_mul-p c).After-work-1).taken_fits, (start (goal.at.overflow_mul-p c).At-loop-p).good)
+overflow_mul-p c = omega (arith, (mid (goal.at.overflow_mul-p c).After-fill_row-f).taken_fits, c.well_formed)
 
 pub overflow_add-p : goal.overflow_add-p
-overflow_add-p c = omega (arith, (mid (goal.at.overflow_add-p c).After-work-1).turn.sound.in_row, (start (goal.at.overflow_add-p c).At-loop-p).good)
+overflow_add-p c = omega (arith, (mid (goal.at.overflow_add-p c).After-fill_row-f).turn.sound.in_row, c.well_formed)
 
 pub overflow_sub-samples : goal.overflow_sub-samples
-overflow_sub-samples c = (mid (goal.at.overflow_sub-samples c).After-work-1).taken_fits
+overflow_sub-samples c = (mid (goal.at.overflow_sub-samples c).After-fill_row-f).taken_fits
 
 pub overflow_sub-out : goal.overflow_sub-out
-overflow_sub-out c = let i = mid (goal.at.overflow_sub-out c).After-work-1 in omega (arith, i.written_fits, i.out_long)
+overflow_sub-out c = let i = mid (goal.at.overflow_sub-out c).After-fill_row-f in omega (arith, i.written_fits, i.out_long)
 
 pub samples_for_byte-m-requires : goal.samples_for_byte-m-requires
-samples_for_byte-m-requires c = (mid (goal.at.samples_for_byte-m-requires c).After-work-1).turn.sound.in_row
+samples_for_byte-m-requires c = (mid (goal.at.samples_for_byte-m-requires c).After-fill_row-f).turn.sound.in_row
 
 pub ran-requires-then-m-eq0 : goal.ran-requires-then-m-eq0
 ran-requires-then-m-eq0 c = tt
 
 pub shape_of-out-then-m-eq0 : goal.shape_of-out-then-m-eq0
-shape_of-out-then-m-eq0 c = (mid (goal.at.shape_of-out-then-m-eq0 c).After-work-1).out_long
+shape_of-out-then-m-eq0 c = (mid (goal.at.shape_of-out-then-m-eq0 c).After-fill_row-f).out_long
 
 pub shape_of-work-then-m-eq0 : goal.shape_of-work-then-m-eq0
-shape_of-work-then-m-eq0 c = (mid (goal.at.shape_of-work-then-m-eq0 c).After-work-1).turn.long
+shape_of-work-then-m-eq0 c = (mid (goal.at.shape_of-work-then-m-eq0 c).After-fill_row-f).turn.long
 
 pub returns-then-m-eq0 : goal.returns-then-m-eq0
 returns-then-m-eq0 c =
-    let o = octets (goal.at.returns-then-m-eq0 c).After-shared_slice_known-1 in
-    end-told _ _ _ _ _ _ _ _ _ (mid (goal.at.returns-then-m-eq0 c).After-work-1) o
-    (full-byte _ _ _ _ _ _ _ _ _ (mid (goal.at.returns-then-m-eq0 c).After-work-1) o _ c.loop-p-test.true (by_bytes c.args.self c.loop-p.p.row)
+    let o = octets _ c.type_inv.samples in
+    end-told _ _ _ _ _ _ _ _ _ (mid (goal.at.returns-then-m-eq0 c).After-fill_row-f) o
+    (full-byte _ _ _ _ _ _ _ _ _ (mid (goal.at.returns-then-m-eq0 c).After-fill_row-f) o _ c.loop-p-test.true (by_bytes c.args.self c.loop-p.p.row)
     c.samples_for_byte-m.ensures c.if-m-eq0.true)
     c.ran-then-m-eq0.result c.ran-then-m-eq0.ensures
 
 -- the samples-for-byte's samples are there
 there : (e : Else-m-eq0)
-    → (looped (goal.at.overflow_add-end e).After-work-1).loop.taken + 8 * e.fill_row-f.result.count + e.samples_for_byte-m.result
+    → e.loop-p.taken + 8 * e.fill_row-f.result.count + e.samples_for_byte-m.result
     ≤ length e.args.samples.now
 there e =
-    end_fits _ _ _ _ _ _ _ _ _ (mid (goal.at.overflow_add-end e).After-work-1) (running (goal.at.overflow_add-end e).After-work-1).if2.taken _ e.samples_for_byte-m.ensures e.if-m-eq0.false
+    end_fits _ _ _ _ _ _ _ _ _ (mid (goal.at.overflow_add-end e).After-fill_row-f) e.loop-p-test.true _ e.samples_for_byte-m.ensures e.if-m-eq0.false
 
 pub overflow_add-end : goal.overflow_add-end
 overflow_add-end c = omega (arith, there c, c.well_formed)
@@ -145,33 +147,33 @@ slice_bounds-take-end c = there (goal.at.slice_bounds-take-end c).Else-m-eq0
 
 pub take-t-requires : goal.take-t-requires
 take-t-requires c =
-    taking _ _ _ _ _ _ _ _ _ (mid (goal.at.take-t-requires c).After-work-1) (running (goal.at.take-t-requires c).After-work-1).if2.taken _ c.samples_for_byte-m.ensures c.if-m-eq0.false
+    taking _ _ _ _ _ _ _ _ _ (mid (goal.at.take-t-requires c).After-fill_row-f) c.loop-p-test.true _ c.samples_for_byte-m.ensures c.if-m-eq0.false
     (omega (arith, c.well_formed)) (omega (arith, c.well_formed))
 
 -- there is room for a finished byte
 room : (c : Then-t)
     → let r = c.fill_row-f in
     c.loop-p.written + r.result.count
-    < length (put_mid c.loop-p.written (length c.loop-p.out - c.loop-p.written) c.loop-p.out r.last.1.1.1.1.0)
+    < length (put_mid c.loop-p.written (length c.loop-p.out - c.loop-p.written) c.loop-p.out r.new.out)
 room c =
-    took-room _ _ _ _ _ _ _ _ _ (mid (goal.at.bounds-out-written c).After-work-1) (running (goal.at.bounds-out-written c).After-work-1).if2.taken _ c.samples_for_byte-m.ensures c.if-m-eq0.false
+    took-room _ _ _ _ _ _ _ _ _ (mid (goal.at.bounds-out-written c).After-fill_row-f) c.loop-p-test.true _ c.samples_for_byte-m.ensures c.if-m-eq0.false
     _ _ c.take-t.ensures c.if-t.true
 
 pub bounds-out-written : goal.bounds-out-written
 bounds-out-written c = room c
 
 pub overflow_add-written-then-t : goal.overflow_add-written-then-t
-overflow_add-written-then-t c = omega (arith, room c, (mid (goal.at.overflow_add-written-then-t c).After-work-1).out_long, c.well_formed)
+overflow_add-written-then-t c = omega (arith, room c, (mid (goal.at.overflow_add-written-then-t c).After-fill_row-f).out_long, c.well_formed)
 
 pub loop-p-smaller : goal.loop-p-smaller
 loop-p-smaller c = omega (arith, there (goal.at.loop-p-smaller c).Else-m-eq0, c.if-m-eq0.false)
 
 pub loop-p-preserved : goal.loop-p-preserved
 loop-p-preserved c =
-    loop-took _ _ _ _ _ _ _ _ _ (mid (goal.at.loop-p-preserved c).After-work-1) (running (goal.at.loop-p-preserved c).After-work-1).if2.taken _ c.samples_for_byte-m.ensures c.if-m-eq0.false
+    loop-took _ _ _ _ _ _ _ _ _ (mid (goal.at.loop-p-preserved c).After-fill_row-f) c.loop-p-test.true _ c.samples_for_byte-m.ensures c.if-m-eq0.false
     _ _ c.take-t.ensures
-    (by_bytes c.args.self (looped (goal.at.loop-p-preserved c).After-work-1).loop.p.row) _ _
-    (⊎_elim (λ v. inl (v.0.taken, v.1, v.2)) (λ v. inr (v.0.left, v.1, v.2)) c.if-t.branch)
+    (by_bytes c.args.self c.loop-p.p.row) _ _
+    (elim c.if-t.branch [ then-t w ↦ inl (w.if-t.true, w.out-is, w.written-is) | else-t w ↦ inr (w.if-t.false, w.out-is, w.written-is) ])
 
 pub ran-requires-2 : goal.ran-requires-2
 ran-requires-2 c = tt
@@ -184,5 +186,5 @@ shape_of-work c = c.loop-p.invariant.turn.long
 
 pub returns : goal.returns
 returns c =
-    end-told _ _ _ _ _ _ _ _ _ c.loop-p.invariant (octets (goal.at.returns c).After-shared_slice_known-1)
+    end-told _ _ _ _ _ _ _ _ _ c.loop-p.invariant (octets _ c.type_inv.samples)
     (λ s n t. inl c.loop-p-test.false) c.ran-2.result c.ran-2.ensures
