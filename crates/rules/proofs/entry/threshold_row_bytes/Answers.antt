@@ -1,13 +1,8 @@
-use mathlib.Core.Path.{refl, ◌∙◌}
+use mathlib.Core.Path.{◌∙◌}
 use native.Mathlib.Omega.{arith}
-use Rattle.rules.proofs.EntryTold.{where-does, where-idles}
+use Rattle.rules.proofs.EntryTold.{where-does}
 use Rattle.rules.proofs.StoredBytes.{stored-all}
 use Rattle.rules.proofs.entry.threshold_row_bytes.Goals as goal
-
--- `rules::entry::threshold_row_bytes` meets its contract.
--- Assumes nothing.
-pub returns-then-samples-count : goal.returns-then-samples-count
-returns-then-samples-count c = where-idles (λ p. omega (arith, p, c.if-samples-count.true)) refl
 
 pub returns : goal.returns
 returns c =

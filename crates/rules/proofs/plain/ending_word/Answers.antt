@@ -19,7 +19,7 @@ returns c =
     let a = c.args in
     let e : a.at + (a.width - a.at) ≡ a.width = omega arith in
     let s : a.width - a.at ≤ 8 = omega arith in
-    let small : Below 256 (samples_from a.gray.now a.at) = λ i. omega (arith, c.shared_slice_known-1.given (a.at + i)) in (
+    let small : Below 256 (samples_from a.gray.now a.at) = λ i. omega (arith, c.type_inv.gray (a.at + i)) in (
       moved_up a.width a.gray.now a.at (a.width - a.at) small e s c.few.result c.few.ensures,
       row_small a.width a.gray.now a.at (a.width - a.at) small e s,
     )

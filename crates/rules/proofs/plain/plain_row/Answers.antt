@@ -1,13 +1,11 @@
 use Prim.Native.Nat.{ℕ, ◌+◌, ◌-◌, ◌*◌, ◌/◌, ◌≤◌, ◌<◌}
 use mathlib.Core.Path.{◌≡◌, refl, sym, subst}
-use mathlib.Core.List.{List}
 use native.Mathlib.Omega.{arith}
-use borrow.Author.Tests.{not-true, not-false}
-use lib.ListN.{length, length-set}
+use lib.ListN.{length}
 use Rattle.image.specs.Geometry.{row_bytes}
 use Rattle.rules.specs.Internal.Planes.{row_sample}
 use Rattle.rules.specs.Internal.Words.{samples_from}
-use Rattle.rules.proofs.PlainRowWritten.{PlainTo, plain-none, plain-length, row-missing, row_done, row-stopped, row-goes-on}
+use Rattle.rules.proofs.PlainRowWritten.{PlainTo, plain-none, row-missing, row_done, row-stopped, row-goes-on}
 use Rattle.rules.proofs.WordPlain.{sample_in}
 use Rattle.rules.proofs.plain.plain_row.Goals as goal
 use Rattle.rules.proofs.plain.plain_row.Goals.{After-loop-k, At-loop-k, In-loop-k}
@@ -33,9 +31,6 @@ returns-then-gray-width c =
     let a = c.args in
     row-missing a.width a.gray.now a.out.now (λ l _. omega (arith, c.if-gray-width.true))
 
-pub overflow_add-width : goal.overflow_add-width
-overflow_add-width c = omega (arith, c.if-gray-width.false)
-
 pub returns-then-out-width : goal.returns-then-out-width
 returns-then-out-width c =
     let a = c.args in
@@ -44,69 +39,33 @@ returns-then-out-width c =
 pub loop-k-init : goal.loop-k-init
 loop-k-init c = let a = c.args in (omega arith, plain-none a.width a.gray.now a.out.now)
 
-pub overflow_mul-k : goal.overflow_mul-k
-overflow_mul-k c = omega (arith, c.loop-k-test.true, there (goal.at.overflow_mul-k c).At-loop-k)
-
-pub word-samples-requires : goal.word-samples-requires
-word-samples-requires c = omega (arith, c.loop-k-test.true, there (goal.at.word-samples-requires c).At-loop-k)
-
-pub shape_of-out-then-not-plain_word : goal.shape_of-out-then-not-plain_word
-shape_of-out-then-not-plain_word c = plain-length (room (goal.at.shape_of-out-then-not-plain_word c).At-loop-k) c.loop-k.invariant.1
-
 pub returns-then-not-plain_word : goal.returns-then-not-plain_word
 returns-then-not-plain_word c =
     row-stopped (room (goal.at.returns-then-not-plain_word c).At-loop-k) c.loop-k.invariant.1 c.word-samples.result (samples_from c.args.gray.now (8 * c.loop-k.k)) c.word-samples.ensures.1
-    c.word-samples.ensures.0 (held (goal.at.returns-then-not-plain_word c).In-loop-k) c.plain_word.result c.plain_word.ensures (not-true _ c.if-not-plain_word.true-raw) (there (goal.at.returns-then-not-plain_word c).At-loop-k)
+    c.word-samples.ensures.0 (held (goal.at.returns-then-not-plain_word c).In-loop-k) c.plain_word.result c.plain_word.ensures c.if-not-plain_word.true (there (goal.at.returns-then-not-plain_word c).At-loop-k)
     (omega (arith, c.loop-k-test.true))
-
-pub bounds-out-k : goal.bounds-out-k
-bounds-out-k c = omega (arith, room (goal.at.bounds-out-k c).At-loop-k, plain-length (room (goal.at.bounds-out-k c).At-loop-k) c.loop-k.invariant.1)
-
-pub overflow_add-k : goal.overflow_add-k
-overflow_add-k c = omega arith
-
-pub loop-k-smaller : goal.loop-k-smaller
-loop-k-smaller c = omega arith
 
 pub loop-k-preserved : goal.loop-k-preserved
 loop-k-preserved c = (
   omega arith,
   row-goes-on (room (goal.at.loop-k-preserved c).At-loop-k) c.loop-k.invariant.1 c.word-samples.result (samples_from c.args.gray.now (8 * c.loop-k.k)) c.word-samples.ensures.1
-      c.word-samples.ensures.0 (held (goal.at.loop-k-preserved c).In-loop-k) c.plain_word.result c.plain_word.ensures (not-false _ c.if-not-plain_word.false-raw)
+      c.word-samples.ensures.0 (held (goal.at.loop-k-preserved c).In-loop-k) c.plain_word.result c.plain_word.ensures c.if-not-plain_word.false
       c.gathered.result c.gathered.ensures (omega arith),
 )
 
-pub shape_of-out-then-width-eq0 : goal.shape_of-out-then-width-eq0
-shape_of-out-then-width-eq0 c = plain-length (room (goal.at.shape_of-out-then-width-eq0 c).At-loop-k) c.loop-k.invariant.1
-
 pub returns-then-width-eq0 : goal.returns-then-width-eq0
 returns-then-width-eq0 c = row_done (room (goal.at.returns-then-width-eq0 c).At-loop-k) (ended (goal.at.returns-then-width-eq0 c).After-loop-k) (there (goal.at.returns-then-width-eq0 c).At-loop-k) (omega (arith, c.if-width-eq0.true))
-
-pub overflow_mul-count : goal.overflow_mul-count
-overflow_mul-count c = omega (arith, there (goal.at.overflow_mul-count c).At-loop-k)
-
-pub ending_word-samples-requires : goal.ending_word-samples-requires
-ending_word-samples-requires c = let t = there (goal.at.ending_word-samples-requires c).At-loop-k in (omega (arith, c.if-width-eq0.false), omega arith, t)
-
-pub shape_of-out-then-not-plain_word-2 : goal.shape_of-out-then-not-plain_word-2
-shape_of-out-then-not-plain_word-2 c = plain-length (room (goal.at.shape_of-out-then-not-plain_word-2 c).At-loop-k) (ended (goal.at.shape_of-out-then-not-plain_word-2 c).After-loop-k)
 
 pub returns-then-not-plain_word-2 : goal.returns-then-not-plain_word-2
 returns-then-not-plain_word-2 c =
     row-stopped (room (goal.at.returns-then-not-plain_word-2 c).At-loop-k) (ended (goal.at.returns-then-not-plain_word-2 c).After-loop-k) c.ending_word-samples.result (λ i. row_sample c.args.width c.args.gray.now (8 * (c.args.width / 8) + i))
     c.ending_word-samples.ensures.1 c.ending_word-samples.ensures.0 (λ i _. refl) c.plain_word-2.result c.plain_word-2.ensures
-    (not-true _ c.if-not-plain_word-2.true-raw) (there (goal.at.returns-then-not-plain_word-2 c).At-loop-k) (omega (arith, c.if-width-eq0.false))
-
-pub bounds-out-count : goal.bounds-out-count
-bounds-out-count c = omega (arith, room (goal.at.bounds-out-count c).At-loop-k, plain-length (room (goal.at.bounds-out-count c).At-loop-k) (ended (goal.at.bounds-out-count c).After-loop-k), c.if-width-eq0.false)
-
-pub shape_of-out : goal.shape_of-out
-shape_of-out c = simp length-set (plain-length (room (goal.at.shape_of-out c).At-loop-k) (ended (goal.at.shape_of-out c).After-loop-k))
+    c.if-not-plain_word-2.true (there (goal.at.returns-then-not-plain_word-2 c).At-loop-k) (omega (arith, c.if-width-eq0.false))
 
 pub returns : goal.returns
 returns c =
     row_done (room (goal.at.returns c).At-loop-k)
     (row-goes-on (room (goal.at.returns c).At-loop-k) (ended (goal.at.returns c).After-loop-k) c.ending_word-samples.result (λ i. row_sample c.args.width c.args.gray.now (8 * (c.args.width / 8) + i))
     c.ending_word-samples.ensures.1 c.ending_word-samples.ensures.0 (λ i _. refl) c.plain_word-2.result c.plain_word-2.ensures
-    (not-false _ c.if-not-plain_word-2.false-raw) c.gathered-2.result c.gathered-2.ensures (omega (arith, c.if-width-eq0.false)))
+    c.if-not-plain_word-2.false c.gathered-2.result c.gathered-2.ensures (omega (arith, c.if-width-eq0.false)))
     (there (goal.at.returns c).At-loop-k) (omega arith)

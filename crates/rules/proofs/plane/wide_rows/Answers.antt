@@ -1,24 +1,15 @@
 use Prim.Native.Nat.{◌+◌, ◌-◌, ◌*◌, ◌/◌, ◌%◌, ◌≤◌, ◌<◌}
-use mathlib.Core.Path.{◌≡◌, ◌∙◌}
+use mathlib.Core.Path.{◌∙◌}
 use native.Mathlib.Omega.{arith}
 use lib.ListN.{length}
 use Rattle.image.specs.Geometry.{row_bytes}
-use Rattle.rules.proofs.PlaneWritten.{rows_none, masked_row-is, rows-length}
-use Rattle.rules.proofs.PlaneWritten.{row-there, row_room, word-there, row_more}
+use Rattle.rules.proofs.PlaneWritten.{rows_none, masked_row-is}
+use Rattle.rules.proofs.PlaneWritten.{row_room, word-there, row_more}
 use Rattle.rules.proofs.plane.wide_rows.Goals as goal
 use Rattle.rules.proofs.plane.wide_rows.Goals.{At-loop-y, In-loop-y}
 
 odd : (l : At-loop-y) → 0 < l.args.width % 8
 odd l = l.requires.1.1
-
-same : (l : At-loop-y) → length l.loop-y.out ≡ length l.args.out.now
-same l = rows-length l.requires.0 l.loop-y.invariant
-
--- a row's samples and bytes, and the eight samples at its end
-there : (i : In-loop-y)
-    → i.loop-y.at + i.args.width ≤ length i.args.gray.now
-there i =
-    row-there i.requires.0 i.loop-y.invariant (omega arith)
 
 room : (i : In-loop-y)
     → i.loop-y.to + row_bytes i.args.width ≤ length i.loop-y.out
@@ -33,26 +24,8 @@ word i =
 pub loop-y-init : goal.loop-y-init
 loop-y-init c = let a = c.args in rows_none a.bound a.width a.height a.gray.now a.out.now
 
-pub overflow_sub-height : goal.overflow_sub-height
-overflow_sub-height c = omega (arith, c.loop-y.invariant.within)
-
 pub threshold_row-requires : goal.threshold_row-requires
 threshold_row-requires c = (word (goal.at.threshold_row-requires c).In-loop-y, omega (arith, room (goal.at.threshold_row-requires c).In-loop-y, odd (goal.at.threshold_row-requires c).At-loop-y))
-
-pub overflow_add-at : goal.overflow_add-at
-overflow_add-at c = omega (arith, there (goal.at.overflow_add-at c).In-loop-y)
-
-pub overflow_add-to : goal.overflow_add-to
-overflow_add-to c = omega arith
-
-pub overflow_add-to-in-loop-y : goal.overflow_add-to-in-loop-y
-overflow_add-to-in-loop-y c = omega (arith, room (goal.at.overflow_add-to-in-loop-y c).In-loop-y, odd (goal.at.overflow_add-to-in-loop-y c).At-loop-y, same (goal.at.overflow_add-to-in-loop-y c).At-loop-y, c.well_formed)
-
-pub overflow_add-y : goal.overflow_add-y
-overflow_add-y c = omega arith
-
-pub loop-y-smaller : goal.loop-y-smaller
-loop-y-smaller c = omega arith
 
 pub loop-y-preserved : goal.loop-y-preserved
 loop-y-preserved c =
@@ -60,9 +33,3 @@ loop-y-preserved c =
     row_more c.requires.0 c.loop-y.invariant _ (odd (goal.at.loop-y-preserved c).At-loop-y) (omega arith)
     (c.threshold_row.ensures
     ∙ masked_row-is a.bound a.width a.gray.now c.loop-y.at c.loop-y.out c.loop-y.to a.mask (odd (goal.at.loop-y-preserved c).At-loop-y) c.requires.1.2)
-
-pub shape_of-out : goal.shape_of-out
-shape_of-out c = same (goal.at.shape_of-out c).At-loop-y
-
-pub returns : goal.returns
-returns c = (c.loop-y.invariant.within, c.loop-y.invariant.out_is)

@@ -1,5 +1,5 @@
 use Prim.Native.Nat.{ℕ, ◌-◌, ◌<◌}
-use mathlib.Core.Path.{◌≡◌, refl, ap, ◌∙◌, sym, subst}
+use mathlib.Core.Path.{refl, sym, subst}
 use native.Mathlib.Omega.{arith}
 use lib.Dec.{leb}
 use lib.ListN.{length, get_or}
@@ -17,18 +17,6 @@ low l =
     (appended-fits a.begun (threshold_bit a.bound a.gray.now) (λ i. bit_le (leb a.bound (get_or a.gray.now i 0)))
     (length a.gray.now) l.loop-i.i l.requires l.loop-i.invariant.0)
 
-pub overflow_mul-result : goal.overflow_mul-result
-overflow_mul-result c = omega (arith, c.requires.1)
-
-pub byte-requires : goal.byte-requires
-byte-requires c = omega (arith, c.if-gray-eq8.true)
-
-pub overflow_cast-result : goal.overflow_cast-result
-overflow_cast-result c = omega arith
-
-pub overflow_add-result : goal.overflow_add-result
-overflow_add-result c = omega (arith, c.requires.1)
-
 pub returns-then-gray-eq8 : goal.returns-then-gray-eq8
 returns-then-gray-eq8 c =
     let a = c.args in
@@ -41,17 +29,8 @@ loop-i-init c = (omega arith, refl)
 pub overflow_mul-digits : goal.overflow_mul-digits
 overflow_mul-digits c = omega (arith, low (goal.at.overflow_mul-digits c).At-loop-i)
 
-pub dot-requires : goal.dot-requires
-dot-requires c = omega arith
-
 pub overflow_add-digits : goal.overflow_add-digits
 overflow_add-digits c = omega (arith, low (goal.at.overflow_add-digits c).At-loop-i, c.dot.ensures.1)
-
-pub overflow_add-i : goal.overflow_add-i
-overflow_add-i c = omega arith
-
-pub loop-i-smaller : goal.loop-i-smaller
-loop-i-smaller c = omega arith
 
 pub loop-i-preserved : goal.loop-i-preserved
 loop-i-preserved c =
@@ -59,9 +38,3 @@ loop-i-preserved c =
     let more = one_more a.begun (threshold_bit a.bound a.gray.now) c.loop-i.i c.loop-i.digits c.dot.result
     c.loop-i.invariant.1 c.dot.ensures.0 in
     (omega arith, more)
-
-pub returns : goal.returns
-returns c =
-    let a = c.args in
-    let e : c.loop-i.i ≡ length a.gray.now = omega arith in
-    c.loop-i.invariant.1 ∙ ap (appended a.begun (threshold_bit a.bound a.gray.now)) e
