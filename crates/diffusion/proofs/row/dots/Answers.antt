@@ -22,12 +22,6 @@ in-row l h = omega (arith, l.requires.1.1.in_row)
 in-work : (l : At-loop-i) → l.loop-i.i < l.args.end → l.loop-i.i < length l.loop-i.work
 in-work l h = omega (arith, in-row l h, long l, l.requires.1.1.kept)
 
-pub loop-i-init : goal.loop-i-init
-loop-i-init c = run-start _ _ _ _ _ c.requires.1.1.order
-
-pub slice_copy_out-dot : goal.slice_copy_out-dot
-slice_copy_out-dot c = in-work (goal.at.slice_copy_out-dot c).At-loop-i c.loop-i-test.true
-
 -- the sum is read as it is held
 same_sum : (c : After-dot-arg-1) →
     let z = get_or c.loop-i.work c.loop-i.i (pos 0) in
@@ -54,9 +48,6 @@ loop-i-preserved c =
       | then-i-gt0 w ↦ sum_left _ _ _ _ _ w.if-i-gt0.true (omega (arith, in-work (goal.at.loop-i-preserved c).At-loop-i t)) (to_z_pos w16 _ (omega arith)) w.work-is
       | else-i-gt0 w ↦ sum-none _ _ _ _ w.if-i-gt0.false w.work-is
     ])
-
-pub shape_of-work : goal.shape_of-work
-shape_of-work c = long (goal.at.shape_of-work c).At-loop-i
 
 pub returns : goal.returns
 returns c = λ old a. run_end _ _ _ _ _ _ _ _ c.loop-i.invariant c.loop-i-test.false old (byte-begins _ _ _ _ _ a)

@@ -23,12 +23,6 @@ in-row l h = omega (arith, l.requires.1.1.0.in_row)
 in-work : (l : At-loop-i) → l.loop-i.i < 8 → l.args.x + l.loop-i.i < length l.loop-i.work
 in-work l h = omega (arith, in-row l h, long l, l.requires.1.1.0.kept)
 
-pub loop-i-init : goal.loop-i-init
-loop-i-init c = rw (add-zero c.args.x) (run-start _ _ _ _ _ (omega arith))
-
-pub slice_copy_out-dot : goal.slice_copy_out-dot
-slice_copy_out-dot c = in-work (goal.at.slice_copy_out-dot c).At-loop-i c.loop-i-test.true
-
 -- the sum is read as it is held
 same_sum : (c : After-dot-arg-1) →
     let z = get_or c.loop-i.work (c.args.x + c.loop-i.i) (pos 0) in
@@ -54,9 +48,6 @@ loop-i-preserved c =
     run_at _ _ _ _ _ _ _ _ _ e
     (run_more _ _ _ _ _ _ _ _ c.loop-i.invariant _ (same_sum (goal.at.loop-i-preserved c).After-dot-arg-1) _ _ (omega (arith, t)) c.requires.1.1.0.in_row c.dot-s.ensures
     (sum_left _ _ _ _ _ (omega (arith, c.requires.1.1.1)) (omega (arith, in-work (goal.at.loop-i-preserved c).At-loop-i t)) (to_z_pos w16 _ (omega arith)) refl))
-
-pub shape_of-work : goal.shape_of-work
-shape_of-work c = long (goal.at.shape_of-work c).At-loop-i
 
 pub returns : goal.returns
 returns c = λ old a. run_end _ _ _ _ _ _ _ _ c.loop-i.invariant (omega (arith, c.loop-i-test.false)) old (byte-begins _ _ _ _ _ a)

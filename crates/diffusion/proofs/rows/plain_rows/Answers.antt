@@ -20,25 +20,10 @@ loop-y-init c =
     let a = c.args in
     plain-begun a.width a.height a.gray.now a.out.now
 
-pub overflow_add-end : goal.overflow_add-end
-overflow_add-end c = omega (arith, there c, c.well_formed)
-
-pub overflow_add-stop : goal.overflow_add-stop
-overflow_add-stop c = omega (arith, room c, c.loop-y.invariant.written.long, c.well_formed)
-
-pub slice_bounds-plain_row-end : goal.slice_bounds-plain_row-end
-slice_bounds-plain_row-end c = omega (arith, there c)
-
-pub slice_bounds-plain_row-end-in-loop-y : goal.slice_bounds-plain_row-end-in-loop-y
-slice_bounds-plain_row-end-in-loop-y c = omega (arith, room (goal.at.slice_bounds-plain_row-end-in-loop-y c).In-loop-y)
-
 pub returns-then-not-plain_row : goal.returns-then-not-plain_row
 returns-then-not-plain_row c =
     plain_end c.requires c.loop-y.invariant c.loop-y-test.true c.plain_row.result
     c.plain_row.new.out c.plain_row.auto.out
-
-pub shape_of-out-then-not-plain_row : goal.shape_of-out-then-not-plain_row
-shape_of-out-then-not-plain_row c = (returns-then-not-plain_row c).written.long
 
 pub loop-y-preserved : goal.loop-y-preserved
 loop-y-preserved c =
