@@ -26,7 +26,7 @@ entry : (s : Start) → get_or s.args.downs.now (index s) 0 < 1069105
 entry s = omega (arith, s.requires.1.0 (index s) (below s), parts-lt (index s) (below s))
 
 pub overflow_add-result : goal.overflow_add-result
-overflow_add-result c = omega (arith, c.struct_known-2-1.given, entry (goal.at.overflow_add-result c).Start)
+overflow_add-result c = omega (arith, entry (goal.at.overflow_add-result c).Start)
 
 pub returns : goal.returns
 returns c =

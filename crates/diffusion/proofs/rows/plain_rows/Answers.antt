@@ -6,14 +6,6 @@ use Rattle.image.specs.Geometry.{row_bytes}
 use Rattle.diffusion.proofs.RowsLoop.{row-lent, row_fits}
 use Rattle.diffusion.proofs.RowsGoing.{plain-begun, plain_more, plain_end}
 use Rattle.diffusion.proofs.rows.plain_rows.Goals as goal
-use Rattle.diffusion.proofs.rows.plain_rows.Goals.{In-loop-y}
-
--- row y is among the samples, and has room in the output
-there : (c : In-loop-y) → c.loop-y.at + c.args.width ≤ length c.args.gray.now
-there c = row-lent c.requires c.loop-y.invariant c.loop-y-test.true
-
-room : (c : In-loop-y) → c.loop-y.to + row_bytes c.args.width ≤ length c.loop-y.out
-room c = row_fits c.requires c.loop-y.invariant c.loop-y-test.true
 
 pub loop-y-init : goal.loop-y-init
 loop-y-init c =

@@ -6,14 +6,6 @@ use Rattle.image.specs.Geometry.{row_bytes}
 use Rattle.diffusion.proofs.RowsLoop.{row-lent, row_fits}
 use Rattle.diffusion.proofs.RowsGoing.{first-lent, first_fits, going-begun, going-given, going_next, going_end}
 use Rattle.diffusion.proofs.rows.rows_from.Goals as goal
-use Rattle.diffusion.proofs.rows.rows_from.Goals.{In-loop-y}
-
--- row y is among the samples, and has room in the output
-there : (c : In-loop-y) → c.loop-y.at + c.args.width ≤ length c.args.gray.now
-there c = row-lent c.requires.plane_lent.0 c.loop-y.invariant.here c.loop-y-test.true
-
-room : (c : In-loop-y) → c.loop-y.to + row_bytes c.args.width ≤ length c.loop-y.out
-room c = row_fits c.requires.plane_lent.0 c.loop-y.invariant.here c.loop-y-test.true
 
 pub loop-y-preserved : goal.loop-y-preserved
 loop-y-preserved c =
