@@ -47,12 +47,6 @@ returns-then-columns-eq0 c =
     let a = c.args in
     served (goal.at.returns-then-columns-eq0 c).Else-work-columns _ _ (no-columns a.width a.height a.gray.now a.out.now c.if-columns-eq0.true) refl
 
-pub returns-then-columns-eq1 : goal.returns-then-columns-eq1
-returns-then-columns-eq1 c = served (goal.at.returns-then-columns-eq1 c).Else-work-columns _ _ (columns (goal.at.returns-then-columns-eq1 c).Else-work-columns 1 c.if-columns-eq1.true _ c.dither_ones.ensures) refl
-
-pub returns-then-columns-eq2 : goal.returns-then-columns-eq2
-returns-then-columns-eq2 c = served (goal.at.returns-then-columns-eq2 c).Else-work-columns _ _ (columns (goal.at.returns-then-columns-eq2 c).Else-work-columns 2 c.if-columns-eq2.true _ c.dither_pairs.ensures) refl
-
 pub returns-then-first-rows : goal.returns-then-first-rows
 returns-then-first-rows c = served (goal.at.returns-then-first-rows c).Else-work-columns _ _ (rows-joined c.plain_rows-first.ensures _ c.rows_from.ensures.rows_written) c.rows_from.ensures.work_unchanged
 

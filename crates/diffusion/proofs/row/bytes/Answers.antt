@@ -61,12 +61,6 @@ loop-j-preserved c =
           bytes-more _ _ _ _ _ _ _ q _ _ (c.eight_dots_or_level-f.ensures old q.at) (there (goal.at.loop-j-preserved c).At-loop-j t) (omega (arith, fits (goal.at.loop-j-preserved c).At-loop-j t, q.out_long));
     }
 
-pub shape_of-work : goal.shape_of-work
-shape_of-work c = (made (goal.at.shape_of-work c).At-loop-j).at.long
-
-pub shape_of-out : goal.shape_of-out
-shape_of-out c = (made (goal.at.shape_of-out c).At-loop-j).out_long
-
 pub returns : goal.returns
 returns c =
     let a = c.args in

@@ -6,9 +6,6 @@ use mir.ValLaws.{to_z_pos}
 use Rattle.diffusion.proofs.RowEnds.{last-lent, shifted-small, shifted-is, row-dithered}
 use Rattle.diffusion.proofs.row.dither_row.Goals as goal
 
-pub dots-s-requires : goal.dots-s-requires
-dots-s-requires c = (c.requires.0, (c.requires.1.0, last-lent _ _ _ c.requires.1.1 _ _ _ c.bytes-f.ensures))
-
 pub overflow_cast-out : goal.overflow_cast-out
 overflow_cast-out c =
     let p = c.bytes-f.ensures in

@@ -25,38 +25,8 @@ below s = let a = s.args in index_in a.rights.now a.downs.now a.f a.gray _ a.sum
 entry : (s : Start) → get_or s.args.downs.now (index s) 0 < 1069105
 entry s = omega (arith, s.requires.1.0 (index s) (below s), parts-lt (index s) (below s))
 
-pub overflow_cast-given-2 : goal.overflow_cast-given-2
-overflow_cast-given-2 c = sum_fits _ _ (same c) c.requires.1.1.sum_is c.requires.1.1.sum_small
-
-pub overflow_add-given : goal.overflow_add-given
-overflow_add-given c = omega (arith, below c)
-
-pub overflow_cast-v : goal.overflow_cast-v
-overflow_cast-v c = omega (arith, below c)
-
-pub overflow_add-v : goal.overflow_add-v
-overflow_add-v c = omega (arith, below (goal.at.overflow_add-v c).Start)
-
-pub overflow_cast-i : goal.overflow_cast-i
-overflow_cast-i c = omega (arith, below (goal.at.overflow_cast-i c).Start)
-
-pub offset_bounds-downs-i : goal.offset_bounds-downs-i
-offset_bounds-downs-i c = omega (arith, below (goal.at.offset_bounds-downs-i c).Start)
-
-pub bounds-downs-i : goal.bounds-downs-i
-bounds-downs-i c = below (goal.at.bounds-downs-i c).Start
-
-pub bounds-rights-i : goal.bounds-rights-i
-bounds-rights-i c = below (goal.at.bounds-rights-i c).Start
-
-pub overflow_cast-result : goal.overflow_cast-result
-overflow_cast-result c = omega (arith, c.requires.0 (index (goal.at.overflow_cast-result c).Start) (below (goal.at.overflow_cast-result c).Start), part_small 7 _ (rest-small (index (goal.at.overflow_cast-result c).Start) (below (goal.at.overflow_cast-result c).Start)))
-
 pub overflow_add-result : goal.overflow_add-result
-overflow_add-result c = omega (arith, c.struct_known-2-1.given, entry (goal.at.overflow_add-result c).Start)
-
-pub overflow_add-result-2 : goal.overflow_add-result-2
-overflow_add-result-2 c = omega (arith, below (goal.at.overflow_add-result-2 c).Start, c.requires.1.1.digits_small)
+overflow_add-result c = omega (arith, entry (goal.at.overflow_add-result c).Start)
 
 pub returns : goal.returns
 returns c =

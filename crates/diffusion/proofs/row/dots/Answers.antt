@@ -1,6 +1,7 @@
 use Prim.Native.Nat.{◌-◌, ◌<◌}
 use mathlib.Core.Path.{◌≡◌}
 use native.Mathlib.Omega.{arith}
+use borrow.Author.Rules.{rules}
 use lib.IntN.{pos}
 use lib.ListN.{length, get_or}
 use mir.Syntax.{w16}
@@ -8,7 +9,7 @@ use mir.Val.{to_z, of_z}
 use mir.ValLaws.{to_z-of_z, to_z_pos}
 use Rattle.diffusion.proofs.RowGrows.{byte-begins, run-start, run_long, run_lent, run_more, run_end, sum-none, sum_left}
 use Rattle.diffusion.proofs.row.dots.Goals as goal
-use Rattle.diffusion.proofs.row.dots.Goals.{After-dot-arg-1, At-loop-i, then-i-gt0, else-i-gt0}
+use Rattle.diffusion.proofs.row.dots.Goals.{At-loop-i, then-i-gt0, else-i-gt0}
 
 -- the numbers of the work buffer are as many as they were
 long : (l : At-loop-i) → length l.loop-i.work ≡ length l.args.work.now
@@ -22,18 +23,6 @@ in-row l h = omega (arith, l.requires.1.1.in_row)
 in-work : (l : At-loop-i) → l.loop-i.i < l.args.end → l.loop-i.i < length l.loop-i.work
 in-work l h = omega (arith, in-row l h, long l, l.requires.1.1.kept)
 
-pub loop-i-init : goal.loop-i-init
-loop-i-init c = run-start _ _ _ _ _ c.requires.1.1.order
-
-pub slice_copy_out-dot : goal.slice_copy_out-dot
-slice_copy_out-dot c = in-work (goal.at.slice_copy_out-dot c).At-loop-i c.loop-i-test.true
-
--- the sum is read as it is held
-same_sum : (c : After-dot-arg-1) →
-    let z = get_or c.loop-i.work c.loop-i.i (pos 0) in
-    to_z w16 (of_z w16 z) ≡ z
-same_sum c = to_z-of_z w16 _ (record { sfits = c.dot-arg-1.given })
-
 pub dot-s-requires : goal.dot-s-requires
 dot-s-requires c =
     let p = c.requires.1.1 in
@@ -42,21 +31,18 @@ dot-s-requires c =
       c.requires.0,
       (
         c.requires.1.0,
-        run_lent _ _ _ _ _ _ _ _ c.loop-i.invariant p.old b _ (same_sum c) (in-row (goal.at.dot-s-requires c).At-loop-i t) (omega (arith, p.one_byte)),
+        run_lent _ _ _ _ _ _ _ _ c.loop-i.invariant p.old b _ (to_z-of_z w16 (get_or c.loop-i.work c.loop-i.i (pos 0)) (search rules)) (in-row (goal.at.dot-s-requires c).At-loop-i t) (omega (arith, p.one_byte)),
       ),
     )
 
 pub loop-i-preserved : goal.loop-i-preserved
 loop-i-preserved c =
     let t = c.loop-i-test.true in
-    run_more _ _ _ _ _ _ _ _ c.loop-i.invariant _ (same_sum (goal.at.loop-i-preserved c).After-dot-arg-1) _ _ t c.requires.1.1.in_row c.dot-s.ensures
+    run_more _ _ _ _ _ _ _ _ c.loop-i.invariant _ (to_z-of_z w16 (get_or c.loop-i.work c.loop-i.i (pos 0)) (search rules)) _ _ t c.requires.1.1.in_row c.dot-s.ensures
     (elim c.if-i-gt0.branch [
       | then-i-gt0 w ↦ sum_left _ _ _ _ _ w.if-i-gt0.true (omega (arith, in-work (goal.at.loop-i-preserved c).At-loop-i t)) (to_z_pos w16 _ (omega arith)) w.work-is
       | else-i-gt0 w ↦ sum-none _ _ _ _ w.if-i-gt0.false w.work-is
     ])
-
-pub shape_of-work : goal.shape_of-work
-shape_of-work c = long (goal.at.shape_of-work c).At-loop-i
 
 pub returns : goal.returns
 returns c = λ old a. run_end _ _ _ _ _ _ _ _ c.loop-i.invariant c.loop-i-test.false old (byte-begins _ _ _ _ _ a)

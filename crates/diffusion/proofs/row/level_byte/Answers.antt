@@ -12,9 +12,6 @@ small : (c : Else-not-plain_row) → get_or c.plain_row.new.out 0 0 < 256
 small c =
     told-small c.args.gray.now c.args.x _ _ _ c.plain_row.ensures c.if-not-plain_row.false c.requires.0
 
-pub overflow_cast-result : goal.overflow_cast-result
-overflow_cast-result c = record { fits = omega (arith, small c) }
-
 pub returns : goal.returns
 returns c =
     let a = c.args in (

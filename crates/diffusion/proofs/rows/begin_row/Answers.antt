@@ -4,12 +4,6 @@ use lib.Seq.{length-take-le}
 use Rattle.diffusion.proofs.RowHanded.{begun-handed, begun-plain, begun-level}
 use Rattle.diffusion.proofs.rows.begin_row.Goals as goal
 
-pub returns-then-not-level : goal.returns-then-not-level
-returns-then-not-level c =
-    let a = c.args in
-    let e = c.if-not-level.true in
-    begun-handed a.gray.now a.work.now _ a.level e (c.requires.sums e)
-
 pub returns-then-plain_row : goal.returns-then-plain_row
 returns-then-plain_row c =
     let a = c.args in
