@@ -25,13 +25,13 @@ returns c =
     let a = c.args in
     let w = c.bytes_at_once-k.ensures.0 in
     let n = length-take-le c.bytes_at_once-k.result a.out.now w.fits in
-    let last = c.fill-corner.new.1.1.1.1 in
+    let after = c.fill-corner.new in
     record {
       wholes = w;
-      bytes = last.0;
+      bytes = after.out;
       fills = subst
-          (λ (k : ℕ). Fills a.rule a.width a.p.row a.p.column a.samples.now a.p.corner a.work.now k last.0
-          c.fill-corner.result last.1.0) n
+          (λ (k : ℕ). Fills a.rule a.width a.p.row a.p.column a.samples.now a.p.corner a.work.now k after.out
+          c.fill-corner.result after.work) n
           c.fill-corner.ensures;
       stored = refl;
     }

@@ -3,7 +3,7 @@ use mathlib.Core.Path.{◌≡◌}
 use mathlib.Core.Logic.{◌⊎◌, inl, inr, ⊎_elim}
 use native.Mathlib.Omega.{arith}
 use Rattle.quantize.proofs.turn.samples_for_byte.Goals as goal
-use Rattle.quantize.proofs.turn.samples_for_byte.Goals.{Joined-width-column}
+use Rattle.quantize.proofs.turn.samples_for_byte.Goals.{Joined-width-column, then-width-column, else-width-column, then-room-eq0, else-room-eq0}
 
 -- the samples up to the end of the byte or of the row
 record Capped (w column m : ℕ) : Type 0 where
@@ -15,20 +15,20 @@ record Capped (w column m : ℕ) : Type 0 where
 capped : (j : Joined-width-column) → Capped j.args.width j.args.column j.if-width-column.most
 capped j =
     let p = j.requires in
-    ⊎_elim
-    (λ v. record {
-      some = omega (arith, v.0.taken, v.1);
-      in_row = omega (arith, v.0.taken, v.1);
-      in_byte = omega (arith, v.0.taken, v.1);
-      ends = inl (omega (arith, v.0.taken, v.1));
-    })
-    (λ v. record {
-      some = omega (arith, v.0.left, v.1);
-      in_row = omega (arith, v.0.left, v.1);
-      in_byte = omega (arith, v.0.left, v.1);
-      ends = inr (omega (arith, v.0.left, v.1));
-    })
-    j.if-width-column.branch
+    elim j.if-width-column.branch [
+    | then-width-column w ↦ record {
+      some = omega arith;
+      in_row = omega arith;
+      in_byte = omega arith;
+      ends = inl (omega arith);
+    }
+    | else-width-column w ↦ record {
+      some = omega arith;
+      in_row = omega arith;
+      in_byte = omega arith;
+      ends = inr (omega arith);
+    }
+    ]
 
 pub overflow_sub-most-then-room-eq0 : goal.overflow_sub-most-then-room-eq0
 overflow_sub-most-then-room-eq0 c = (capped (goal.at.overflow_sub-most-then-room-eq0 c).Joined-width-column).some
@@ -36,39 +36,39 @@ overflow_sub-most-then-room-eq0 c = (capped (goal.at.overflow_sub-most-then-room
 pub returns-then-samples-most : goal.returns-then-samples-most
 returns-then-samples-most c =
     let k = capped (goal.at.returns-then-samples-most c).Joined-width-column in
-    ⊎_elim
-    (λ v. record {
+    elim c.if-room-eq0.branch [
+    | then-room-eq0 w ↦ record {
       there = omega arith;
-      in_row = omega (arith, k, v.2);
-      in_byte = omega (arith, k, v.2);
-      fits = λ z. (omega (arith, k, v.2), omega (arith, k, v.2));
+      in_row = omega arith;
+      in_byte = omega arith;
+      fits = λ z. (omega arith, omega arith);
       all = λ z. inl z;
-    })
-    (λ v. record {
+    }
+    | else-room-eq0 w ↦ record {
       there = omega arith;
-      in_row = omega (arith, k, v.1);
-      in_byte = omega (arith, k, v.1);
-      fits = λ z. absurd (v.0.left z);
+      in_row = omega arith;
+      in_byte = omega arith;
+      fits = λ z. absurd (w.if-room-eq0.false z);
       all = λ z. inl z;
-    })
-    c.if-room-eq0.branch
+    }
+    ]
 
 pub returns-else-samples-most : goal.returns-else-samples-most
 returns-else-samples-most c =
     let k = capped (goal.at.returns-else-samples-most c).Joined-width-column in
-    ⊎_elim
-    (λ v. record {
+    elim c.if-room-eq0.branch [
+    | then-room-eq0 w ↦ record {
       there = c.if-samples-most.false;
-      in_row = omega (arith, k, v.2);
-      in_byte = omega (arith, k, v.2);
-      fits = λ z. (omega (arith, k, v.2), omega (arith, k, v.2));
-      all = λ z. inr (v.0.taken, ⊎_elim (λ e. inl (omega (arith, k, v.2))) (λ e. inr (omega (arith, k, v.2))) k.ends);
-    })
-    (λ v. record {
+      in_row = omega arith;
+      in_byte = omega arith;
+      fits = λ z. (omega arith, omega arith);
+      all = λ z. inr (w.if-room-eq0.true, ⊎_elim (λ e. inl (omega arith)) (λ e. inr (omega arith)) k.ends);
+    }
+    | else-room-eq0 w ↦ record {
       there = c.if-samples-most.false;
-      in_row = omega (arith, k, v.1);
-      in_byte = omega (arith, k, v.1);
-      fits = λ z. absurd (v.0.left z);
-      all = λ z. let f : ⊥ = omega (arith, k, v.1) in absurd f;
-    })
-    c.if-room-eq0.branch
+      in_row = omega arith;
+      in_byte = omega arith;
+      fits = λ z. absurd (w.if-room-eq0.false z);
+      all = λ z. let f : ⊥ = omega arith in absurd f;
+    }
+    ]

@@ -13,7 +13,7 @@ use Rattle.quantize.proofs.TurnTakes.{end_fits, taking, took-room, loop-took}
 use Rattle.quantize.proofs.BytesAtOnce.{loop-filled}
 use Rattle.quantize.proofs.RunEnd.{none_told, full-byte, end-told}
 use Rattle.quantize.proofs.engine.Quantizer.run.Goals as goal
-use Rattle.quantize.proofs.engine.Quantizer.run.Goals.{After-shared_slice_known-1, After-work-1, At-loop-p, Else-m-eq0, Then-t}
+use Rattle.quantize.proofs.engine.Quantizer.run.Goals.{After-shared_slice_known-1, After-work-1, Else-m-eq0, Then-t, then-t, else-t}
 
 -- samples are bytes
 octets : (l : After-shared_slice_known-1) (i : ℕ) → get_or l.args.samples.now i 0 < 256
@@ -27,8 +27,8 @@ by_bytes q row = bytewise (rule_of q.rule q.table) row
 mid : (f : After-work-1)
     → let r = f.fill_row-f in
     Loop f.args.self f.args.samples.now f.args.out.now f.args.work.now
-    (put_mid f.loop-p.written (length f.loop-p.out - f.loop-p.written) f.loop-p.out r.new.1.1.1.1.0)
-    r.new.1.1.1.1.1.0
+    (put_mid f.loop-p.written (length f.loop-p.out - f.loop-p.written) f.loop-p.out r.new.out)
+    r.new.work
     (record {
       frames = f.loop-p.p.frames;
       row = f.loop-p.p.row;
@@ -43,7 +43,7 @@ mid f =
     loop-filled q (omega (arith, f.well_formed)) f.args.samples.now f.args.out.now f.args.work.now
     f.loop-p.out f.loop-p.work f.loop-p.p
     f.loop-p.taken f.loop-p.written f.loop-p.invariant f.loop-p-test.true (by_bytes q f.loop-p.p.row)
-    r.result r.new.1.1.1.1.0 r.new.1.1.1.1.1.0 r.ensures
+    r.result r.new.out r.new.work r.ensures
 
 pub can_take-requires : goal.can_take-requires
 can_take-requires c = tt
@@ -84,19 +84,19 @@ fill_row-f-requires c =
     record { in_row = so.in_row; small = so.corner_small; served = so.served }
 
 pub overflow_mul-taken : goal.overflow_mul-taken
-overflow_mul-taken c = omega (arith, (mid (goal.at.overflow_mul-taken c).After-work-1).taken_fits, (start (goal.at.overflow_mul-taken c).At-loop-p).good)
+overflow_mul-taken c = omega (arith, (mid (goal.at.overflow_mul-taken c).After-work-1).taken_fits, c.well_formed)
 
 pub overflow_add-taken : goal.overflow_add-taken
-overflow_add-taken c = omega (arith, (mid (goal.at.overflow_add-taken c).After-work-1).taken_fits, (start (goal.at.overflow_add-taken c).At-loop-p).good)
+overflow_add-taken c = omega (arith, (mid (goal.at.overflow_add-taken c).After-work-1).taken_fits, c.well_formed)
 
 pub overflow_add-written : goal.overflow_add-written
-overflow_add-written c = omega (arith, (mid (goal.at.overflow_add-written c).After-work-1).written_fits, (start (goal.at.overflow_add-written c).At-loop-p).good)
+overflow_add-written c = omega (arith, (mid (goal.at.overflow_add-written c).After-work-1).written_fits, c.well_formed)
 
 pub overflow_mul-p : goal.overflow_mul-p
-overflow_mul-p c = omega (arith, (mid (goal.at.overflow_mul-p c).After-work-1).taken_fits, (start (goal.at.overflow_mul-p c).At-loop-p).good)
+overflow_mul-p c = omega (arith, (mid (goal.at.overflow_mul-p c).After-work-1).taken_fits, c.well_formed)
 
 pub overflow_add-p : goal.overflow_add-p
-overflow_add-p c = omega (arith, (mid (goal.at.overflow_add-p c).After-work-1).turn.sound.in_row, (start (goal.at.overflow_add-p c).At-loop-p).good)
+overflow_add-p c = omega (arith, (mid (goal.at.overflow_add-p c).After-work-1).turn.sound.in_row, c.well_formed)
 
 pub overflow_sub-samples : goal.overflow_sub-samples
 overflow_sub-samples c = (mid (goal.at.overflow_sub-samples c).After-work-1).taken_fits
@@ -126,10 +126,10 @@ returns-then-m-eq0 c =
 
 -- the samples-for-byte's samples are there
 there : (e : Else-m-eq0)
-    → (looped (goal.at.overflow_add-end e).After-work-1).loop.taken + 8 * e.fill_row-f.result.count + e.samples_for_byte-m.result
+    → e.loop-p.taken + 8 * e.fill_row-f.result.count + e.samples_for_byte-m.result
     ≤ length e.args.samples.now
 there e =
-    end_fits _ _ _ _ _ _ _ _ _ (mid (goal.at.overflow_add-end e).After-work-1) (running (goal.at.overflow_add-end e).After-work-1).if2.taken _ e.samples_for_byte-m.ensures e.if-m-eq0.false
+    end_fits _ _ _ _ _ _ _ _ _ (mid (goal.at.overflow_add-end e).After-work-1) e.loop-p-test.true _ e.samples_for_byte-m.ensures e.if-m-eq0.false
 
 pub overflow_add-end : goal.overflow_add-end
 overflow_add-end c = omega (arith, there c, c.well_formed)
@@ -145,16 +145,16 @@ slice_bounds-take-end c = there (goal.at.slice_bounds-take-end c).Else-m-eq0
 
 pub take-t-requires : goal.take-t-requires
 take-t-requires c =
-    taking _ _ _ _ _ _ _ _ _ (mid (goal.at.take-t-requires c).After-work-1) (running (goal.at.take-t-requires c).After-work-1).if2.taken _ c.samples_for_byte-m.ensures c.if-m-eq0.false
+    taking _ _ _ _ _ _ _ _ _ (mid (goal.at.take-t-requires c).After-work-1) c.loop-p-test.true _ c.samples_for_byte-m.ensures c.if-m-eq0.false
     (omega (arith, c.well_formed)) (omega (arith, c.well_formed))
 
 -- there is room for a finished byte
 room : (c : Then-t)
     → let r = c.fill_row-f in
     c.loop-p.written + r.result.count
-    < length (put_mid c.loop-p.written (length c.loop-p.out - c.loop-p.written) c.loop-p.out r.last.1.1.1.1.0)
+    < length (put_mid c.loop-p.written (length c.loop-p.out - c.loop-p.written) c.loop-p.out r.new.out)
 room c =
-    took-room _ _ _ _ _ _ _ _ _ (mid (goal.at.bounds-out-written c).After-work-1) (running (goal.at.bounds-out-written c).After-work-1).if2.taken _ c.samples_for_byte-m.ensures c.if-m-eq0.false
+    took-room _ _ _ _ _ _ _ _ _ (mid (goal.at.bounds-out-written c).After-work-1) c.loop-p-test.true _ c.samples_for_byte-m.ensures c.if-m-eq0.false
     _ _ c.take-t.ensures c.if-t.true
 
 pub bounds-out-written : goal.bounds-out-written
@@ -168,10 +168,10 @@ loop-p-smaller c = omega (arith, there (goal.at.loop-p-smaller c).Else-m-eq0, c.
 
 pub loop-p-preserved : goal.loop-p-preserved
 loop-p-preserved c =
-    loop-took _ _ _ _ _ _ _ _ _ (mid (goal.at.loop-p-preserved c).After-work-1) (running (goal.at.loop-p-preserved c).After-work-1).if2.taken _ c.samples_for_byte-m.ensures c.if-m-eq0.false
+    loop-took _ _ _ _ _ _ _ _ _ (mid (goal.at.loop-p-preserved c).After-work-1) c.loop-p-test.true _ c.samples_for_byte-m.ensures c.if-m-eq0.false
     _ _ c.take-t.ensures
-    (by_bytes c.args.self (looped (goal.at.loop-p-preserved c).After-work-1).loop.p.row) _ _
-    (⊎_elim (λ v. inl (v.0.taken, v.1, v.2)) (λ v. inr (v.0.left, v.1, v.2)) c.if-t.branch)
+    (by_bytes c.args.self c.loop-p.p.row) _ _
+    (elim c.if-t.branch [ then-t w ↦ inl (w.if-t.true, w.out-is, w.written-is) | else-t w ↦ inr (w.if-t.false, w.out-is, w.written-is) ])
 
 pub ran-requires-2 : goal.ran-requires-2
 ran-requires-2 c = tt
