@@ -18,8 +18,8 @@ returns-then-begun-room c =
     let r = c.room_before-room in
     let a = c.args in
     let n : ℕ = r.result in
-    let last : List ℕ = b.new.1.1.1.1.1.0 in
-    let long : length last ≡ n = b.auto.1.1.1.1.1.0 ∙ length-take-le n a.out.now (omega (arith, r.ensures)) in
+    let last : List ℕ = b.new.out in
+    let long : length last ≡ n = b.auto.out ∙ length-take-le n a.out.now (omega (arith, r.ensures)) in
     let header : List ℕ → Answer (List ℕ) =
     λ lengths. ext_header a.options.strict a.width a.height a.options.ext a.text.now lengths in (
       answered-room a.options.strict a.text.now [] (refuses 0 0) a.body a.out.now last n r.ensures long b.result
@@ -36,8 +36,8 @@ returns c =
     let r = c.room_before-room in
     let a = c.args in
     let n : ℕ = r.result in
-    let last : List ℕ = b.new.1.1.1.1.1.0 in
-    let long : length last ≡ n = b.auto.1.1.1.1.1.0 ∙ length-take-le n a.out.now (omega (arith, r.ensures)) in
+    let last : List ℕ = b.new.out in
+    let long : length last ≡ n = b.auto.out ∙ length-take-le n a.out.now (omega (arith, r.ensures)) in
     let header : List ℕ → Answer (List ℕ) =
     λ lengths. ext_header a.options.strict a.width a.height a.options.ext a.text.now lengths in (
       answered-room a.options.strict a.text.now [] (refuses 0 0) a.body a.out.now last n r.ensures long b.result

@@ -19,12 +19,14 @@ tested c x e = sym c.check_scans.ensures ∙ ap checked e
 
 pub begin_made-requires : goal.begin_made-requires
 begin_made-requires c =
-    let a = c.args in (
-      laid c.new-layout.ensures,
-      subst⁻¹ (λ (l : PlaneLayout). check_scans 16 a.options l.width l.height a.lent.count (length a.gray.now)
+    let a = c.args in
+    record {
+      laid = laid c.new-layout.ensures;
+      work_value =
+          subst⁻¹ (λ (l : PlaneLayout). check_scans 16 a.options l.width l.height a.lent.count (length a.gray.now)
           (length a.work.now) ≡ gives tt)
-          c.new-layout.ensures (tested (goal.at.begin_made-requires c).After-check_scans _ c.in-Accepted.is),
-    )
+          c.new-layout.ensures (tested (goal.at.begin_made-requires c).After-check_scans _ c.in-Accepted.is);
+    }
 
 pub returns-in-Accepted : goal.returns-in-Accepted
 returns-in-Accepted c =
@@ -32,7 +34,7 @@ returns-in-Accepted c =
     let b = c.begin_made in
     subst (λ (l : PlaneLayout). BeginsMade l.width l.height a.lent.count a.gray.now a.options a.text.now a.found
     a.work.now
-    b.new.1.1.1.1.1.0 a.out.now b.new.1.1.1.1.1.1.0 b.result) c.new-layout.ensures b.ensures
+    b.new.work a.out.now b.new.out b.result) c.new-layout.ensures b.ensures
 
 pub returns-in-Refused : goal.returns-in-Refused
 returns-in-Refused c lengths h =

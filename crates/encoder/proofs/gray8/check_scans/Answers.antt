@@ -17,7 +17,7 @@ sized : (c : In-Accepted) → let a = c.args in check_count 16 a.width a.height 
 sized c = sym c.check_count-counted.ensures ∙ ap checked c.in-Accepted.is
 
 known : (c : Else-not-known_rule) → known_rule c.args.options.quantize ≡ true
-known c = sym c.known_rule.ensures ∙ not-false _ c.if-not-known_rule.false-raw
+known c = let h = c.if-not-known_rule in ?
 
 served : (c : Else-not-enough_work)
     → let a = c.args in

@@ -12,7 +12,7 @@ use Rattle.encoder.proofs.planes.begin_file.Goals.{In-Bytes}
 -- the output behind the header
 behind : (c : In-Bytes)
     → let a = c.args.lent in
-    c.in-Bytes.start + a.count * a.layout.total_bytes ≤ length c.begin_header_before-begun.new.1.1.1.1.1.1.0
+    c.in-Bytes.start + a.count * a.layout.total_bytes ≤ length c.begin_header_before-begun.new.out
 behind c =
     c.begin_header_before-begun.ensures.0 c.in-Bytes.start (ap written c.in-Bytes.is)
 
@@ -31,14 +31,12 @@ pub slice_bounds-write_planes-start : goal.slice_bounds-write_planes-start
 slice_bounds-write_planes-start c = omega (arith, behind c)
 
 pub write_planes-requires : goal.write_planes-requires
-write_planes-requires c = (
-  c.requires.laid,
-  (
-    c.requires.planes_value,
-    planes-fit c.in-Bytes.start _ _ c.begin_header_before-begun.new.1.1.1.1.1.1.0
-        (ap (λ (k : ℕ). c.args.lent.count * k) (total-is c.requires.laid)) (behind (goal.at.write_planes-requires c).In-Bytes),
-  ),
-)
+write_planes-requires c = record {
+  laid = c.requires.laid;
+  planes_value = c.requires.planes_value;
+  height_in_bounds = planes-fit c.in-Bytes.start _ _ c.begin_header_before-begun.new.out
+      (ap (λ (k : ℕ). c.args.lent.count * k) (total-is c.requires.laid)) (behind (goal.at.write_planes-requires c).In-Bytes);
+}
 
 pub overflow_add-end : goal.overflow_add-end
 overflow_add-end c = omega (arith, behind (goal.at.overflow_add-end c).In-Bytes, c.begin_header_before-begun.ensures.1, c.well_formed)
@@ -49,9 +47,9 @@ returns-in-Bytes c lengths q =
     let b = c.begin_header_before-begun in
     written-left a.options a.lent.layout.width a.lent.layout.height a.text.now lengths a.out.now a.lent.format
     a.lent.count a.lent.stride a.planes.now _ (total-is c.requires.laid)
-    b.new.1.1.1.1.1.1.0 b.result _ refl c.in-Bytes.start c.write_planes.new.1.1.1.0
+    b.new.out b.result _ refl c.in-Bytes.start c.write_planes.new.out
     (ap written c.in-Bytes.is) refl (omega (arith, behind (goal.at.returns-in-Bytes c).In-Bytes))
-    c.write_planes.auto.1.1.1.0 c.write_planes.ensures (b.ensures.2 lengths q)
+    c.write_planes.auto.out c.write_planes.ensures (b.ensures.2 lengths q)
 
 pub returns-in-Refused : goal.returns-in-Refused
 returns-in-Refused c lengths q =
@@ -59,4 +57,4 @@ returns-in-Refused c lengths q =
     let b = c.begin_header_before-begun in
     unwritten-left a.options a.lent.layout.width a.lent.layout.height a.text.now lengths a.out.now a.lent.format
     a.lent.count a.lent.stride a.planes.now _ (total-is c.requires.laid)
-    b.new.1.1.1.1.1.1.0 b.result _ refl _ (ap written c.in-Refused.is) refl (b.ensures.2 lengths q)
+    b.new.out b.result _ refl _ (ap written c.in-Refused.is) refl (b.ensures.2 lengths q)

@@ -17,13 +17,15 @@ tests-are c x e = sym c.check_planes.ensures ∙ ap checked e
 
 pub begin_file-requires : goal.begin_file-requires
 begin_file-requires c =
-    let a = c.args in (
-      laid c.new-layout.ensures,
-      subst⁻¹ (λ (l : PlaneLayout).
+    let a = c.args in
+    record {
+      laid = laid c.new-layout.ensures;
+      planes_value =
+          subst⁻¹ (λ (l : PlaneLayout).
           check_planes 16 l.width l.height a.lent.count a.lent.stride (length a.planes.now) ≡ gives tt)
           c.new-layout.ensures
-          (tests-are (goal.at.begin_file-requires c).After-check_planes _ c.in-Accepted.is),
-    )
+          (tests-are (goal.at.begin_file-requires c).After-check_planes _ c.in-Accepted.is);
+    }
 
 pub returns-in-Accepted : goal.returns-in-Accepted
 returns-in-Accepted c lengths h =
@@ -34,7 +36,7 @@ returns-in-Accepted c lengths h =
     (tests-are (goal.at.returns-in-Accepted c).After-check_planes _ c.in-Accepted.is)
     (subst (λ (l : PlaneLayout). BeginsFile l.width l.height a.lent.count a.planes.now a.lent.stride a.lent.format
     a.options a.text.now a.found
-    a.out.now b.new.1.1.1.1.1.0 b.result) c.new-layout.ensures b.ensures lengths h)
+    a.out.now b.new.out b.result) c.new-layout.ensures b.ensures lengths h)
 
 pub returns-in-Refused : goal.returns-in-Refused
 returns-in-Refused c lengths h =

@@ -9,27 +9,21 @@ use Rattle.encoder.specs.Write.{check_planes}
 use Rattle.encoder.proofs.CountTests.{Counted, counted}
 use Rattle.encoder.proofs.PlaneTests.{after_geometry, short, enough, on-count, on-geometry}
 use Rattle.encoder.proofs.planes.check_planes.Goals as goal
-use Rattle.encoder.proofs.planes.check_planes.Goals.{After-check_count, After-check_geometry, In-Accepted-check_geometry}
-
-count-tested : (c : After-check_count) (x : Checked) → c.check_count.result ≡ x
-    → let a = c.args in
-    check_planes 16 a.width a.height a.count a.stride a.bytes
-    ≡ bind (checked x) (λ _. bind (check_geometry a.width a.height a.stride a.bytes)
-    (λ _. after_geometry a.width a.height a.count a.stride a.bytes))
-count-tested c x e =
-    let a = c.args in
-    on-count a.width a.height a.count a.stride a.bytes 16 c.check_count.result x c.check_count.ensures e
+use Rattle.encoder.proofs.planes.check_planes.Goals.{After-check_geometry, In-Accepted-check_geometry}
 
 pub returns-in-Refused : goal.returns-in-Refused
-returns-in-Refused c = sym (count-tested (goal.at.returns-in-Refused c).After-check_count _ c.in-Refused.is)
+returns-in-Refused c =
+    let a = c.args in
+    sym (on-count a.width a.height a.count a.stride a.bytes 16 c.check_count.result _ c.check_count.ensures c.in-Refused.is)
 
+-- what the tests say, by what they answered
 geometry-tested : (c : After-check_geometry) (x : Checked) → c.check_geometry.result ≡ x
     → let a = c.args in
     check_planes 16 a.width a.height a.count a.stride a.bytes
     ≡ bind (checked x) (λ _. after_geometry a.width a.height a.count a.stride a.bytes)
 geometry-tested c x e =
     let a = c.args in
-    count-tested (goal.at.NO_GOAL c).After-check_count _ c.in-Accepted.is
+    on-count a.width a.height a.count a.stride a.bytes 16 c.check_count.result _ c.check_count.ensures c.in-Accepted.is
     ∙ on-geometry a.width a.height a.count a.stride a.bytes 16 c.check_geometry.result x c.check_geometry.ensures e
 
 pub returns-in-Refused-check_geometry : goal.returns-in-Refused-check_geometry
