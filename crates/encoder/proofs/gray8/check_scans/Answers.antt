@@ -2,7 +2,6 @@ use mathlib.Core.Path.{◌≡◌, sym, ap, ◌∙◌}
 use mathlib.Core.Bool.{true}
 use native.Mathlib.Nat.{mul-pos}
 use native.Mathlib.Omega.{arith}
-use borrow.Author.Tests.{not-true, not-false}
 use Rattle.error.specs.Answer.{checked, gives}
 use Rattle.laws.proofs.Products.{product-below}
 use Rattle.rules.specs.Rule.{enough_work, known_rule, rule_asked, rule_given}
@@ -17,12 +16,12 @@ sized : (c : In-Accepted) → let a = c.args in check_count 16 a.width a.height 
 sized c = sym c.check_count-counted.ensures ∙ ap checked c.in-Accepted.is
 
 known : (c : Else-not-known_rule) → known_rule c.args.options.quantize ≡ true
-known c = let h = c.if-not-known_rule in ?
+known c = sym c.known_rule.ensures ∙ c.if-not-known_rule.false
 
 served : (c : Else-not-enough_work)
     → let a = c.args in
     enough_work (rule_given (rule_asked a.options)) a.width a.work ≡ true
-served c = sym c.enough_work.ensures ∙ not-false _ c.if-not-enough_work.false-raw
+served c = sym c.enough_work.ensures ∙ c.if-not-enough_work.false
 
 pub returns-in_default : goal.returns-in_default
 returns-in_default c =
@@ -36,14 +35,14 @@ returns-then-not-known_rule c =
     let a = c.args in
     ap checked c.refused.ensures
     ∙ sym (not_known 16 a.options a.width a.height a.count a.gray a.work (sized (goal.at.returns-then-not-known_rule c).In-Accepted)
-    (sym c.known_rule.ensures ∙ not-true _ c.if-not-known_rule.true-raw))
+    (sym c.known_rule.ensures ∙ c.if-not-known_rule.true))
 
 pub returns-then-not-enough_work : goal.returns-then-not-enough_work
 returns-then-not-enough_work c =
     let a = c.args in
     ap checked c.refused-then-not-enough_work.ensures
     ∙ sym (not-enough-work 16 a.options a.width a.height a.count a.gray a.work (sized (goal.at.returns-then-not-enough_work c).In-Accepted) (known (goal.at.returns-then-not-enough_work c).Else-not-known_rule)
-    (sym c.enough_work.ensures ∙ not-true _ c.if-not-enough_work.true-raw))
+    (sym c.enough_work.ensures ∙ c.if-not-enough_work.true))
 
 pub overflow_mul-area : goal.overflow_mul-area
 overflow_mul-area c = record { fits = product-below 32 32 c.ranges.width.fits c.ranges.height.fits }

@@ -56,7 +56,7 @@ pub loop-k-smaller : goal.loop-k-smaller
 loop-k-smaller c = omega (arith, c.loop-k-test.true)
 
 pub loop-k-preserved : goal.loop-k-preserved
-loop-k-preserved c = scanned c.loop-k.invariant _ _ _ _ _ c.loop-k-test.true refl refl ? c.quantize_gray8.ensures
+loop-k-preserved c = scanned c.loop-k.invariant _ _ _ _ _ c.loop-k-test.true refl refl c.quantize_gray8.auto.work c.quantize_gray8.ensures
 
 pub shape_of-work : goal.shape_of-work
 shape_of-work c = c.loop-k.invariant.work_long

@@ -1,5 +1,4 @@
 use mathlib.Core.Path.{◌∙◌, sym}
-use borrow.Author.Tests.{not-true, not-false}
 use Rattle.laws.proofs.Products.{product-below}
 use Rattle.quantize.proofs.WholePlanes.{refused-width, refused-height, refused-rule, refused-work, refused-gray, refused_none}
 use Rattle.quantize.proofs.whole.refused.Goals as goal
@@ -18,13 +17,13 @@ pub returns-then-not-known_rule : goal.returns-then-not-known_rule
 returns-then-not-known_rule c =
     let a = c.args in
     refused-rule a.rule a.width a.height a.gray a.work c.if-width-eq0.false c.if-height-eq0.false
-    (sym c.known_rule.ensures ∙ not-true _ c.if-not-known_rule.true-raw)
+    (sym c.known_rule.ensures ∙ c.if-not-known_rule.true)
 
 pub returns-then-not-enough_work : goal.returns-then-not-enough_work
 returns-then-not-enough_work c =
     let a = c.args in
     refused-work a.rule a.width a.height a.gray a.work c.if-width-eq0.false c.if-height-eq0.false
-    (sym c.known_rule.ensures ∙ not-false _ c.if-not-known_rule.false-raw) (sym c.enough_work.ensures ∙ not-true _ c.if-not-enough_work.true-raw)
+    (sym c.known_rule.ensures ∙ c.if-not-known_rule.false) (sym c.enough_work.ensures ∙ c.if-not-enough_work.true)
 
 pub overflow_mul-area : goal.overflow_mul-area
 overflow_mul-area c = record { fits = product-below 32 32 c.ranges.width.fits c.ranges.height.fits }
@@ -33,12 +32,12 @@ pub returns-then-gray-area : goal.returns-then-gray-area
 returns-then-gray-area c =
     let a = c.args in
     refused-gray a.rule a.width a.height a.gray a.work c.if-width-eq0.false c.if-height-eq0.false
-    (sym c.known_rule.ensures ∙ not-false _ c.if-not-known_rule.false-raw) (sym c.enough_work.ensures ∙ not-false _ c.if-not-enough_work.false-raw)
+    (sym c.known_rule.ensures ∙ c.if-not-known_rule.false) (sym c.enough_work.ensures ∙ c.if-not-enough_work.false)
     c.if-gray-area.true
 
 pub returns : goal.returns
 returns c =
     let a = c.args in
     refused_none a.rule a.width a.height a.gray a.work c.if-width-eq0.false c.if-height-eq0.false
-    (sym c.known_rule.ensures ∙ not-false _ c.if-not-known_rule.false-raw) (sym c.enough_work.ensures ∙ not-false _ c.if-not-enough_work.false-raw)
+    (sym c.known_rule.ensures ∙ c.if-not-known_rule.false) (sym c.enough_work.ensures ∙ c.if-not-enough_work.false)
     c.if-gray-area.false

@@ -1,8 +1,10 @@
 use Prim.Native.Nat.{ℕ, ◌+◌, ◌-◌, ◌*◌, ◌≤◌, ◌<◌}
+use mir.Syntax.{w8}
+use mir.Val.{Fits}
+use mathlib.Core.List.{List}
 use mathlib.Core.Logic.{inl, inr, ⊎_elim}
 use native.Mathlib.Omega.{arith}
 use borrow.Rule.Slice.PartMut.{put_mid}
-use borrow.Author.Tests.{not-true, not-false}
 use lib.ListN.{length, get_or}
 use Rattle.quantize.specs.declared.engine.Quantizer.{Quantizer}
 use Rattle.quantize.specs.Finished.{Bytewise}
@@ -13,11 +15,11 @@ use Rattle.quantize.proofs.TurnTakes.{end_fits, taking, took-room, loop-took}
 use Rattle.quantize.proofs.BytesAtOnce.{loop-filled}
 use Rattle.quantize.proofs.RunEnd.{none_told, full-byte, end-told}
 use Rattle.quantize.proofs.engine.Quantizer.run.Goals as goal
-use Rattle.quantize.proofs.engine.Quantizer.run.Goals.{After-shared_slice_known-1, After-work-1, Else-m-eq0, Then-t, then-t, else-t}
+use Rattle.quantize.proofs.engine.Quantizer.run.Goals.{After-work-1, Else-m-eq0, Then-t, then-t, else-t}
 
 -- samples are bytes
-octets : (l : After-shared_slice_known-1) (i : ℕ) → get_or l.args.samples.now i 0 < 256
-octets l i = let f = l.shared_slice_known-1.given i in omega arith
+octets : (samples : List ℕ) → ((i : ℕ) → Fits w8 (get_or samples i 0)) → (i : ℕ) → get_or samples i 0 < 256
+octets samples h i = let f = h i in omega arith
 
 -- every row is finished byte after byte
 by_bytes : (q : Quantizer) (row : ℕ) → Bytewise (rule_of q.rule q.table) row
@@ -54,11 +56,11 @@ ran-requires c = tt
 pub returns-then-not-can_take : goal.returns-then-not-can_take
 returns-then-not-can_take c =
     let a = c.args in
-    none_told a.self a.samples.now a.out.now a.work.now c.ran.result c.ran.ensures (octets (goal.at.returns-then-not-can_take c).After-shared_slice_known-1)
-    (λ s. c.can_take.ensures.no (not-true _ c.if-not-can_take.true-raw) s)
+    none_told a.self a.samples.now a.out.now a.work.now c.ran.result c.ran.ensures (octets _ c.type_inv.samples)
+    (λ s. c.can_take.ensures.no (c.if-not-can_take.true) s)
 
 pub loop-p-init : goal.loop-p-init
-loop-p-init c = loop-start _ _ _ _ (c.can_take.ensures.yes (not-false _ c.if-not-can_take.false-raw))
+loop-p-init c = loop-start _ _ _ _ (c.can_take.ensures.yes (c.if-not-can_take.false))
 
 pub slice_bounds-fill_row-count : goal.slice_bounds-fill_row-count
 slice_bounds-fill_row-count c = c.loop-p.invariant.taken_fits
@@ -118,7 +120,7 @@ shape_of-work-then-m-eq0 c = (mid (goal.at.shape_of-work-then-m-eq0 c).After-wor
 
 pub returns-then-m-eq0 : goal.returns-then-m-eq0
 returns-then-m-eq0 c =
-    let o = octets (goal.at.returns-then-m-eq0 c).After-shared_slice_known-1 in
+    let o = octets _ c.type_inv.samples in
     end-told _ _ _ _ _ _ _ _ _ (mid (goal.at.returns-then-m-eq0 c).After-work-1) o
     (full-byte _ _ _ _ _ _ _ _ _ (mid (goal.at.returns-then-m-eq0 c).After-work-1) o _ c.loop-p-test.true (by_bytes c.args.self c.loop-p.p.row)
     c.samples_for_byte-m.ensures c.if-m-eq0.true)
@@ -184,5 +186,5 @@ shape_of-work c = c.loop-p.invariant.turn.long
 
 pub returns : goal.returns
 returns c =
-    end-told _ _ _ _ _ _ _ _ _ c.loop-p.invariant (octets (goal.at.returns c).After-shared_slice_known-1)
+    end-told _ _ _ _ _ _ _ _ _ c.loop-p.invariant (octets _ c.type_inv.samples)
     (λ s n t. inl c.loop-p-test.false) c.ran-2.result c.ran-2.ensures
