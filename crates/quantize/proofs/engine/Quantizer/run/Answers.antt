@@ -15,7 +15,7 @@ use Rattle.quantize.proofs.TurnTakes.{end_fits, taking, took-room, loop-took}
 use Rattle.quantize.proofs.BytesAtOnce.{loop-filled}
 use Rattle.quantize.proofs.RunEnd.{none_told, full-byte, end-told}
 use Rattle.quantize.proofs.engine.Quantizer.run.Goals as goal
-use Rattle.quantize.proofs.engine.Quantizer.run.Goals.{After-work-1, Else-m-eq0, Then-t, then-t, else-t}
+use Rattle.quantize.proofs.engine.Quantizer.run.Goals.{After-fill_row-f, Else-m-eq0, Then-t, then-t, else-t}
 
 -- samples are bytes
 octets : (samples : List ℕ) → ((i : ℕ) → Fits w8 (get_or samples i 0)) → (i : ℕ) → get_or samples i 0 < 256
@@ -26,7 +26,7 @@ by_bytes : (q : Quantizer) (row : ℕ) → Bytewise (rule_of q.rule q.table) row
 by_bytes q row = bytewise (rule_of q.rule q.table) row
 
 -- the loop's invariant once whole bytes are filled in
-mid : (f : After-work-1)
+mid : (f : After-fill_row-f)
     → let r = f.fill_row-f in
     Loop f.args.self f.args.samples.now f.args.out.now f.args.work.now
     (put_mid f.loop-p.written (length f.loop-p.out - f.loop-p.written) f.loop-p.out r.new.out)
@@ -86,43 +86,43 @@ fill_row-f-requires c =
     record { in_row = so.in_row; small = so.corner_small; served = so.served }
 
 pub overflow_mul-taken : goal.overflow_mul-taken
-overflow_mul-taken c = omega (arith, (mid (goal.at.overflow_mul-taken c).After-work-1).taken_fits, c.well_formed)
+overflow_mul-taken c = omega (arith, (mid (goal.at.overflow_mul-taken c).After-fill_row-f).taken_fits, c.well_formed)
 
 pub overflow_add-taken : goal.overflow_add-taken
-overflow_add-taken c = omega (arith, (mid (goal.at.overflow_add-taken c).After-work-1).taken_fits, c.well_formed)
+overflow_add-taken c = omega (arith, (mid (goal.at.overflow_add-taken c).After-fill_row-f).taken_fits, c.well_formed)
 
 pub overflow_add-written : goal.overflow_add-written
-overflow_add-written c = omega (arith, (mid (goal.at.overflow_add-written c).After-work-1).written_fits, c.well_formed)
+overflow_add-written c = omega (arith, (mid (goal.at.overflow_add-written c).After-fill_row-f).written_fits, c.well_formed)
 
 pub overflow_mul-p : goal.overflow_mul-p
-overflow_mul-p c = omega (arith, (mid (goal.at.overflow_mul-p c).After-work-1).taken_fits, c.well_formed)
+overflow_mul-p c = omega (arith, (mid (goal.at.overflow_mul-p c).After-fill_row-f).taken_fits, c.well_formed)
 
 pub overflow_add-p : goal.overflow_add-p
-overflow_add-p c = omega (arith, (mid (goal.at.overflow_add-p c).After-work-1).turn.sound.in_row, c.well_formed)
+overflow_add-p c = omega (arith, (mid (goal.at.overflow_add-p c).After-fill_row-f).turn.sound.in_row, c.well_formed)
 
 pub overflow_sub-samples : goal.overflow_sub-samples
-overflow_sub-samples c = (mid (goal.at.overflow_sub-samples c).After-work-1).taken_fits
+overflow_sub-samples c = (mid (goal.at.overflow_sub-samples c).After-fill_row-f).taken_fits
 
 pub overflow_sub-out : goal.overflow_sub-out
-overflow_sub-out c = let i = mid (goal.at.overflow_sub-out c).After-work-1 in omega (arith, i.written_fits, i.out_long)
+overflow_sub-out c = let i = mid (goal.at.overflow_sub-out c).After-fill_row-f in omega (arith, i.written_fits, i.out_long)
 
 pub samples_for_byte-m-requires : goal.samples_for_byte-m-requires
-samples_for_byte-m-requires c = (mid (goal.at.samples_for_byte-m-requires c).After-work-1).turn.sound.in_row
+samples_for_byte-m-requires c = (mid (goal.at.samples_for_byte-m-requires c).After-fill_row-f).turn.sound.in_row
 
 pub ran-requires-then-m-eq0 : goal.ran-requires-then-m-eq0
 ran-requires-then-m-eq0 c = tt
 
 pub shape_of-out-then-m-eq0 : goal.shape_of-out-then-m-eq0
-shape_of-out-then-m-eq0 c = (mid (goal.at.shape_of-out-then-m-eq0 c).After-work-1).out_long
+shape_of-out-then-m-eq0 c = (mid (goal.at.shape_of-out-then-m-eq0 c).After-fill_row-f).out_long
 
 pub shape_of-work-then-m-eq0 : goal.shape_of-work-then-m-eq0
-shape_of-work-then-m-eq0 c = (mid (goal.at.shape_of-work-then-m-eq0 c).After-work-1).turn.long
+shape_of-work-then-m-eq0 c = (mid (goal.at.shape_of-work-then-m-eq0 c).After-fill_row-f).turn.long
 
 pub returns-then-m-eq0 : goal.returns-then-m-eq0
 returns-then-m-eq0 c =
     let o = octets _ c.type_inv.samples in
-    end-told _ _ _ _ _ _ _ _ _ (mid (goal.at.returns-then-m-eq0 c).After-work-1) o
-    (full-byte _ _ _ _ _ _ _ _ _ (mid (goal.at.returns-then-m-eq0 c).After-work-1) o _ c.loop-p-test.true (by_bytes c.args.self c.loop-p.p.row)
+    end-told _ _ _ _ _ _ _ _ _ (mid (goal.at.returns-then-m-eq0 c).After-fill_row-f) o
+    (full-byte _ _ _ _ _ _ _ _ _ (mid (goal.at.returns-then-m-eq0 c).After-fill_row-f) o _ c.loop-p-test.true (by_bytes c.args.self c.loop-p.p.row)
     c.samples_for_byte-m.ensures c.if-m-eq0.true)
     c.ran-then-m-eq0.result c.ran-then-m-eq0.ensures
 
@@ -131,7 +131,7 @@ there : (e : Else-m-eq0)
     → e.loop-p.taken + 8 * e.fill_row-f.result.count + e.samples_for_byte-m.result
     ≤ length e.args.samples.now
 there e =
-    end_fits _ _ _ _ _ _ _ _ _ (mid (goal.at.overflow_add-end e).After-work-1) e.loop-p-test.true _ e.samples_for_byte-m.ensures e.if-m-eq0.false
+    end_fits _ _ _ _ _ _ _ _ _ (mid (goal.at.overflow_add-end e).After-fill_row-f) e.loop-p-test.true _ e.samples_for_byte-m.ensures e.if-m-eq0.false
 
 pub overflow_add-end : goal.overflow_add-end
 overflow_add-end c = omega (arith, there c, c.well_formed)
@@ -147,7 +147,7 @@ slice_bounds-take-end c = there (goal.at.slice_bounds-take-end c).Else-m-eq0
 
 pub take-t-requires : goal.take-t-requires
 take-t-requires c =
-    taking _ _ _ _ _ _ _ _ _ (mid (goal.at.take-t-requires c).After-work-1) c.loop-p-test.true _ c.samples_for_byte-m.ensures c.if-m-eq0.false
+    taking _ _ _ _ _ _ _ _ _ (mid (goal.at.take-t-requires c).After-fill_row-f) c.loop-p-test.true _ c.samples_for_byte-m.ensures c.if-m-eq0.false
     (omega (arith, c.well_formed)) (omega (arith, c.well_formed))
 
 -- there is room for a finished byte
@@ -156,21 +156,21 @@ room : (c : Then-t)
     c.loop-p.written + r.result.count
     < length (put_mid c.loop-p.written (length c.loop-p.out - c.loop-p.written) c.loop-p.out r.new.out)
 room c =
-    took-room _ _ _ _ _ _ _ _ _ (mid (goal.at.bounds-out-written c).After-work-1) c.loop-p-test.true _ c.samples_for_byte-m.ensures c.if-m-eq0.false
+    took-room _ _ _ _ _ _ _ _ _ (mid (goal.at.bounds-out-written c).After-fill_row-f) c.loop-p-test.true _ c.samples_for_byte-m.ensures c.if-m-eq0.false
     _ _ c.take-t.ensures c.if-t.true
 
 pub bounds-out-written : goal.bounds-out-written
 bounds-out-written c = room c
 
 pub overflow_add-written-then-t : goal.overflow_add-written-then-t
-overflow_add-written-then-t c = omega (arith, room c, (mid (goal.at.overflow_add-written-then-t c).After-work-1).out_long, c.well_formed)
+overflow_add-written-then-t c = omega (arith, room c, (mid (goal.at.overflow_add-written-then-t c).After-fill_row-f).out_long, c.well_formed)
 
 pub loop-p-smaller : goal.loop-p-smaller
 loop-p-smaller c = omega (arith, there (goal.at.loop-p-smaller c).Else-m-eq0, c.if-m-eq0.false)
 
 pub loop-p-preserved : goal.loop-p-preserved
 loop-p-preserved c =
-    loop-took _ _ _ _ _ _ _ _ _ (mid (goal.at.loop-p-preserved c).After-work-1) c.loop-p-test.true _ c.samples_for_byte-m.ensures c.if-m-eq0.false
+    loop-took _ _ _ _ _ _ _ _ _ (mid (goal.at.loop-p-preserved c).After-fill_row-f) c.loop-p-test.true _ c.samples_for_byte-m.ensures c.if-m-eq0.false
     _ _ c.take-t.ensures
     (by_bytes c.args.self c.loop-p.p.row) _ _
     (elim c.if-t.branch [ then-t w ↦ inl (w.if-t.true, w.out-is, w.written-is) | else-t w ↦ inr (w.if-t.false, w.out-is, w.written-is) ])
