@@ -2,7 +2,7 @@
 use Prim.Native.Nat.{ℕ, suc, ◌+◌, ◌-◌, ◌/◌, ◌%◌, ◌<◌, ◌≤◌}
 use mathlib.Core.Path.{◌≡◌, ◌∙◌, refl, sym, ap, subst, subst⁻¹}
 use mathlib.Core.Bool.{true, false}
-use mathlib.Core.List.{List, [], ◌∷◌, ◌++◌}
+use mathlib.Core.List.{List, [], ◌∷◌}
 use mathlib.Core.Logic.{◌⊎◌, inl, inr}
 use native.Mathlib.Numerals.{add-one}
 use native.Mathlib.Omega.{arith}
@@ -11,10 +11,10 @@ use lib.ListN.{length, take, drop, get_or, length-take, length-drop, take-append
 use lib.Seq.{take-suc, take-add, drop-cons}
 use Rattle.ext.specs.Internal.Bytewise.{identifier_fault, value_fault}
 use Rattle.header.specs.Settings.{Settings, settings}
-use Rattle.header_reader.specs.Internal.Machine.{State, in_octets, at_pair, in_identifier, in_value, in_fields, Step, more, step_of, steps}
-use Rattle.header_reader.specs.Internal.Represents.{fields_state, state, Represents}
+use Rattle.header_reader.specs.Internal.Machine.{State, in_octets, at_pair, in_identifier, in_value, Step, more, step_of, steps}
+use Rattle.header_reader.specs.Internal.Represents.{fields_state, state}
 use Rattle.header_reader.specs.Internal.Pieces.{onward}
-use Rattle.header_reader.specs.Internal.Run.{fields_start, Inside, RunReached, ReaderRuns, FieldsRuns, OctetsAhead, Continued}
+use Rattle.header_reader.specs.Internal.Run.{Inside, ReaderRuns, FieldsRuns, OctetsAhead, Continued}
 use Rattle.header_reader.specs.Internal.Run.{PairsAhead}
 use Rattle.header_reader.specs.declared.phase.FieldsPhase.{FieldsPhase}
 use Rattle.header_reader.specs.declared.phase.PairChain.{PairChain}

@@ -1,4 +1,4 @@
-use Rattle.std.proofs.Common.{◌≡◌, ◌+◌, ◌-◌, refl, ◌∙◌, arith}
+use Rattle.std.proofs.Common.{◌≡◌, ◌+◌, refl, ◌∙◌, arith}
 use Rattle.laws.proofs.Tests.{zero_one}
 use Rattle.header_pieces.proofs.HeaderLoop.{Turn, turn_more, turn-done, turn-refused, going-first, going-last, ends, untaken}
 use Rattle.header_pieces.proofs.RunStored.{going-run}

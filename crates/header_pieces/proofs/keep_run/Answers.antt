@@ -1,4 +1,4 @@
-use Rattle.std.proofs.Common.{◌-◌, refl, arith}
+use Rattle.std.proofs.Common.{refl, arith}
 use Rattle.header_pieces.proofs.RunStored.{kept-first, kept_next, kept-last}
 use Rattle.header_pieces.proofs.keep_run.Goals as goal
 

@@ -1,4 +1,4 @@
-use Prim.Native.Nat.{ℕ, ◌+◌, ◌<◌}
+use Prim.Native.Nat.{◌+◌, ◌<◌}
 use Rattle.header_reader.specs.Internal.Machine.{step_of}
 use borrow.Author.Tests.{le-leb, lt-leb}
 use Rattle.header_reader.proofs.PairByte.{no-identifier, some-identifier, no_value, some-value}
