@@ -1,4 +1,3 @@
-use Prim.Native.Nat.{◌-◌}
 use native.Mathlib.Omega.{arith}
 use Rattle.ext_write.proofs.PairSteps.{copy-starts, copy_goes, copy-ends}
 use Rattle.ext_write.proofs.pairs.copy.Goals as goal
