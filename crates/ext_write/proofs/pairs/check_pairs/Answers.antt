@@ -1,21 +1,8 @@
-use Prim.Native.Nat.{◌-◌}
 use mathlib.Core.Path.{◌∙◌, sym, ap}
 use native.Mathlib.Omega.{arith}
 use Rattle.ext_write.specs.Internal.Steps.{check_pairs}
 use Rattle.ext_write.proofs.PairSteps.{check-goes, check-end}
 use Rattle.ext_write.proofs.pairs.check_pairs.Goals as goal
-
-pub loop-k-init : goal.loop-k-init
-loop-k-init c = ap (check_pairs _ _ _) (sym c.check_start-s.ensures)
-
-pub overflow_add-k : goal.overflow_add-k
-overflow_add-k c = omega arith
-
-pub overflow_add-k-in-loop-k : goal.overflow_add-k-in-loop-k
-overflow_add-k-in-loop-k c = omega arith
-
-pub loop-k-smaller : goal.loop-k-smaller
-loop-k-smaller c = omega arith
 
 pub loop-k-preserved : goal.loop-k-preserved
 loop-k-preserved c =

@@ -23,12 +23,6 @@ returns-then-out-to c = cannot-put _ _ _ _ _ _ (no_room _ _ _ _ _ (omega arith) 
 pub returns-then-out-body : goal.returns-then-out-body
 returns-then-out-body c = cannot-put _ _ _ _ _ _ (no_room _ _ _ _ _ (omega arith) (omega arith) (omega arith) (omega arith))
 
-pub copy-requires : goal.copy-requires
-copy-requires c = (omega arith, simp length-set (omega arith))
-
-pub shape_of-out : goal.shape_of-out
-shape_of-out c = ap length c.copy.ensures ∙ simp (length-sets, length-set)
-
 pub returns : goal.returns
 returns c =
     let a = c.args in

@@ -1,22 +1,9 @@
-use Prim.Native.Nat.{◌-◌}
 use mathlib.Core.Path.{◌∙◌, sym, ap, refl}
 use native.Mathlib.Omega.{arith}
 use lib.ListN.{length}
 use Rattle.ext_write.specs.Internal.Steps.{put_pairs}
 use Rattle.ext_write.proofs.PairSteps.{put-goes, put-end, put-long}
 use Rattle.ext_write.proofs.pairs.put_pairs.Goals as goal
-
-pub loop-k-init : goal.loop-k-init
-loop-k-init c = (refl, ap (put_pairs _ _ _) (sym c.put_start-s.ensures))
-
-pub overflow_add-k : goal.overflow_add-k
-overflow_add-k c = omega arith
-
-pub overflow_add-k-in-loop-k : goal.overflow_add-k-in-loop-k
-overflow_add-k-in-loop-k c = omega arith
-
-pub loop-k-smaller : goal.loop-k-smaller
-loop-k-smaller c = omega arith
 
 pub loop-k-preserved : goal.loop-k-preserved
 loop-k-preserved c =
@@ -26,9 +13,6 @@ loop-k-preserved c =
           ∙ put-goes _ _ l.k _ _ _ _ _ _ (omega arith) c.length_at-identifier_len.ensures c.length_at-value_len.ensures
           c.put_pair-s.ensures.0 c.put_pair-s.ensures.1,
     )
-
-pub shape_of-out : goal.shape_of-out
-shape_of-out c = c.loop-k.invariant.0
 
 pub returns : goal.returns
 returns c = sym (c.loop-k.invariant.1 ∙ put-end _ _ _ _ _ c.loop-k-test.false)

@@ -1,5 +1,4 @@
 use mathlib.Core.Path.{◌∙◌, sym, ap}
-use borrow.Author.Tests.{not-true, not-false}
 use Rattle.error.specs.Answer.{checked}
 use Rattle.ext_write.proofs.PairVerdict.{in-range, below-range, above-range, refused-11, refused-14, refused-12, refused-15}
 use Rattle.ext_write.proofs.PairVerdict.{accepted}
@@ -17,7 +16,7 @@ pub returns-then-not-identifier_in_class : goal.returns-then-not-identifier_in_c
 returns-then-not-identifier_in_class c =
     ap checked c.refused-then-not-identifier_in_class.ensures
     ∙ sym (refused-14 _ _ (in-range _ _ c.if-identifier-lt1.false c.if-identifier-gt7.false)
-    (sym c.identifier_in_class.ensures ∙ not-true _ c.if-not-identifier_in_class.true-raw))
+    (sym c.identifier_in_class.ensures ∙ c.if-not-identifier_in_class.true))
 
 pub returns-then-value-lt1 : goal.returns-then-value-lt1
 returns-then-value-lt1 c =
@@ -27,7 +26,7 @@ returns-then-value-lt1 c =
     _
     _
     (in-range _ _ c.if-identifier-lt1.false c.if-identifier-gt7.false)
-    (sym c.identifier_in_class.ensures ∙ not-false _ c.if-not-identifier_in_class.false-raw)
+    (sym c.identifier_in_class.ensures ∙ c.if-not-identifier_in_class.false)
     (below-range _ _ c.if-value-lt1.true))
 
 pub returns-then-value-gt15 : goal.returns-then-value-gt15
@@ -38,7 +37,7 @@ returns-then-value-gt15 c =
     _
     _
     (in-range _ _ c.if-identifier-lt1.false c.if-identifier-gt7.false)
-    (sym c.identifier_in_class.ensures ∙ not-false _ c.if-not-identifier_in_class.false-raw)
+    (sym c.identifier_in_class.ensures ∙ c.if-not-identifier_in_class.false)
     (above-range _ _ c.if-value-lt1.false c.if-value-gt15.true))
 
 pub returns-then-not-value_in_class : goal.returns-then-not-value_in_class
@@ -49,9 +48,9 @@ returns-then-not-value_in_class c =
     _
     _
     (in-range _ _ c.if-identifier-lt1.false c.if-identifier-gt7.false)
-    (sym c.identifier_in_class.ensures ∙ not-false _ c.if-not-identifier_in_class.false-raw)
+    (sym c.identifier_in_class.ensures ∙ c.if-not-identifier_in_class.false)
     (in-range _ _ c.if-value-lt1.false c.if-value-gt15.false)
-    (sym c.value_in_class.ensures ∙ not-true _ c.if-not-value_in_class.true-raw))
+    (sym c.value_in_class.ensures ∙ c.if-not-value_in_class.true))
 
 pub returns : goal.returns
 returns c =
@@ -60,6 +59,6 @@ returns c =
     _
     _
     (in-range _ _ c.if-identifier-lt1.false c.if-identifier-gt7.false)
-    (sym c.identifier_in_class.ensures ∙ not-false _ c.if-not-identifier_in_class.false-raw)
+    (sym c.identifier_in_class.ensures ∙ c.if-not-identifier_in_class.false)
     (in-range _ _ c.if-value-lt1.false c.if-value-gt15.false)
-    (sym c.value_in_class.ensures ∙ not-false _ c.if-not-value_in_class.false-raw))
+    (sym c.value_in_class.ensures ∙ c.if-not-value_in_class.false))

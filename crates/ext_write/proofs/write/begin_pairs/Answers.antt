@@ -5,23 +5,9 @@ use Rattle.ext_write.specs.Internal.Steps.{fields_length}
 use Rattle.ext_write.proofs.Begun.{pairs-short, pairs-fit, pairs-refused}
 use Rattle.ext_write.proofs.write.begin_pairs.Goals as goal
 
-pub returns-then-end-len : goal.returns-then-end-len
-returns-then-end-len c = (
-  omega arith,
-  λ strict text lengths old h e. pairs-short strict text lengths old _ _ _ h refl (ap written c.refused.ensures)
-      (ap fields_length (sym c.in-Length.is) ∙ e) c.if-end-len.true,
-)
-
 pub returns-else-end-len : goal.returns-else-end-len
 returns-else-end-len c = (
   omega arith,
   λ strict text lengths old h e. pairs-fit strict text lengths old _ _ _ h refl refl
       (ap fields_length (sym c.in-Length.is) ∙ e) c.if-end-len.false,
-)
-
-pub returns-in-Refused : goal.returns-in-Refused
-returns-in-Refused c = (
-  omega arith,
-  λ strict text lengths old h e. pairs-refused strict text lengths old _ _ _ _ h refl refl
-      (ap fields_length (sym c.in-Refused.is) ∙ e),
 )

@@ -15,6 +15,3 @@ returns-in-Reserved01 c strict lengths h = c.check_octet.ensures ∙ octet-lengt
 
 pub returns-in-Reserved10 : goal.returns-in-Reserved10
 returns-in-Reserved10 c strict lengths h = c.check_octet-in-Reserved10.ensures ∙ octet-length strict lengths _ (single-10 _ c.in-Reserved10.is) _
-
-pub returns-in-ParameterPairs11 : goal.returns-in-ParameterPairs11
-returns-in-ParameterPairs11 c strict lengths h = h ∙ ap (map length) (lent-3 strict lengths _ _ (ap kind_number c.in-ParameterPairs11.is))

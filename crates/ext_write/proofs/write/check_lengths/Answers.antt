@@ -4,8 +4,5 @@ use Rattle.ext_write.proofs.RecordsFlat.{pairs-found}
 use native.Mathlib.Omega.{arith}
 use Rattle.ext_write.proofs.write.check_lengths.Goals as goal
 
-pub pairs_length-requires : goal.pairs_length-requires
-pairs_length-requires c = omega arith
-
 pub returns : goal.returns
 returns c = ap fields_length c.pairs_length.ensures ∙ pairs-found _ _ _ _ c.check_pairs-s.ensures

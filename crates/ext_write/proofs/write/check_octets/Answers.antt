@@ -1,4 +1,3 @@
-use Prim.Native.Nat.{◌-◌}
 use mathlib.Core.Path.{◌∙◌, sym, ap}
 use native.Mathlib.Omega.{arith}
 use borrow.Author.Count.{below_more}
@@ -11,27 +10,10 @@ use Rattle.ext_write.proofs.write.check_octets.Goals as goal
 pub returns-then-text-eq0 : goal.returns-then-text-eq0
 returns-then-text-eq0 c = ap fields_length c.refused.ensures ∙ sym (ap (map length) (octets-none _ (omega arith)))
 
-pub loop-i-init : goal.loop-i-init
-loop-i-init c = (omega arith, omega arith, λ k h. absurd (omega arith))
-
-pub bounds-text-i : goal.bounds-text-i
-bounds-text-i c = omega arith
-
 pub returns-then-text-i-ge128 : goal.returns-then-text-i-ge128
 returns-then-text-i-ge128 c =
     let l = c.loop-i in
     ap fields_length c.refused-then-text-i-ge128.ensures ∙ sym (ap (map length) (octets-bad _ l.i (omega arith) l.invariant.2 c.if-text-i-ge128.true))
-
-pub overflow_add-i : goal.overflow_add-i
-overflow_add-i c = omega arith
-
-pub loop-i-smaller : goal.loop-i-smaller
-loop-i-smaller c = omega arith
-
-pub loop-i-preserved : goal.loop-i-preserved
-loop-i-preserved c =
-    let l = c.loop-i in
-    (l.invariant.0, omega arith, below_more _ _ l.invariant.2 c.if-text-i-ge128.false)
 
 pub returns : goal.returns
 returns c =

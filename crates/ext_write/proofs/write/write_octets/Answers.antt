@@ -5,11 +5,6 @@ use Rattle.ext_write.specs.Internal.Steps.{fields_length}
 use Rattle.ext_write.proofs.Begun.{short-emitted, octets-fit, octets-emitted}
 use Rattle.ext_write.proofs.write.write_octets.Goals as goal
 
-pub returns-then-out-len : goal.returns-then-out-len
-returns-then-out-len c =
-    short-emitted _ _ _ _ (ap written c.refused.ensures)
-    (ap fields_length (sym c.in-Length.is) ∙ c.check_octets.ensures) c.if-out-len.true
-
 pub put_octets-requires : goal.put_octets-requires
 put_octets-requires c =
     octets-fit c.args.text.now c.args.out.now _
@@ -19,6 +14,3 @@ pub returns-else-out-len : goal.returns-else-out-len
 returns-else-out-len c =
     octets-emitted _ _ _ _ (ap fields_length (sym c.in-Length.is) ∙ c.check_octets.ensures)
     c.if-out-len.false c.put_octets.ensures
-
-pub returns-in-Refused : goal.returns-in-Refused
-returns-in-Refused c = emits-refused _ _ _ _ (ap fields_length (sym c.in-Refused.is) ∙ c.check_octets.ensures)

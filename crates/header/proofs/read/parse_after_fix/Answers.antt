@@ -35,9 +35,6 @@ returns-in-Absent c = c.parse_sizes.ensures ∙ sym (fields_read-is (goal.at.ret
 pub returns-in-Fields : goal.returns-in-Fields
 returns-in-Fields c = c.parse_sizes-in-Fields.ensures ∙ sym (fields_read-is (goal.at.returns-in-Fields c).After-read_fields _ c.in-Fields.is)
 
-pub returns-in-Refused : goal.returns-in-Refused
-returns-in-Refused c = sym (fields_read-is (goal.at.returns-in-Refused c).After-read_fields _ c.in-Refused.is)
-
 pub returns-else-mode : goal.returns-else-mode
 returns-else-mode c =
     let a = c.args in

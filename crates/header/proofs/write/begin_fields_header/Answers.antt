@@ -46,40 +46,6 @@ returns-then-out-around-2 c =
           (omega (arith, c.if-out-around-2.true, c.if-out-around.false, c.sizes_len-around.ensures)),
     )
 
-pub bounds-out-1 : goal.bounds-out-1
-bounds-out-1 c = simp length-set (omega arith)
-
-pub put_sizes-requires : goal.put_sizes-requires
-put_sizes-requires c = simp length-set (omega (arith, c.if-out-around-2.false, c.if-out-around.false, c.sizes_len-around.ensures))
-
-pub slice_bounds-begin_fields-count : goal.slice_bounds-begin_fields-count
-slice_bounds-begin_fields-count c =
-    let k = simp length-set at c.put_sizes.auto.out in
-    omega (arith, k, c.if-out-around-2.false, c.if-out-around.false)
-
-pub slice_bounds-begin_fields-start : goal.slice_bounds-begin_fields-start
-slice_bounds-begin_fields-start c =
-    let k = simp length-set at c.put_sizes.auto.out in
-    omega (arith, k, c.if-out-around-2.false, c.if-out-around.false)
-
-pub overflow_add-result : goal.overflow_add-result
-overflow_add-result c =
-    let b = c.begin_fields-begun in
-    let a = c.args in
-    let two : 2 ≤ length a.out.now = omega (arith, c.if-out-around.false) in
-    let most : length a.out.now < 2 ^ 64 = omega (
-      arith,
-      c.well_formed,
-    ) in
-    fits-two _ c.put_sizes.new.out b.new.out _ b.ensures.0 b.auto.out
-    (simp length-set at c.put_sizes.auto.out) two most
-
-pub shape_of-out : goal.shape_of-out
-shape_of-out c =
-    same_len_mid 2 (length c.put_sizes.new.out - 2) c.put_sizes.new.out
-    c.begin_fields-begun.new.out c.begin_fields-begun.auto.out
-    ∙ simp length-set at c.put_sizes.auto.out
-
 pub returns-else-out-around-2 : goal.returns-else-out-around-2
 returns-else-out-around-2 c =
     let b = c.begin_fields-begun in
@@ -97,12 +63,4 @@ returns-else-out-around-2 c =
           (c.put_sizes.ensures ∙ ap (λ (x : ℕ). sets (set (set a.out.now 0 0) 1 x) (2 + n) (size_bytes a.width a.height))
           c.fix_byte.ensures)
           b.auto.out refl (ap (λ (x : ℕ). gives (2 + x + n)) c.sizes_len-around.ensures) (b.ensures.1 strict lengths h),
-    )
-
-pub returns-in-Refused : goal.returns-in-Refused
-returns-in-Refused c =
-    let a = c.args in (
-      none_within a.out.now _ _ _ _ c.none_begun-in-Refused.ensures refl,
-      λ strict lengths h. lent-refused strict a.width a.height _ _ lengths a.out.now 0 0 _ _ c.none_begun-in-Refused.ensures
-          (sym (ap fields_length c.in-Refused.is) ∙ c.check_fields.ensures strict lengths h),
     )

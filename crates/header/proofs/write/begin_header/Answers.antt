@@ -5,23 +5,6 @@ use lib.Dec.{eqb}
 use Rattle.header.proofs.HeaderBytes.{none_within, plain-within, zero_left, presence-left, absent-left}
 use Rattle.header.proofs.write.begin_header.Goals as goal
 
-pub returns-then-width-eq0 : goal.returns-then-width-eq0
-returns-then-width-eq0 c =
-    let a = c.args in
-    let t : (eqb a.width 0 || eqb a.height 0) ≡ true = simp (eq-eqb _ _ c.if-width-eq0.true) in (
-      none_within a.out.now _ _ _ _ c.none_begun.ensures c.refused.ensures,
-      λ strict lengths h. zero_left strict _ lengths a.out.now _ _ _ _ c.none_begun.ensures c.refused.ensures t,
-    )
-
-pub returns-then-height-eq0 : goal.returns-then-height-eq0
-returns-then-height-eq0 c =
-    let a = c.args in
-    let t : (eqb a.width 0 || eqb a.height 0) ≡ true = simp
-    (ne_eqb _ _ c.if-width-eq0.false, eq-eqb _ _ c.if-height-eq0.true) in (
-      none_within a.out.now _ _ _ _ c.none_begun-then-height-eq0.ensures c.refused-then-height-eq0.ensures,
-      λ strict lengths h. zero_left strict _ lengths a.out.now _ _ _ _ c.none_begun-then-height-eq0.ensures c.refused-then-height-eq0.ensures t,
-    )
-
 pub returns-in-Absent : goal.returns-in-Absent
 returns-in-Absent c =
     let a = c.args in

@@ -5,15 +5,6 @@ use native.Mathlib.Omega.{arith}
 use Rattle.header.proofs.HeaderBytes.{sizes-length}
 use Rattle.header.proofs.write.put_sizes.Goals as goal
 
-pub put_integer-next-requires : goal.put_integer-next-requires
-put_integer-next-requires c = omega (arith, sizes-length c.args.width c.args.height)
-
-pub put_integer-requires : goal.put_integer-requires
-put_integer-requires c =
-    let p = c.put_integer-next in
-    let a = c.args in
-    omega (arith, p.ensures.0, p.auto.out, sizes-length a.width a.height, c.requires)
-
 pub returns : goal.returns
 returns c =
     let p = c.put_integer-next in

@@ -16,15 +16,6 @@ returns-then-out-total c =
     (emits_none (header_bytes 0 [] c.args.width c.args.height) c.args.out.now
     (omega (arith, c.if-out-total.true, c.sizes_len-total.ensures, header-length 0 [] c.args.width c.args.height)))
 
-pub bounds-out-1 : goal.bounds-out-1
-bounds-out-1 c = simp length-set (omega arith)
-
-pub put_sizes-requires : goal.put_sizes-requires
-put_sizes-requires c = simp length-set (omega arith)
-
-pub shape_of-out : goal.shape_of-out
-shape_of-out c = simp length-set at c.put_sizes.auto.out
-
 pub returns : goal.returns
 returns c =
     let e = header-length 0 [] c.args.width c.args.height in
