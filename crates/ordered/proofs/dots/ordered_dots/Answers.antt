@@ -36,29 +36,11 @@ pub loop-i-init : goal.loop-i-init
 unfolding appended
 loop-i-init c = (omega arith, refl)
 
-pub overflow_add-column : goal.overflow_add-column
-overflow_add-column c = omega (arith, c.requires.fits)
-
-pub cell_at-n-requires : goal.cell_at-n-requires
-cell_at-n-requires c = c.requires.known
-
 pub overflow_mul-digits : goal.overflow_mul-digits
 overflow_mul-digits c = omega (arith, low (goal.at.overflow_mul-digits c).At-loop-i)
 
-pub bounds-gray-i : goal.bounds-gray-i
-bounds-gray-i c = omega arith
-
-pub ordered_dot-requires : goal.ordered_dot-requires
-ordered_dot-requires c = c.requires.known
-
 pub overflow_add-digits : goal.overflow_add-digits
 overflow_add-digits c = omega (arith, low (goal.at.overflow_add-digits c).At-loop-i, dot-le c)
-
-pub overflow_add-i : goal.overflow_add-i
-overflow_add-i c = omega arith
-
-pub loop-i-smaller : goal.loop-i-smaller
-loop-i-smaller c = omega arith
 
 pub loop-i-preserved : goal.loop-i-preserved
 loop-i-preserved c =
@@ -66,9 +48,3 @@ loop-i-preserved c =
     let more = one_more a.begun (ordered_bit a.side a.table.now a.y a.column a.gray.now) c.loop-i.i c.loop-i.digits
     c.ordered_dot.result c.loop-i.invariant.1 (dot-is c) in
     (omega arith, more)
-
-pub returns : goal.returns
-returns c =
-    let a = c.args in
-    let e : c.loop-i.i ≡ length a.gray.now = omega arith in
-    c.loop-i.invariant.1 ∙ ap (appended a.begun (ordered_bit a.side a.table.now a.y a.column a.gray.now)) e

@@ -1,8 +1,7 @@
-use Prim.Native.Nat.{ℕ, ◌+◌, ◌*◌, ◌/◌, ◌%◌, ◌≤◌, ◌<◌}
+use Prim.Native.Nat.{ℕ, ◌*◌, ◌/◌, ◌<◌}
 use mathlib.Core.Path.{◌≡◌, subst}
 use native.Mathlib.Nat.{add-zero}
 use native.Mathlib.Omega.{arith}
-use Rattle.rules.specs.Ordered.{quarter}
 use Rattle.ordered.specs.Internal.Sides.{Cell}
 use Rattle.ordered.proofs.OrderedNumbers.{cell-one, cell-more, upper-left, upper-right, lower-left, lower-right}
 use Rattle.ordered.proofs.table.+cell.Goals as goal

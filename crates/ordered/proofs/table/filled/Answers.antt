@@ -9,32 +9,8 @@ use Rattle.ordered.proofs.OrderedNumbers.{area-le, drop-replicate}
 use Rattle.ordered.proofs.table.filled.Invariants.{number_at}
 use Rattle.ordered.proofs.table.filled.Goals as goal
 
-pub overflow_mul-area : goal.overflow_mul-area
-overflow_mul-area c = omega (arith, area-le c.args.side c.requires.1)
-
 pub loop-i-init : goal.loop-i-init
 loop-i-init c = (omega arith, (refl, λ k e. overlaid-none (number_at k) (replicate 64 0)))
-
-pub nonzero_rem-i : goal.nonzero_rem-i
-nonzero_rem-i c = omega arith
-
-pub nonzero_div-i : goal.nonzero_div-i
-nonzero_div-i c = omega arith
-
-pub cell-requires : goal.cell-requires
-cell-requires c = omega arith
-
-pub overflow_cast-table : goal.overflow_cast-table
-overflow_cast-table c = omega (arith, c.cell.ensures.small, area-le c.args.side c.requires.1)
-
-pub bounds-table-i : goal.bounds-table-i
-bounds-table-i c = omega (arith, area-le c.args.side c.requires.1)
-
-pub overflow_add-i : goal.overflow_add-i
-overflow_add-i c = omega (arith, area-le c.args.side c.requires.1)
-
-pub loop-i-smaller : goal.loop-i-smaller
-loop-i-smaller c = omega arith
 
 pub loop-i-preserved : goal.loop-i-preserved
 loop-i-preserved c =
