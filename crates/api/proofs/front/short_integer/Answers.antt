@@ -5,13 +5,9 @@ use lib.Arith.{lt_of_le-ne}
 use lib.ListN.{get_or}
 use Rattle.api.proofs.ShortHeaders.{read_one, read-two}
 use Rattle.api.proofs.front.short_integer.Goals as goal
-use Rattle.api.proofs.front.short_integer.Goals.{After-shared_slice_known-3-1}
-
-byte : (c : After-shared_slice_known-3-1) → let a = c.args in get_or a.bytes.now a.at 0 < 256
-byte c = let f = c.shared_slice_known-2-1.given c.args.at in omega arith
 
 pub overflow_cast-first : goal.overflow_cast-first
-overflow_cast-first c = omega (arith, c.shared_slice_known-2-1.given c.args.at)
+overflow_cast-first c = omega (arith, c.type_inv.bytes c.args.at)
 
 pub returns-then-first-lt128 : goal.returns-then-first-lt128
 returns-then-first-lt128 c =
@@ -19,16 +15,16 @@ returns-then-first-lt128 c =
     read_one a.bytes.now a.at c.if-bytes-at.false c.if-first-lt128.true
 
 pub overflow_cast-second : goal.overflow_cast-second
-overflow_cast-second c = omega (arith, c.shared_slice_known-3-1.given (c.args.at + 1))
+overflow_cast-second c = omega (arith, c.type_inv.bytes (c.args.at + 1))
 
 pub overflow_mul-result : goal.overflow_mul-result
-overflow_mul-result c = omega (arith, byte (goal.at.overflow_mul-result c).After-shared_slice_known-3-1)
+overflow_mul-result c = omega (arith, c.type_inv.bytes c.args.at)
 
 pub overflow_add-result : goal.overflow_add-result
-overflow_add-result c = omega (arith, byte (goal.at.overflow_add-result c).After-shared_slice_known-3-1, c.if-second-ge128.false)
+overflow_add-result c = omega (arith, c.type_inv.bytes c.args.at, c.if-second-ge128.false)
 
 pub returns : goal.returns
 returns c =
     let a = c.args in
     read-two a.bytes.now a.at c.if-bytes-next.false (lt_of_le-ne c.if-first-lt128.false (λ d. c.if-first-eq128.false (sym d)))
-    (byte (goal.at.returns c).After-shared_slice_known-3-1) c.if-second-ge128.false
+    (omega (arith, c.type_inv.bytes a.at)) c.if-second-ge128.false

@@ -51,7 +51,7 @@ bounds-body-at c = omega (arith, c.requires.0, c.requires.1)
 pub returns-then-first-mask : goal.returns-then-first-mask
 returns-then-first-mask c =
     one-off (body (goal.at.returns-then-first-mask c).Start) c.args.row c.args.mask (rows (goal.at.returns-then-first-mask c).Start) 0 (c.args.row - 1) (begun (body (goal.at.returns-then-first-mask c).Start) c.args.row c.args.mask (rows (goal.at.returns-then-first-mask c).Start))
-    (λ i. omega (arith, c.shared_slice_known-1.given i)) (some (goal.at.returns-then-first-mask c).Start) c.if-first-mask.true
+    (λ i. omega (arith, c.type_inv.body i)) (some (goal.at.returns-then-first-mask c).Start) c.if-first-mask.true
 
 pub loop-y-init : goal.loop-y-init
 loop-y-init c = begun (body (goal.at.loop-y-init c).Start) c.args.row c.args.mask (rows (goal.at.loop-y-init c).Start)
@@ -65,7 +65,7 @@ eight_ends-ends-requires c = eight-in c
 pub returns-then-ends-mask : goal.returns-then-ends-mask
 returns-then-ends-mask c =
     eight-off (body (goal.at.returns-then-ends-mask c).Start) c.args.row c.args.mask (rows (goal.at.returns-then-ends-mask c).Start) c.loop-y.y c.loop-y.at c.loop-y.invariant
-    (λ i. omega (arith, c.shared_slice_known-1.given i)) c.eight_ends-ends.result c.eight_ends-ends.ensures
+    (λ i. omega (arith, c.type_inv.body i)) c.eight_ends-ends.result c.eight_ends-ends.ensures
     (omega (arith, c.loop-y-test.true)) c.if-ends-mask.true
 
 pub overflow_mul-at : goal.overflow_mul-at
@@ -83,7 +83,7 @@ loop-y-smaller c = omega (arith, c.loop-y-test.true)
 pub loop-y-preserved : goal.loop-y-preserved
 loop-y-preserved c =
     eight-on (body (goal.at.loop-y-preserved c).Start) c.args.row c.args.mask (rows (goal.at.loop-y-preserved c).Start) c.loop-y.y c.loop-y.at c.loop-y.invariant
-    (λ i. omega (arith, c.shared_slice_known-1.given i)) c.eight_ends-ends.result c.eight_ends-ends.ensures
+    (λ i. omega (arith, c.type_inv.body i)) c.eight_ends-ends.result c.eight_ends-ends.ensures
     (omega (arith, c.loop-y-test.true)) c.if-ends-mask.false
 
 pub loop-y-2-init : goal.loop-y-2-init
@@ -95,7 +95,7 @@ bounds-body-at-in-loop-y-2 c = one_in (goal.at.bounds-body-at-in-loop-y-2 c).In-
 pub returns-then-end-mask : goal.returns-then-end-mask
 returns-then-end-mask c =
     one-off (body (goal.at.returns-then-end-mask c).Start) c.args.row c.args.mask (rows (goal.at.returns-then-end-mask c).Start) c.loop-y-2.y c.loop-y-2.at c.loop-y-2.invariant
-    (λ i. omega (arith, c.shared_slice_known-1.given i)) (omega (arith, c.loop-y-2-test.true)) c.if-end-mask.true
+    (λ i. omega (arith, c.type_inv.body i)) (omega (arith, c.loop-y-2-test.true)) c.if-end-mask.true
 
 pub overflow_add-at-in-loop-y-2 : goal.overflow_add-at-in-loop-y-2
 overflow_add-at-in-loop-y-2 c = omega (arith, one_in (goal.at.overflow_add-at-in-loop-y-2 c).In-loop-y-2, c.well_formed)
@@ -109,7 +109,7 @@ loop-y-2-smaller c = omega (arith, c.loop-y-2-test.true)
 pub loop-y-2-preserved : goal.loop-y-2-preserved
 loop-y-2-preserved c =
     one_on (body (goal.at.loop-y-2-preserved c).Start) c.args.row c.args.mask (rows (goal.at.loop-y-2-preserved c).Start) c.loop-y-2.y c.loop-y-2.at c.loop-y-2.invariant
-    (λ i. omega (arith, c.shared_slice_known-1.given i)) (omega (arith, c.loop-y-2-test.true)) c.if-end-mask.false
+    (λ i. omega (arith, c.type_inv.body i)) (omega (arith, c.loop-y-2-test.true)) c.if-end-mask.false
 
 pub returns : goal.returns
 returns c = ended (body (goal.at.returns c).Start) c.args.row c.args.mask (rows (goal.at.returns c).Start) c.loop-y-2.y c.loop-y-2.at c.loop-y-2.invariant (omega (arith, c.loop-y-2-test.false))

@@ -81,19 +81,19 @@ pub are_clear-requires : goal.are_clear-requires
 are_clear-requires c = lent (goal.at.are_clear-requires c).After-sniff_length-2
 
 pub returns-then-not-are_clear : goal.returns-then-not-are_clear
-returns-then-not-are_clear c = where-dirty (goal.at.returns-then-not-are_clear c).After-sniff_length-2 _ c.are_clear.ensures (not-true _ c.if-not-are_clear.true-raw)
+returns-then-not-are_clear c = where-dirty (goal.at.returns-then-not-are_clear c).After-sniff_length-2 _ c.are_clear.ensures (c.if-not-are_clear.true)
 
 pub are_clear-requires-in-Truncated : goal.are_clear-requires-in-Truncated
 are_clear-requires-in-Truncated c = lent (goal.at.are_clear-requires-in-Truncated c).After-sniff_length-2
 
 pub returns-then-not-are_clear-2 : goal.returns-then-not-are_clear-2
-returns-then-not-are_clear-2 c = where-dirty (goal.at.returns-then-not-are_clear-2 c).After-sniff_length-2 _ c.are_clear-in-Truncated.ensures (not-true _ c.if-not-are_clear-2.true-raw)
+returns-then-not-are_clear-2 c = where-dirty (goal.at.returns-then-not-are_clear-2 c).After-sniff_length-2 _ c.are_clear-in-Truncated.ensures (c.if-not-are_clear-2.true)
 
 pub returns-else-not-are_clear : goal.returns-else-not-are_clear
-returns-else-not-are_clear c = where-clear (goal.at.returns-else-not-are_clear c).After-sniff_length-2 _ c.are_clear.ensures (not-false _ c.if-not-are_clear.false-raw) _ c.in-Exact.is
+returns-else-not-are_clear c = where-clear (goal.at.returns-else-not-are_clear c).After-sniff_length-2 _ c.are_clear.ensures (c.if-not-are_clear.false) _ c.in-Exact.is
 
 pub returns-else-not-are_clear-2 : goal.returns-else-not-are_clear-2
-returns-else-not-are_clear-2 c = where-clear (goal.at.returns-else-not-are_clear-2 c).After-sniff_length-2 _ c.are_clear-in-Truncated.ensures (not-false _ c.if-not-are_clear-2.false-raw) _ c.in-Truncated.is
+returns-else-not-are_clear-2 c = where-clear (goal.at.returns-else-not-are_clear-2 c).After-sniff_length-2 _ c.are_clear-in-Truncated.ensures (c.if-not-are_clear-2.false) _ c.in-Truncated.is
 
 pub returns-in-Neither : goal.returns-in-Neither
 returns-in-Neither c =

@@ -36,7 +36,7 @@ pub loop-last-smaller : goal.loop-last-smaller
 loop-last-smaller c = let l = c.loop-last in omega (arith, l.invariant.same, l.invariant.wide, c.loop-last-test.true)
 
 pub loop-last-preserved : goal.loop-last-preserved
-loop-last-preserved c = let l = c.loop-last in goes_on l.invariant c.loop-last-test.true (omega (arith, c.slice_known-in-loop-last-1.given l.last))
+loop-last-preserved c = let l = c.loop-last in goes_on l.invariant c.loop-last-test.true (omega (arith, c.type_inv.bytes l.last))
 
 pub shape_of-bytes : goal.shape_of-bytes
 shape_of-bytes c = c.loop-last.invariant.same

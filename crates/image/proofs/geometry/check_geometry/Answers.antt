@@ -1,7 +1,7 @@
 use Prim.Native.Nat.{◌-◌, ◌*◌, ◌≤◌, ◌<◌}
 use mathlib.Core.Path.{sym, ap, ◌∙◌}
 use native.Mathlib.Omega.{arith}
-use borrow.Author.Tests.{leb-true, leb-false, not-true, not-false}
+use borrow.Author.Tests.{leb-true, leb-false}
 use Rattle.error.specs.Answer.{checked}
 use Rattle.image.proofs.GeometryTests.{no-width, no-height, narrow, large, short, accepted}
 use Rattle.image.proofs.geometry.check_geometry.Goals as goal
@@ -26,7 +26,7 @@ pub returns-then-not-product_within : goal.returns-then-not-product_within
 returns-then-not-product_within c =
     let a = c.args in
     let p : 18446744073709551615 - c.row_stride-row.result < a.stride * (a.height - 1) =
-    leb-false _ _ (sym c.product_within.ensures ∙ not-true _ c.if-not-product_within.true-raw) in
+    leb-false _ _ (sym c.product_within.ensures ∙ c.if-not-product_within.true) in
     ap checked c.refused-then-not-product_within.ensures
     ∙ sym (large a.width a.height a.stride a.bytes (omega arith) (omega arith) (omega arith) (omega arith))
 
@@ -34,7 +34,7 @@ returns-then-not-product_within c =
 sized : (c : Else-not-product_within)
     → let a = c.args in
     a.stride * (a.height - 1) ≤ 18446744073709551615 - c.row_stride-row.result
-sized c = leb-true _ _ (sym c.product_within.ensures ∙ not-false _ c.if-not-product_within.false-raw)
+sized c = leb-true _ _ (sym c.product_within.ensures ∙ c.if-not-product_within.false)
 
 pub overflow_mul-stride : goal.overflow_mul-stride
 overflow_mul-stride c = omega (arith, sized c)

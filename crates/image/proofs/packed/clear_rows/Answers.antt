@@ -2,6 +2,7 @@ use Prim.Native.Nat.{ℕ, suc, ◌+◌, ◌-◌, ◌*◌, ◌≤◌, ◌<◌}
 use mathlib.Core.Path.{◌≡◌, refl, ap, sym, ◌∙◌}
 use native.Mathlib.Nat.{mul_comm, mul-le-mul_right}
 use native.Mathlib.Omega.{arith}
+use borrow.Author.Rules.{rules}
 use mathlib.Core.List.{List}
 use lib.Bits.{bit_and}
 use lib.ListN.{length, get_or, set}
@@ -77,9 +78,7 @@ loop-y-smaller c = omega arith
 
 pub loop-y-preserved : goal.loop-y-preserved
 loop-y-preserved c =
-    cleared c.loop-y.invariant c.loop-y-test.true
-    (let row = c.args.layout.stride in let f = c.slice_known-1.given
-    (c.loop-y.y * row + (row - 1)) in omega arith)
+    cleared c.loop-y.invariant c.loop-y-test.true (search rules)
 
 pub shape_of-plane : goal.shape_of-plane
 shape_of-plane c = kept c.loop-y.invariant

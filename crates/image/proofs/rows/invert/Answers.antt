@@ -11,9 +11,6 @@ loop-i-init c = begun (invert-length c.args.row.now)
 pub bounds-row-i : goal.bounds-row-i
 bounds-row-i c = omega arith
 
-pub overflow_sub-row : goal.overflow_sub-row
-overflow_sub-row c = omega (arith, c.slice_known-1.given c.loop-i.i)
-
 pub bounds-row-i-in-loop-i : goal.bounds-row-i-in-loop-i
 bounds-row-i-in-loop-i c = omega arith
 

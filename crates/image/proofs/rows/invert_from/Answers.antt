@@ -1,4 +1,3 @@
-use Prim.Native.Nat.{◌-◌}
 use mathlib.Core.Path.{sym, ◌∙◌}
 use native.Mathlib.Omega.{arith}
 use Rattle.image.proofs.InvertedBytes.{invert-length, invert-at}
@@ -12,7 +11,7 @@ pub bounds-from-i : goal.bounds-from-i
 bounds-from-i c = omega (arith, kept-length c.loop-i.invariant)
 
 pub overflow_sub-to : goal.overflow_sub-to
-overflow_sub-to c = omega (arith, c.shared_slice_known-1.given c.loop-i.i)
+overflow_sub-to c = omega (arith, c.type_inv.from c.loop-i.i)
 
 pub bounds-to-i : goal.bounds-to-i
 bounds-to-i c = omega arith

@@ -1,4 +1,3 @@
-use Prim.Native.Nat.{◌-◌}
 use native.Mathlib.Omega.{arith}
 use Rattle.image.proofs.WireRows.{begun, kept-length, next_fits, wired, ended}
 use Rattle.image.proofs.wire.wire_rows.Goals as goal
@@ -19,7 +18,7 @@ loop-y-smaller c = omega arith
 
 pub loop-y-preserved : goal.loop-y-preserved
 loop-y-preserved c =
-    wired c.loop-y.invariant _ (λ i. let f = c.shared_slice_known-1.given i in omega arith) c.loop-y-test.true
+    wired c.loop-y.invariant _ (λ i. let f = c.type_inv.plane i in omega arith) c.loop-y-test.true
     c.wire_row.ensures
 
 pub shape_of-out : goal.shape_of-out

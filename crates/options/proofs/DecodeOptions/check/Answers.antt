@@ -11,7 +11,7 @@ returns-then-not-admits c =
     c.over.ensures
     ∙ sym
     (over-width (decoding a.self) a.width a.height a.bytes a.offset
-    (sym c.admits.ensures ∙ not-true _ c.if-not-admits.true-raw))
+    (sym c.admits.ensures ∙ c.if-not-admits.true))
 
 pub returns-then-not-admits-2 : goal.returns-then-not-admits-2
 returns-then-not-admits-2 c =
@@ -19,8 +19,8 @@ returns-then-not-admits-2 c =
     c.over-then-not-admits-2.ensures
     ∙ sym
     (over-height (decoding a.self) a.width a.height a.bytes a.offset
-    (sym c.admits.ensures ∙ not-false _ c.if-not-admits.false-raw)
-    (sym c.admits-2.ensures ∙ not-true _ c.if-not-admits-2.true-raw))
+    (sym c.admits.ensures ∙ c.if-not-admits.false)
+    (sym c.admits-2.ensures ∙ c.if-not-admits-2.true))
 
 pub overflow_mul-w : goal.overflow_mul-w
 overflow_mul-w c = record { fits = product-below 32 32 c.ranges.width.fits c.ranges.height.fits }
@@ -32,9 +32,9 @@ returns-then-not-admits-3 c =
     ∙ sym
     (over-pixels (decoding a.self) a.width a.height a.bytes a.offset
     (sym c.admits.ensures
-    ∙ not-false _ c.if-not-admits.false-raw)
-    (sym c.admits-2.ensures ∙ not-false _ c.if-not-admits-2.false-raw)
-    (sym c.admits-3.ensures ∙ not-true _ c.if-not-admits-3.true-raw))
+    ∙ c.if-not-admits.false)
+    (sym c.admits-2.ensures ∙ c.if-not-admits-2.false)
+    (sym c.admits-3.ensures ∙ c.if-not-admits-3.true))
 
 pub returns-then-not-admits-4 : goal.returns-then-not-admits-4
 returns-then-not-admits-4 c =
@@ -43,11 +43,11 @@ returns-then-not-admits-4 c =
     ∙ sym
     (over-bytes (decoding a.self) a.width a.height a.bytes a.offset
     (sym c.admits.ensures
-    ∙ not-false _ c.if-not-admits.false-raw)
+    ∙ c.if-not-admits.false)
     (sym c.admits-2.ensures
-    ∙ not-false _ c.if-not-admits-2.false-raw)
-    (sym c.admits-3.ensures ∙ not-false _ c.if-not-admits-3.false-raw)
-    (sym c.admits-4.ensures ∙ not-true _ c.if-not-admits-4.true-raw))
+    ∙ c.if-not-admits-2.false)
+    (sym c.admits-3.ensures ∙ c.if-not-admits-3.false)
+    (sym c.admits-4.ensures ∙ c.if-not-admits-4.true))
 
 pub returns : goal.returns
 returns c =
@@ -55,7 +55,7 @@ returns c =
     sym
     (admitted (decoding a.self) a.width a.height a.bytes a.offset
     (sym c.admits.ensures
-    ∙ not-false _ c.if-not-admits.false-raw)
-    (sym c.admits-2.ensures ∙ not-false _ c.if-not-admits-2.false-raw)
-    (sym c.admits-3.ensures ∙ not-false _ c.if-not-admits-3.false-raw)
-    (sym c.admits-4.ensures ∙ not-false _ c.if-not-admits-4.false-raw))
+    ∙ c.if-not-admits.false)
+    (sym c.admits-2.ensures ∙ c.if-not-admits-2.false)
+    (sym c.admits-3.ensures ∙ c.if-not-admits-3.false)
+    (sym c.admits-4.ensures ∙ c.if-not-admits-4.false))
