@@ -1,8 +1,8 @@
 -- Planes of the threshold rule as their rows are written.
 -- Assumes nothing.
-use Prim.Native.Nat.{ℕ, suc, ◌+◌, ◌-◌, ◌*◌, ◌/◌, ◌%◌, ◌^◌, ◌≤◌, ◌<◌}
+use Prim.Native.Nat.{ℕ, ◌+◌, ◌-◌, ◌*◌, ◌/◌, ◌%◌, ◌^◌, ◌≤◌, ◌<◌}
 use mathlib.Core.Path.{◌≡◌, refl, sym, ap, ap₂, ◌∙◌, subst}
-use mathlib.Core.Bool.{true, false, ◌&&◌}
+use mathlib.Core.Bool.{◌&&◌}
 use mathlib.Core.List.{List}
 use native.Mathlib.Nat.{mul_comm, mul_assoc, add_assoc, add-mul, mul-le-mul_right, zero-add}
 use native.Mathlib.Nat.{mod-lt, mod-eq_of_lt, lt_of_lt_of_le, div-add-mod'}

@@ -1,5 +1,4 @@
-use Prim.Native.Nat.{ℕ, ◌-◌, ◌≤◌}
-use mathlib.Core.List.{List}
+use Prim.Native.Nat.{◌-◌, ◌≤◌}
 use Rattle.rules.proofs.PlainRowWritten.{PlainTo}
 use Rattle.rules.proofs.plain.plain_row.Given as goal
 

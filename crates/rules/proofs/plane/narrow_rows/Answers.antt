@@ -1,4 +1,4 @@
-use Prim.Native.Nat.{◌-◌, ◌<◌}
+use Prim.Native.Nat.{◌<◌}
 use native.Mathlib.Omega.{arith}
 use Rattle.rules.proofs.PlaneWritten.{rows_none, two-more}
 use Rattle.rules.proofs.plane.narrow_rows.Goals as goal

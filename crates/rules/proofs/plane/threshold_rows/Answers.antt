@@ -1,4 +1,4 @@
-use Prim.Native.Nat.{◌-◌, ◌%◌, ◌<◌}
+use Prim.Native.Nat.{◌%◌, ◌<◌}
 use native.Mathlib.Omega.{arith}
 use Rattle.rules.proofs.PlaneWritten.{row_more}
 use Rattle.rules.proofs.plane.threshold_rows.Goals as goal
