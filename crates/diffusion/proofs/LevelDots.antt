@@ -5,7 +5,6 @@ use mathlib.Core.Path.{◌≡◌, refl, sym, ap, ◌∙◌, subst, subst⁻¹}
 use mathlib.Core.List.{List}
 use mathlib.Core.Logic.{⊎_elim}
 use native.Mathlib.Omega.{arith}
-use native.Mathlib.Numerals.{add-one}
 use lib.Dec.{leb}
 use lib.IntN.{ℤ, pos, nat_abs}
 use lib.ListN.{length, get_or, set}
@@ -15,8 +14,8 @@ use Rattle.rules.specs.Internal.Kernels.{threshold_from}
 use Rattle.laws.proofs.Tests.{lt-or-le}
 use Rattle.diffusion.specs.declared.row.Flow.{Flow}
 use Rattle.diffusion.specs.Internal.Sums.{part_of, rest_of, handed_right, value_by, rest_by, rest_before, sums_of}
-use Rattle.diffusion.specs.Internal.Rows.{gray_of, dot_by}
-use Rattle.diffusion.specs.Internal.Flow.{parts_of, none_down, DotPassed, owed, RowAt, DotsPassed, LevelByte}
+use Rattle.diffusion.specs.Internal.Rows.{gray_of}
+use Rattle.diffusion.specs.Internal.Flow.{parts_of, none_down, DotPassed, RowAt, DotsPassed, LevelByte}
 use Rattle.diffusion.proofs.RowGrows.{SumStored, sum_left, byte-begins, dots-more, owed-le}
 use Rattle.diffusion.proofs.SumsCorrect.{part-of-128, rest-none}
 

@@ -1,5 +1,5 @@
 -- What the functions promise that dither a row, and a plane, by sums.
-use Rattle.std.specs.Prelude.{ℕ, ◌+◌, ◌*◌, ◌/◌, ◌%◌, ◌<◌, ◌≤◌, ◌≡◌, Bool, true, false, ◌&&◌, List, ◌++◌, leb, ℤ, pos, length, get_or, drop}
+use Rattle.std.specs.Prelude.{ℕ, ◌+◌, ◌*◌, ◌/◌, ◌<◌, ◌≤◌, ◌≡◌, Bool, true, false, ◌&&◌, List, ◌++◌, leb, ℤ, pos, length, get_or, drop}
 use Rattle.error.specs.Choice.{if}
 use Rattle.image.specs.Geometry.{row_bytes}
 use Rattle.rules.specs.Bits.{upto}

@@ -1,6 +1,5 @@
 use Prim.Native.Nat.{◌+◌, ◌*◌, ◌≤◌}
 use mathlib.Core.Path.{refl}
-use native.Mathlib.Omega.{arith}
 use Rattle.diffusion.specs.Internal.Sums.{part_of}
 use Rattle.diffusion.proofs.SumsCorrect.{part_small, product_small}
 use Rattle.diffusion.proofs.parts.part.Goals as goal

@@ -4,11 +4,10 @@ use mathlib.Core.List.{List}
 use lib.IntN.{ℤ}
 use native.Mathlib.Omega.{arith}
 use lib.ListN.{length, drop}
-use Rattle.laws.proofs.Products.{product-below}
 use Rattle.diffusion.specs.Internal.Rows.{DitherPlane}
 use Rattle.diffusion.specs.Internal.RowByRow.{PlaneLent, RowsWritten}
-use Rattle.diffusion.proofs.PlaneServed.{gray-short, out-short, work-short, plane-served, no-columns}
-use Rattle.diffusion.proofs.PlaneServed.{rows_left, lent_still, rows-joined, rows-plain}
+use Rattle.diffusion.proofs.PlaneServed.{plane-served, no-columns}
+use Rattle.diffusion.proofs.PlaneServed.{rows-joined, rows-plain}
 use Rattle.diffusion.proofs.plane.dither_plane.Goals as goal
 use Rattle.diffusion.proofs.plane.dither_plane.Goals.{Else-columns-eq0, Else-work-columns}
 

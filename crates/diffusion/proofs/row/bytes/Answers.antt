@@ -3,7 +3,7 @@ use mathlib.Core.Path.{◌≡◌, refl, subst}
 use native.Mathlib.Omega.{arith}
 use lib.ListN.{length}
 use Rattle.diffusion.specs.Internal.Flow.{BytesPassed}
-use Rattle.diffusion.proofs.RowBytes.{first_flow, bytes-start, byte-lent, digits-byte, bytes-more}
+use Rattle.diffusion.proofs.RowBytes.{bytes-start, byte-lent, digits-byte, bytes-more}
 use Rattle.diffusion.proofs.row.bytes.Goals as goal
 use Rattle.diffusion.proofs.row.bytes.Goals.{At-loop-j}
 

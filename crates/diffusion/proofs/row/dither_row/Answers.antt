@@ -1,9 +1,8 @@
 use native.Mathlib.Omega.{arith}
 use borrow.Author.Tests.{eqb-true}
-use lib.ListN.{length-set}
 use mir.Syntax.{w16}
 use mir.ValLaws.{to_z_pos}
-use Rattle.diffusion.proofs.RowEnds.{last-lent, shifted-small, shifted-is, row-dithered}
+use Rattle.diffusion.proofs.RowEnds.{shifted-small, shifted-is, row-dithered}
 use Rattle.diffusion.proofs.row.dither_row.Goals as goal
 
 pub overflow_cast-out : goal.overflow_cast-out

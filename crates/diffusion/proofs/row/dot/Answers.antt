@@ -6,8 +6,7 @@ use lib.ListN.{get_or}
 use mir.Syntax.{w16}
 use mir.Val.{to_z, of_z}
 use mir.ValLaws.{to_z-of_z}
-use Rattle.diffusion.proofs.DotStep.{sum_fits, parts-lt, index_in, dot-passed}
-use Rattle.diffusion.proofs.SumsCorrect.{part_small, rest-small}
+use Rattle.diffusion.proofs.DotStep.{parts-lt, index_in, dot-passed}
 use Rattle.diffusion.proofs.row.dot.Goals as goal
 use Rattle.diffusion.proofs.row.dot.Goals.{Start}
 

@@ -1,14 +1,12 @@
-use Prim.Native.Nat.{◌+◌, ◌-◌, ◌<◌}
+use Prim.Native.Nat.{◌+◌, ◌<◌}
 use mathlib.Core.Path.{◌≡◌, refl}
-use native.Mathlib.Nat.{add-zero}
 use native.Mathlib.Omega.{arith}
 use borrow.Author.Rules.{rules}
 use lib.IntN.{pos}
 use lib.ListN.{length, get_or}
 use mir.Syntax.{w16}
-use mir.Val.{to_z, of_z}
 use mir.ValLaws.{to_z-of_z, to_z_pos}
-use Rattle.diffusion.proofs.RowGrows.{byte-begins, run-start, run_at, run_long, run_lent, run_more, run_end, sum_left}
+use Rattle.diffusion.proofs.RowGrows.{byte-begins, run_at, run_long, run_lent, run_more, run_end, sum_left}
 use Rattle.diffusion.proofs.row.eight_dots.Goals as goal
 use Rattle.diffusion.proofs.row.eight_dots.Goals.{At-loop-i}
 

@@ -1,6 +1,5 @@
 use Prim.Native.Nat.{◌<◌}
 use native.Mathlib.Omega.{arith}
-use borrow.Author.Tests.{not-false}
 use lib.ListN.{get_or}
 use Rattle.diffusion.proofs.LevelTold.{told-small, level-told}
 use Rattle.diffusion.proofs.row.level_byte.Goals as goal

@@ -1,7 +1,6 @@
-use mathlib.Core.Path.{sym, ◌∙◌}
-use borrow.Author.Tests.{not-true, not-false}
+use mathlib.Core.Path.{◌∙◌}
 use lib.Seq.{length-take-le}
-use Rattle.diffusion.proofs.RowHanded.{begun-handed, begun-plain, begun-level}
+use Rattle.diffusion.proofs.RowHanded.{begun-plain, begun-level}
 use Rattle.diffusion.proofs.rows.begin_row.Goals as goal
 
 pub returns-then-plain_row : goal.returns-then-plain_row

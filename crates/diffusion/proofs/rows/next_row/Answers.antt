@@ -1,4 +1,3 @@
-use mathlib.Core.Path.{◌∙◌}
 use native.Mathlib.Omega.{arith}
 use Rattle.diffusion.proofs.RowHanded.{next-begun, next-from-sums}
 use Rattle.diffusion.proofs.rows.next_row.Goals as goal

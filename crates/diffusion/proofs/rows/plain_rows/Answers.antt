@@ -1,9 +1,4 @@
-use Prim.Native.Nat.{◌+◌, ◌-◌, ◌≤◌}
 use native.Mathlib.Omega.{arith}
-use lib.ListN.{length}
-use borrow.Author.Tests.{not-false}
-use Rattle.image.specs.Geometry.{row_bytes}
-use Rattle.diffusion.proofs.RowsLoop.{row-lent, row_fits}
 use Rattle.diffusion.proofs.RowsGoing.{plain-begun, plain_more, plain_end}
 use Rattle.diffusion.proofs.rows.plain_rows.Goals as goal
 

@@ -1,10 +1,5 @@
-use Prim.Native.Nat.{◌+◌, ◌-◌, ◌≤◌}
-use mathlib.Core.Path.{refl}
 use native.Mathlib.Omega.{arith}
-use lib.ListN.{length}
-use Rattle.image.specs.Geometry.{row_bytes}
-use Rattle.diffusion.proofs.RowsLoop.{row-lent, row_fits}
-use Rattle.diffusion.proofs.RowsGoing.{first-lent, first_fits, going-begun, going-given, going_next, going_end}
+use Rattle.diffusion.proofs.RowsGoing.{going_next, going_end}
 use Rattle.diffusion.proofs.rows.rows_from.Goals as goal
 
 pub loop-y-preserved : goal.loop-y-preserved

@@ -1,12 +1,5 @@
-use mathlib.Core.Path.{subst}
 use native.Mathlib.Omega.{arith}
 use borrow.Author.Rules.{rules}
-use lib.IntN.{ℤ, pos}
-use lib.ListN.{get_or}
-use mir.Syntax.{w16}
-use mir.ValLaws.{to_z-of_z}
-use Rattle.dither.specs.Internal.Carry.{clamp}
-use Rattle.rules.specs.Internal.Held.{Biased}
 use Rattle.dither.proofs.CarryRead.{over-in, over-past}
 use Rattle.dither.proofs.DitherDotsLoop.{biased-zero}
 use Rattle.dither.proofs.dots.over.Goals as goal

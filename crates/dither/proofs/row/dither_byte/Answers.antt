@@ -1,4 +1,4 @@
-use Prim.Native.Nat.{ℕ, ◌+◌, ◌-◌, ◌<◌}
+use Prim.Native.Nat.{ℕ, ◌+◌, ◌<◌}
 use mathlib.Core.Path.{◌≡◌, ◌∙◌, sym, subst}
 use native.Mathlib.Omega.{arith}
 use lib.IntN.{sub_ℕ}
@@ -42,7 +42,7 @@ loop-i-preserved c =
     let a = c.args in
     let t = c.loop-i-test.true in
     let stored : to_z w16 (of_z w16 c.from_held.result) ≡ sub_ℕ c.step-d.result.rest 128 =
-        to_z-of_z w16 _ (record { sfits = c.from_held.type_inv }) ∙ c.from_held.ensures in
+    to_z-of_z w16 _ (record { sfits = c.from_held.type_inv }) ∙ c.from_held.ensures in
     inv-more a.width a.y a.column a.gray.now 0 a.near.corner a.work.now c.loop-i.work _ _ _ _ c.loop-i.i
     c.loop-i.invariant _ _ _
     (rw (c.reach-reached.ensures.is c.loop-i.work (a.column + c.loop-i.i + 1)) c.inside-ahead.ensures)

@@ -1,4 +1,4 @@
-use Prim.Native.Nat.{ℕ, ◌+◌, ◌-◌, ◌*◌, ◌≤◌, ◌<◌}
+use Prim.Native.Nat.{ℕ, ◌+◌, ◌*◌, ◌≤◌, ◌<◌}
 use mathlib.Core.Path.{refl, sym, subst}
 use mathlib.Core.List.{List}
 use native.Mathlib.Omega.{arith}
@@ -6,8 +6,7 @@ use lib.ListN.{length}
 use Rattle.rules.specs.Rule.{dither}
 use Rattle.dither.specs.Internal.Row.{Near, Bytes}
 use Rattle.dither.proofs.ResidualFreeBytes.{residual-free-all}
-use Rattle.dither.proofs.DitherBytesLoop.{bytes-none, chain-start, chain_more, chain-end, byte_small, near-own}
-use Rattle.rules.proofs.ListPiece.{piece-length}
+use Rattle.dither.proofs.DitherBytesLoop.{bytes-none, chain-start, chain_more, chain-end, byte_small}
 use Rattle.dither.proofs.row.dither_bytes.Goals as goal
 use Rattle.dither.proofs.row.dither_bytes.Goals.{After-over, At-loop-k}
 
