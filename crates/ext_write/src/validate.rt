@@ -8,6 +8,7 @@ use error::Checked;
 use ext::{identifier_in_class, value_in_class};
 
 // Strict adds the classes.
+#[tactic(auto, unfolding(crate::specs::Write::check_pair))]
 pub fn check_parameter(identifier: &[u8], value: &[u8], strict: bool) -> Checked
     ensures { checked result ≡ check_pair strict (record { identifier = identifier.entry.now; value = value.now }) }
 {
