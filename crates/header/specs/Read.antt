@@ -3,7 +3,7 @@ use Rattle.std.specs.Prelude.{ℕ, ◌+◌, Bool, ◌&&◌, ◌||◌, List, ltb,
 use Rattle.error.specs.Choice.{if}
 use Rattle.error.specs.Answer.{Answer, gives, refuses, bind, refusal}
 use Rattle.mbi.specs.Read.{read_mbi}
-use Rattle.ext.specs.Kinds.{Fields, Span, absent, span, span_of, fields_span, fields_follow, kind_bits}
+use Rattle.ext.specs.Kinds.{Fields, Span, absent, span_of, fields_span, fields_follow, kind_bits}
 use Rattle.ext.specs.Read.{read_fields}
 use Rattle.header.specs.Settings.{Settings}
 use Rattle.header.specs.declared.ParsedHeader.{ParsedHeader}

@@ -1,6 +1,5 @@
-use mathlib.Core.Path.{◌∙◌, sym, ap}
+use mathlib.Core.Path.{◌∙◌, sym}
 use native.Mathlib.Omega.{arith}
-use Rattle.ext_write.specs.Internal.Steps.{check_pairs}
 use Rattle.ext_write.proofs.PairSteps.{check-goes, check-end}
 use Rattle.ext_write.proofs.pairs.check_pairs.Goals as goal
 

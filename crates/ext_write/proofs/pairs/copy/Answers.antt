@@ -1,5 +1,4 @@
-use native.Mathlib.Omega.{arith}
-use Rattle.ext_write.proofs.PairSteps.{copy-starts, copy_goes, copy-ends}
+use Rattle.ext_write.proofs.PairSteps.{copy_goes}
 use Rattle.ext_write.proofs.pairs.copy.Goals as goal
 
 pub loop-i-preserved : goal.loop-i-preserved

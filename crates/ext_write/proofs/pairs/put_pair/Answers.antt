@@ -1,8 +1,6 @@
 use native.Mathlib.Omega.{arith}
 use Rattle.ext_write.proofs.PairSteps.{long-identifier, long-value, short-text, no_room, room, cannot-put, put-moves, put-done}
-use mathlib.Core.Path.{◌∙◌, ap}
-use lib.ListN.{length, length-set}
-use lib.Seq.{length-sets}
+use mathlib.Core.Path.{◌∙◌}
 use Rattle.ext_write.proofs.pairs.put_pair.Goals as goal
 
 pub returns-then-identifier_len-gt7 : goal.returns-then-identifier_len-gt7

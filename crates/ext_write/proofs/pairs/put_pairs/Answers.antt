@@ -1,7 +1,6 @@
-use mathlib.Core.Path.{◌∙◌, sym, ap, refl}
+use mathlib.Core.Path.{◌∙◌, sym, ap}
 use native.Mathlib.Omega.{arith}
 use lib.ListN.{length}
-use Rattle.ext_write.specs.Internal.Steps.{put_pairs}
 use Rattle.ext_write.proofs.PairSteps.{put-goes, put-end, put-long}
 use Rattle.ext_write.proofs.pairs.put_pairs.Goals as goal
 

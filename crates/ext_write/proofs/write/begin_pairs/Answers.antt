@@ -1,8 +1,7 @@
 use native.Mathlib.Omega.{arith}
 use mathlib.Core.Path.{◌∙◌, sym, ap, refl}
-use Rattle.error.specs.Answer.{written}
 use Rattle.ext_write.specs.Internal.Steps.{fields_length}
-use Rattle.ext_write.proofs.Begun.{pairs-short, pairs-fit, pairs-refused}
+use Rattle.ext_write.proofs.Begun.{pairs-fit}
 use Rattle.ext_write.proofs.write.begin_pairs.Goals as goal
 
 pub returns-else-end-len : goal.returns-else-end-len

@@ -2,7 +2,7 @@ use mathlib.Core.Path.{◌∙◌, sym, ap}
 use lib.ListN.{length}
 use Rattle.error.specs.Answer.{map}
 use Rattle.ext.specs.Kinds.{kind_number}
-use Rattle.ext_write.proofs.LentFields.{single-01, single-10, lent-octets, lent-3, octet-length}
+use Rattle.ext_write.proofs.LentFields.{single-01, single-10, lent-octets, octet-length}
 use Rattle.ext_write.proofs.write.check_fields.Goals as goal
 
 pub returns-in-Bitfield00 : goal.returns-in-Bitfield00

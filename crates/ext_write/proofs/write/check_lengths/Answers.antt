@@ -1,7 +1,6 @@
 use mathlib.Core.Path.{◌∙◌, ap}
 use Rattle.ext_write.specs.Internal.Steps.{fields_length}
 use Rattle.ext_write.proofs.RecordsFlat.{pairs-found}
-use native.Mathlib.Omega.{arith}
 use Rattle.ext_write.proofs.write.check_lengths.Goals as goal
 
 pub returns : goal.returns

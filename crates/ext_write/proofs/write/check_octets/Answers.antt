@@ -1,6 +1,5 @@
 use mathlib.Core.Path.{◌∙◌, sym, ap}
 use native.Mathlib.Omega.{arith}
-use borrow.Author.Count.{below_more}
 use lib.ListN.{length}
 use Rattle.error.specs.Answer.{map}
 use Rattle.ext_write.specs.Internal.Steps.{fields_length}

@@ -1,4 +1,3 @@
-use mathlib.Core.Path.{refl}
 use native.Mathlib.Omega.{arith}
 use Rattle.ext_write.proofs.OctetsWritten.{octet-put, octets-put}
 use Rattle.ext_write.proofs.write.put_octets.Goals as goal

@@ -1,8 +1,6 @@
 use mathlib.Core.Path.{◌∙◌, sym, ap}
-use Rattle.error.specs.Answer.{written}
-use Rattle.laws.proofs.Emitted.{emits-refused}
 use Rattle.ext_write.specs.Internal.Steps.{fields_length}
-use Rattle.ext_write.proofs.Begun.{short-emitted, octets-fit, octets-emitted}
+use Rattle.ext_write.proofs.Begun.{octets-fit, octets-emitted}
 use Rattle.ext_write.proofs.write.write_octets.Goals as goal
 
 pub put_octets-requires : goal.put_octets-requires

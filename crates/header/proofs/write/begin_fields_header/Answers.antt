@@ -1,4 +1,4 @@
-use Prim.Native.Nat.{ℕ, ◌+◌, ◌-◌, ◌^◌, ◌≤◌, ◌<◌}
+use Prim.Native.Nat.{ℕ, ◌+◌, ◌-◌}
 use mathlib.Core.Path.{◌≡◌, ◌∙◌, sym, ap, refl}
 use mathlib.Core.Bool.{Bool}
 use mathlib.Core.List.{List}
@@ -13,7 +13,7 @@ use Rattle.ext.specs.Kinds.{kind_number}
 use Rattle.ext_write.specs.Write.{lent_bytes}
 use Rattle.ext_write.specs.Internal.Steps.{fields_length}
 use Rattle.ext_write.specs.Internal.Left.{ChecksPairs}
-use Rattle.header.proofs.HeaderBytes.{sizes-ten, none_within, bytes-within, fits-two, lent-short, lent-refused, lent-left}
+use Rattle.header.proofs.HeaderBytes.{sizes-ten, none_within, bytes-within, lent-short, lent-left}
 use Rattle.header.proofs.write.begin_fields_header.Goals as goal
 use Rattle.header.proofs.write.begin_fields_header.Goals.{After-sizes_len-around}
 

@@ -1,8 +1,8 @@
 use mathlib.Core.Path.{◌≡◌}
-use mathlib.Core.Bool.{true, false, ◌||◌}
-use borrow.Author.Tests.{eq-eqb, ne_eqb}
+use mathlib.Core.Bool.{false, ◌||◌}
+use borrow.Author.Tests.{ne_eqb}
 use lib.Dec.{eqb}
-use Rattle.header.proofs.HeaderBytes.{none_within, plain-within, zero_left, presence-left, absent-left}
+use Rattle.header.proofs.HeaderBytes.{plain-within, presence-left, absent-left}
 use Rattle.header.proofs.write.begin_header.Goals as goal
 
 pub returns-in-Absent : goal.returns-in-Absent

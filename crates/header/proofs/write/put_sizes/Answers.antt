@@ -1,8 +1,6 @@
 use mathlib.Core.Path.{◌∙◌}
 use Rattle.laws.proofs.Runs.{sets-append}
 use Rattle.mbi.specs.Bytes.{mbi_bytes}
-use native.Mathlib.Omega.{arith}
-use Rattle.header.proofs.HeaderBytes.{sizes-length}
 use Rattle.header.proofs.write.put_sizes.Goals as goal
 
 pub returns : goal.returns

@@ -1,6 +1,5 @@
 use native.Mathlib.Omega.{arith}
 use Rattle.mbi.proofs.Length.{bytes-five}
-use Rattle.header.proofs.HeaderBytes.{sizes-length}
 use Rattle.header.proofs.write.sizes_len.Goals as goal
 
 pub overflow_add-result : goal.overflow_add-result

@@ -1,7 +1,6 @@
 use Prim.Native.Nat.{◌+◌}
 use mathlib.Core.List.{[]}
 use native.Mathlib.Omega.{arith}
-use lib.ListN.{length-set}
 use Rattle.laws.proofs.Writers.{emits_none}
 use Rattle.header.specs.Write.{header_bytes}
 use Rattle.header.proofs.HeaderBytes.{sizes-ten, header-length, header-put}
