@@ -1,5 +1,5 @@
 -- Settings that pass their test, and the frames that are read with them.
-use Prim.Native.Nat.{ℕ, ◌≤◌}
+use Prim.Native.Nat.{◌≤◌}
 use mathlib.Core.Path.{◌≡◌, refl}
 use native.Mathlib.Omega.{arith}
 use Rattle.error.specs.Answer.{gives}

@@ -1,7 +1,8 @@
-use Prim.Native.Nat.{◌-◌, ◌<◌}
+use Prim.Native.Nat.{◌<◌}
 use mathlib.Core.Path.{ap}
 use native.Mathlib.Nat.{mod-lt}
 use native.Mathlib.Omega.{arith}
+use borrow.Author.Rules.{rules}
 use Rattle.image.specs.declared.PlaneLayout.{PlaneLayout}
 use Rattle.body_pieces.proofs.RowEndsCleared.{cleared-none, begins, goes_on, ends}
 use Rattle.body_pieces.proofs.convert.clear_ends.Goals as goal
@@ -36,7 +37,7 @@ pub loop-last-smaller : goal.loop-last-smaller
 loop-last-smaller c = let l = c.loop-last in omega (arith, l.invariant.same, l.invariant.wide, c.loop-last-test.true)
 
 pub loop-last-preserved : goal.loop-last-preserved
-loop-last-preserved c = let l = c.loop-last in goes_on l.invariant c.loop-last-test.true (omega (arith, c.type_inv.bytes l.last))
+loop-last-preserved c = let l = c.loop-last in goes_on l.invariant c.loop-last-test.true (search rules)
 
 pub shape_of-bytes : goal.shape_of-bytes
 shape_of-bytes c = c.loop-last.invariant.same

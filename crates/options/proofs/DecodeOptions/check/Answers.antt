@@ -1,5 +1,4 @@
 use mathlib.Core.Path.{sym, ◌∙◌}
-use borrow.Author.Tests.{not-true, not-false}
 use Rattle.laws.proofs.Products.{product-below}
 use Rattle.options.specs.Limits.{decoding}
 use Rattle.options.proofs.LimitTests.{over-width, over-height, over-pixels, over-bytes, admitted}
