@@ -1,23 +1,16 @@
-use Prim.Native.Nat.{ℕ, ◌+◌, ◌*◌, ◌/◌, ◌≤◌, ◌<◌}
+use Prim.Native.Nat.{ℕ, ◌+◌, ◌*◌, ◌/◌, ◌<◌}
 use mathlib.Core.Path.{◌≡◌, refl, sym, subst}
 use native.Mathlib.Omega.{arith}
-use lib.ListN.{length}
-use Rattle.image.specs.Geometry.{row_bytes}
 use Rattle.rules.specs.Internal.Planes.{row_sample}
 use Rattle.rules.specs.Internal.Words.{samples_from}
 use Rattle.rules.proofs.PlainRowWritten.{PlainTo, plain-none, row-missing, row_done, row-stopped, row-goes-on}
 use Rattle.rules.proofs.WordPlain.{sample_in}
 use Rattle.rules.proofs.plain.plain_row.Goals as goal
-use Rattle.rules.proofs.plain.plain_row.Goals.{After-loop-k, At-loop-k, In-loop-k}
-
-there : (l : At-loop-k) → l.args.width ≤ length l.args.gray.now
-there l = l.if-gray-width.false
-
-room : (l : At-loop-k) → row_bytes l.args.width ≤ length l.args.out.now
-room l = l.if-out-width.false
+use Rattle.rules.proofs.plain.plain_row.Goals.{After-loop-k, In-loop-k}
 
 -- the word of byte k holds its samples
-held : (i : In-loop-k) → (j : ℕ) → j < 8 → samples_from i.args.gray.now (8 * i.loop-k.k) j ≡ row_sample i.args.width i.args.gray.now (8 * i.loop-k.k + j)
+held : (i : In-loop-k) (j : ℕ) → j < 8
+    → samples_from i.args.gray.now (8 * i.loop-k.k) j ≡ row_sample i.args.width i.args.gray.now (8 * i.loop-k.k + j)
 held i j m = sym (sample_in i.args.width i.args.gray.now (8 * i.loop-k.k + j) (omega (arith, i.loop-k-test.true)))
 
 -- all whole bytes
@@ -41,31 +34,37 @@ loop-k-init c = let a = c.args in (omega arith, plain-none a.width a.gray.now a.
 
 pub returns-then-not-plain_word : goal.returns-then-not-plain_word
 returns-then-not-plain_word c =
-    row-stopped (room (goal.at.returns-then-not-plain_word c).At-loop-k) c.loop-k.invariant.1 c.word-samples.result (samples_from c.args.gray.now (8 * c.loop-k.k)) c.word-samples.ensures.1
-    c.word-samples.ensures.0 (held (goal.at.returns-then-not-plain_word c).In-loop-k) c.plain_word.result c.plain_word.ensures c.if-not-plain_word.true (there (goal.at.returns-then-not-plain_word c).At-loop-k)
-    (omega (arith, c.loop-k-test.true))
+    row-stopped c.if-out-width.false c.loop-k.invariant.1 c.word-samples.result (samples_from c.args.gray.now (8 * c.loop-k.k))
+    c.word-samples.ensures.1 c.word-samples.ensures.0 (held (goal.at.returns-then-not-plain_word c).In-loop-k)
+    c.plain_word.result c.plain_word.ensures c.if-not-plain_word.true c.if-gray-width.false (omega (arith, c.loop-k-test.true))
 
 pub loop-k-preserved : goal.loop-k-preserved
 loop-k-preserved c = (
   omega arith,
-  row-goes-on (room (goal.at.loop-k-preserved c).At-loop-k) c.loop-k.invariant.1 c.word-samples.result (samples_from c.args.gray.now (8 * c.loop-k.k)) c.word-samples.ensures.1
-      c.word-samples.ensures.0 (held (goal.at.loop-k-preserved c).In-loop-k) c.plain_word.result c.plain_word.ensures c.if-not-plain_word.false
-      c.gathered.result c.gathered.ensures (omega arith),
+  row-goes-on c.if-out-width.false c.loop-k.invariant.1 c.word-samples.result (samples_from c.args.gray.now (8 * c.loop-k.k))
+      c.word-samples.ensures.1 c.word-samples.ensures.0 (held (goal.at.loop-k-preserved c).In-loop-k)
+      c.plain_word.result c.plain_word.ensures c.if-not-plain_word.false c.gathered.result c.gathered.ensures (omega arith),
 )
 
 pub returns-then-width-eq0 : goal.returns-then-width-eq0
-returns-then-width-eq0 c = row_done (room (goal.at.returns-then-width-eq0 c).At-loop-k) (ended (goal.at.returns-then-width-eq0 c).After-loop-k) (there (goal.at.returns-then-width-eq0 c).At-loop-k) (omega (arith, c.if-width-eq0.true))
+returns-then-width-eq0 c =
+    row_done c.if-out-width.false (ended (goal.at.returns-then-width-eq0 c).After-loop-k) c.if-gray-width.false
+    (omega (arith, c.if-width-eq0.true))
 
 pub returns-then-not-plain_word-2 : goal.returns-then-not-plain_word-2
 returns-then-not-plain_word-2 c =
-    row-stopped (room (goal.at.returns-then-not-plain_word-2 c).At-loop-k) (ended (goal.at.returns-then-not-plain_word-2 c).After-loop-k) c.ending_word-samples.result (λ i. row_sample c.args.width c.args.gray.now (8 * (c.args.width / 8) + i))
+    let a = c.args in
+    row-stopped c.if-out-width.false (ended (goal.at.returns-then-not-plain_word-2 c).After-loop-k) c.ending_word-samples.result
+    (λ i. row_sample a.width a.gray.now (8 * (a.width / 8) + i))
     c.ending_word-samples.ensures.1 c.ending_word-samples.ensures.0 (λ i _. refl) c.plain_word-2.result c.plain_word-2.ensures
-    c.if-not-plain_word-2.true (there (goal.at.returns-then-not-plain_word-2 c).At-loop-k) (omega (arith, c.if-width-eq0.false))
+    c.if-not-plain_word-2.true c.if-gray-width.false (omega (arith, c.if-width-eq0.false))
 
 pub returns : goal.returns
 returns c =
-    row_done (room (goal.at.returns c).At-loop-k)
-    (row-goes-on (room (goal.at.returns c).At-loop-k) (ended (goal.at.returns c).After-loop-k) c.ending_word-samples.result (λ i. row_sample c.args.width c.args.gray.now (8 * (c.args.width / 8) + i))
+    let a = c.args in
+    row_done c.if-out-width.false
+    (row-goes-on c.if-out-width.false (ended (goal.at.returns c).After-loop-k) c.ending_word-samples.result
+    (λ i. row_sample a.width a.gray.now (8 * (a.width / 8) + i))
     c.ending_word-samples.ensures.1 c.ending_word-samples.ensures.0 (λ i _. refl) c.plain_word-2.result c.plain_word-2.ensures
     c.if-not-plain_word-2.false c.gathered-2.result c.gathered-2.ensures (omega (arith, c.if-width-eq0.false)))
-    (there (goal.at.returns c).At-loop-k) (omega arith)
+    c.if-gray-width.false (omega arith)

@@ -8,11 +8,6 @@ use Rattle.rules.specs.Internal.Kernels.{threshold_bit}
 use Rattle.rules.proofs.UptoOverlaid.{overlaid-none, overlaid-next}
 use Rattle.rules.proofs.PlaneWritten.{ones-byte}
 use Rattle.rules.proofs.plane.threshold_ones.Goals as goal
-use Rattle.rules.proofs.plane.threshold_ones.Goals.{At-loop-i}
-
--- the byte of each row
-abbrev bytes : At-loop-i → ℕ → ℕ
-bytes l = let a = l.args in byte_at 1 (threshold_bit a.bound a.gray.now)
 
 pub loop-i-init : goal.loop-i-init
 loop-i-init c =
@@ -21,9 +16,10 @@ loop-i-init c =
 
 pub loop-i-preserved : goal.loop-i-preserved
 loop-i-preserved c =
+    let a = c.args in
     let i = c.loop-i.i in (
       omega arith,
       ap (λ (o : List ℕ). set o i c.dot_bit.result) c.loop-i.invariant.1
-          ∙ overlaid-next (bytes (goal.at.loop-i-preserved c).At-loop-i) c.args.out.now i c.dot_bit.result (omega (arith, c.requires.1))
-          (ones-byte c.args.bound c.args.gray.now i c.dot_bit.result c.dot_bit.ensures),
+          ∙ overlaid-next (byte_at 1 (threshold_bit a.bound a.gray.now)) a.out.now i c.dot_bit.result (omega (arith, c.requires.1))
+          (ones-byte a.bound a.gray.now i c.dot_bit.result c.dot_bit.ensures),
     )

@@ -8,11 +8,6 @@ use Rattle.rules.specs.Internal.Kernels.{threshold_bit}
 use Rattle.rules.proofs.UptoOverlaid.{overlaid-none, overlaid-next}
 use Rattle.rules.proofs.PlaneWritten.{pairs-byte}
 use Rattle.rules.proofs.plane.threshold_pairs.Goals as goal
-use Rattle.rules.proofs.plane.threshold_pairs.Goals.{At-loop-i}
-
--- the byte of each row
-abbrev bytes : At-loop-i → ℕ → ℕ
-bytes l = let a = l.args in byte_at 2 (threshold_bit a.bound a.gray.now)
 
 pub loop-i-init : goal.loop-i-init
 loop-i-init c =
@@ -21,10 +16,11 @@ loop-i-init c =
 
 pub loop-i-preserved : goal.loop-i-preserved
 loop-i-preserved c =
+    let a = c.args in
     let i = c.loop-i.i in
     let v = c.dot_bit.result + c.dot_bit-in-loop-i.result in (
       omega arith,
       ap (λ (o : List ℕ). set o i v) c.loop-i.invariant.1
-          ∙ overlaid-next (bytes (goal.at.loop-i-preserved c).At-loop-i) c.args.out.now i v (omega (arith, c.requires.1))
-          (pairs-byte c.args.bound c.args.gray.now i _ _ c.dot_bit.ensures c.dot_bit-in-loop-i.ensures),
+          ∙ overlaid-next (byte_at 2 (threshold_bit a.bound a.gray.now)) a.out.now i v (omega (arith, c.requires.1))
+          (pairs-byte a.bound a.gray.now i _ _ c.dot_bit.ensures c.dot_bit-in-loop-i.ensures),
     )
