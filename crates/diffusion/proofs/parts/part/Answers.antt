@@ -5,9 +5,6 @@ use Rattle.diffusion.proofs.SumsCorrect.{part_small, product_small}
 use Rattle.diffusion.proofs.parts.part.Goals as goal
 use Rattle.diffusion.proofs.parts.part.Goals.{Start}
 
-small : (c : Start) → let a = c.args in (128 * a.sixteenths + 1) * a.b ≤ 229632
-small c = product_small c.args.sixteenths c.args.b c.requires.0 c.requires.1
-
 pub returns : goal.returns
 unfolding part_of
 returns c = (refl, part_small c.args.sixteenths c.args.b c.requires.1)

@@ -11,18 +11,7 @@ use Rattle.diffusion.proofs.PlaneServed.{rows-joined, rows-plain}
 use Rattle.diffusion.proofs.plane.dither_plane.Goals as goal
 use Rattle.diffusion.proofs.plane.dither_plane.Goals.{Else-columns-eq0, Else-work-columns}
 
--- there are samples, room and numbers of work for the plane
-lent : (e : Else-columns-eq0)
-    → let a = e.args in
-    PlaneLent a.width a.height (length a.gray.now) (length a.out.now)
-lent e =
-    record {
-      wide = omega (arith, e.if-columns-eq0.false);
-      small = e.ranges.width.fits;
-      there = e.if-gray-columns.false;
-      room = e.if-out-rows.false;
-    }
-
+-- the plane is served
 served : (e : Else-work-columns) (out' : List ℕ) (work' : List ℤ)
     → let a = e.args in
     RowsWritten a.width a.height a.gray.now a.out.now a.height out'
