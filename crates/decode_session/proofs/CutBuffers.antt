@@ -67,6 +67,7 @@ module _ (d : Decoding) (file : List ℕ) (h : Outline) (accepted : read_image d
   pub buffers : {s s' : DecodeSession} {ext end : List ℕ} {at : ℕ} {flag : Bool} {cs : List Call} {rs : List Reply} {a : Answer Told}
       → at ≤ length file → flag ≡ false → Stands s (still at) → K at ext → Trace s ext cs rs s' end → Cut file at flag cs rs a
       → Ended s' end
+  buffers l e st k Traces.none x = elim x [ ]
   buffers {s} {ext = ext} l e st k (Traces.fed {out = out} {out' = out'} {ext' = ext'} {r = r} f t) (part {at = at} size c) =
       let n = left at size s out ext out' ext' r l st f in
       buffers n.there (rw e n.unmet) n.stands (n.holds k) t c

@@ -11,5 +11,5 @@ pub returns : goal.returns
 returns c =
     let g = c.args in
     let f = c.feed in
-    fed-part g.session g.part g.file.now g.out.now g.ext.now g.at f.result f.new.1.1.0 f.new.1.1.1.0
-    (let p = c.requires in omega arith) c.requires.fits.buffer f.ensures f.auto.1.1.0 f.auto.1.1.1.0
+    fed-part g.session g.part g.file.now g.out.now g.ext.now g.at f.result f.new.out f.new.ext
+    (let p = c.requires in omega arith) c.requires.fits.buffer f.ensures f.auto.out f.auto.ext

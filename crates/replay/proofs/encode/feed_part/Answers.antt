@@ -11,6 +11,6 @@ pub returns : goal.returns
 returns c =
     let g = c.args in
     let f = c.feed in
-    fed-part g.session g.part g.samples.now g.work.now g.out.now g.at f.result f.new.1.1.0
-    f.new.1.1.1.0
-    (let p = c.requires in omega arith) c.requires.fits.buffer f.ensures f.auto.1.1.1.0 f.auto.1.1.0
+    fed-part g.session g.part g.samples.now g.work.now g.out.now g.at f.result f.new.work
+    f.new.out
+    (let p = c.requires in omega arith) c.requires.fits.buffer f.ensures f.auto.out f.auto.work

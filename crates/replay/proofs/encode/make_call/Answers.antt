@@ -8,11 +8,11 @@ use Rattle.replay.proofs.encode.make_call.Goals as goal
 
 pub feed_part-fed-requires : goal.feed_part-fed-requires
 feed_part-fed-requires c =
-    let g = c.args in (
-      c.requires.at_in_bounds,
-      subst (λ (n : Named). There n (length g.samples.now) (length g.out.now - g.at) (length g.work.now))
-          c.in-Feed.is c.requires.there,
-    )
+    let g = c.args in record {
+      at_in_bounds = c.requires.at_in_bounds;
+      fits = subst (λ (n : Named). There n (length g.samples.now) (length g.out.now - g.at) (length g.work.now))
+          c.in-Feed.is c.requires.there;
+    }
 
 pub returns-in-Close : goal.returns-in-Close
 returns-in-Close c =
