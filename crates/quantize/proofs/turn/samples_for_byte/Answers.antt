@@ -16,18 +16,18 @@ capped : (j : Joined-width-column) → Capped j.args.width j.args.column j.if-wi
 capped j =
     let p = j.requires in
     elim j.if-width-column.branch [
-    | then-width-column w ↦ record {
-      some = omega arith;
-      in_row = omega arith;
-      in_byte = omega arith;
-      ends = inl (omega arith);
-    }
-    | else-width-column w ↦ record {
-      some = omega arith;
-      in_row = omega arith;
-      in_byte = omega arith;
-      ends = inr (omega arith);
-    }
+      | then-width-column w ↦ record {
+        some = omega arith;
+        in_row = omega arith;
+        in_byte = omega arith;
+        ends = inl (omega arith);
+      }
+      | else-width-column w ↦ record {
+        some = omega arith;
+        in_row = omega arith;
+        in_byte = omega arith;
+        ends = inr (omega arith);
+      }
     ]
 
 pub overflow_sub-most-then-room-eq0 : goal.overflow_sub-most-then-room-eq0
@@ -37,38 +37,38 @@ pub returns-then-samples-most : goal.returns-then-samples-most
 returns-then-samples-most c =
     let k = capped (goal.at.returns-then-samples-most c).Joined-width-column in
     elim c.if-room-eq0.branch [
-    | then-room-eq0 w ↦ record {
-      there = omega arith;
-      in_row = omega arith;
-      in_byte = omega arith;
-      fits = λ z. (omega arith, omega arith);
-      all = λ z. inl z;
-    }
-    | else-room-eq0 w ↦ record {
-      there = omega arith;
-      in_row = omega arith;
-      in_byte = omega arith;
-      fits = λ z. absurd (w.if-room-eq0.false z);
-      all = λ z. inl z;
-    }
+      | then-room-eq0 w ↦ record {
+        there = omega arith;
+        in_row = omega arith;
+        in_byte = omega arith;
+        fits = λ z. (omega arith, omega arith);
+        all = λ z. inl z;
+      }
+      | else-room-eq0 w ↦ record {
+        there = omega arith;
+        in_row = omega arith;
+        in_byte = omega arith;
+        fits = λ z. absurd (w.if-room-eq0.false z);
+        all = λ z. inl z;
+      }
     ]
 
 pub returns-else-samples-most : goal.returns-else-samples-most
 returns-else-samples-most c =
     let k = capped (goal.at.returns-else-samples-most c).Joined-width-column in
     elim c.if-room-eq0.branch [
-    | then-room-eq0 w ↦ record {
-      there = c.if-samples-most.false;
-      in_row = omega arith;
-      in_byte = omega arith;
-      fits = λ z. (omega arith, omega arith);
-      all = λ z. inr (w.if-room-eq0.true, ⊎_elim (λ e. inl (omega arith)) (λ e. inr (omega arith)) k.ends);
-    }
-    | else-room-eq0 w ↦ record {
-      there = c.if-samples-most.false;
-      in_row = omega arith;
-      in_byte = omega arith;
-      fits = λ z. absurd (w.if-room-eq0.false z);
-      all = λ z. let f : ⊥ = omega arith in absurd f;
-    }
+      | then-room-eq0 w ↦ record {
+        there = c.if-samples-most.false;
+        in_row = omega arith;
+        in_byte = omega arith;
+        fits = λ z. (omega arith, omega arith);
+        all = λ z. inr (w.if-room-eq0.true, ⊎_elim (λ e. inl (omega arith)) (λ e. inr (omega arith)) k.ends);
+      }
+      | else-room-eq0 w ↦ record {
+        there = c.if-samples-most.false;
+        in_row = omega arith;
+        in_byte = omega arith;
+        fits = λ z. absurd (w.if-room-eq0.false z);
+        all = λ z. let f : ⊥ = omega arith in absurd f;
+      }
     ]
