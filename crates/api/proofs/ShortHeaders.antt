@@ -8,7 +8,7 @@ use borrow.Author.Tests.{lt-leb, ne_eqb}
 use lib.Dec.{eqb}
 use lib.ListN.{length, get_or, drop}
 use Rattle.error.specs.Choice.{if}
-use Rattle.error.specs.Answer.{Answer, gives, refuses, bind, map}
+use Rattle.error.specs.Answer.{gives, refuses, bind, map}
 use Rattle.laws.proofs.Lists.{drop_at}
 use Rattle.mbi.specs.Read.{goes, ends, read_byte, read_rest, read_mbi}
 use Rattle.mbi.proofs.Step.{ends_by, goes_by}

@@ -1,10 +1,10 @@
 -- A header ends, or is refused, near the front of its file: with a number below 32 and an offset below 8,192.
 use Prim.Native.Nat.{ℕ, ◌+◌, ◌*◌, ◌/◌, ◌%◌, ◌<◌, ◌≤◌}
-use mathlib.Core.Path.{◌≡◌, ◌∙◌, refl, sym, ap, subst, subst⁻¹}
+use mathlib.Core.Path.{◌≡◌, ◌∙◌, refl, subst⁻¹}
 use mathlib.Core.Bool.{Bool, true, false, ◌&&◌, ◌||◌}
 use mathlib.Core.List.{List, [], ◌∷◌}
 use native.Mathlib.Omega.{arith}
-use borrow.Author.Tests.{eqb-false, leb-false}
+use borrow.Author.Tests.{eqb-false}
 use lib.Dec.{ltb, leb, eqb}
 use Rattle.error.specs.Choice.{if}
 use Rattle.error.specs.Answer.{Answer, gives, refuses, map}
@@ -16,7 +16,7 @@ use Rattle.ext.specs.Internal.Bytewise.{identifier_fault, value_fault}
 use Rattle.header.specs.Settings.{Settings}
 use Rattle.header.specs.Read.{Outline, outline, read_header}
 use Rattle.header_reader.specs.Internal.Machine.{State, in_type, at_fix, in_octets, at_octet, at_pair, in_identifier, in_value, in_width, in_height}
-use Rattle.header_reader.specs.Internal.Machine.{start, Step, more, done, refused, on_byte, resume, step_of, steps, after}
+use Rattle.header_reader.specs.Internal.Machine.{start, Step, more, done, refused, on_byte, step_of, steps, after}
 use Rattle.header_reader.specs.Internal.Represents.{Reachable}
 use Rattle.header_reader.specs.Internal.Pieces.{onward}
 use Rattle.header_reader.proofs.Machine.{steps-cons, steps_all}

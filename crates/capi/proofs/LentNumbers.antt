@@ -1,6 +1,6 @@
 -- What the lent numbers and the output hold after a call.
 use Prim.Native.Nat.{ℕ, ◌+◌, ◌*◌}
-use mathlib.Core.Path.{◌≡◌, sym, ap, ◌∙◌}
+use mathlib.Core.Path.{◌≡◌, ap, ◌∙◌}
 use mathlib.Core.List.{List}
 use native.Mathlib.Omega.{arith}
 use lib.ListN.{length}
@@ -10,12 +10,12 @@ use Rattle.options.specs.Limits.{Decoding, ceiling_of}
 use Rattle.header.specs.Read.{ext_span}
 use Rattle.decoder.specs.Frames.{Image, Decodes, image}
 use Rattle.decoder.specs.declared.DecodedImage.{DecodedImage}
-use Rattle.api.specs.Info.{Info, told, read_info}
+use Rattle.api.specs.Info.{told, read_info}
 use Rattle.api.specs.declared.ImageInfo.{ImageInfo}
 use Rattle.capi.specs.Returned.{packed, held}
 use Rattle.capi.specs.Lent.{fields_kind, fields_start, fields_length, fields_pairs}
 use Rattle.capi.specs.Asked.{read_asked, output_asked}
-use Rattle.capi.specs.Calls.{LentHolds, Informs, Reads}
+use Rattle.capi.specs.Calls.{Informs, Reads}
 use Rattle.capi.specs.declared.numbers.FieldNumbers.{FieldNumbers}
 
 -- a lent number after an answer that is known

@@ -1,7 +1,6 @@
 -- What info and whole reading refuse has a number below 32 and an offset below 8,192, so a refusal packed into a number fits 64 bits.
 use Prim.Native.Nat.{ℕ, ◌-◌, ◌*◌, ◌<◌}
-use mathlib.Core.Path.{◌≡◌, refl, sym, ap, ◌∙◌, subst}
-use mathlib.Core.Bool.{Bool, true, false}
+use mathlib.Core.Bool.{Bool}
 use mathlib.Core.List.{List}
 use native.Mathlib.Omega.{arith}
 use lib.Dec.{ltb, leb}
@@ -9,12 +8,12 @@ use lib.ListN.{length}
 use Rattle.error.specs.Choice.{if}
 use Rattle.error.specs.Answer.{Answer, gives, refuses, bind, map}
 use Rattle.laws.proofs.Tests.{if-elim}
-use Rattle.header.specs.Read.{Outline, outline, read_header}
-use Rattle.options.specs.Limits.{lenient, Decoding, Bound, admits, settled, check_limits}
+use Rattle.header.specs.Read.{Outline}
+use Rattle.options.specs.Limits.{lenient, Decoding, admits, settled, check_limits}
 use Rattle.decoder.specs.Body.{plane_of, frames_in}
 use Rattle.decoder.specs.Image.{image_settings, header_of, test_body, read_image}
-use Rattle.decoder.specs.Frames.{Image, image_of, fitted, decoded, decoded_by}
-use Rattle.api.specs.Info.{Info, info_of, read_info}
+use Rattle.decoder.specs.Frames.{decoded, decoded_by}
+use Rattle.api.specs.Info.{info_of, read_info}
 use Rattle.capi.proofs.HeaderPlaces.{Told, told, Placed, header-placed}
 
 -- of an answer: what it refuses

@@ -1,6 +1,6 @@
 -- An output as long as the file is long enough: reading then answers as the tests of the image do, without 25.
 use Prim.Native.Nat.{ℕ, ◌+◌, ◌*◌, ◌≤◌}
-use mathlib.Core.Path.{◌≡◌, refl, sym, ap, ◌∙◌}
+use mathlib.Core.Path.{◌≡◌, refl}
 use mathlib.Core.List.{List, [], ◌∷◌}
 use native.Mathlib.Omega.{arith}
 use borrow.Author.Tests.{le-leb}
@@ -11,7 +11,7 @@ use Rattle.header.specs.Read.{Outline}
 use Rattle.options.specs.Limits.{Decoding}
 use Rattle.decoder.specs.Body.{plane_of, frames_in}
 use Rattle.decoder.specs.Image.{read_image}
-use Rattle.decoder.specs.Frames.{Image, image_of, fitted, decoded}
+use Rattle.decoder.specs.Frames.{image_of, fitted, decoded}
 use Rattle.decoder.proofs.Fitted.{image-parts, frames-there}
 
 pub room-enough : (more : ℕ) (d : Decoding) (bytes : List ℕ) (room : ℕ) → length bytes ≤ room

@@ -2,8 +2,7 @@
 use Rattle.std.specs.Prelude.{ℕ, ◌≡◌, List, length}
 use Rattle.error.specs.Answer.{Answer}
 use Rattle.options.specs.Limits.{Decoding}
-use Rattle.decoder.specs.Frames.{Image}
-use Rattle.api.specs.Info.{Info, read_info}
+use Rattle.api.specs.Info.{read_info}
 use Rattle.capi.specs.Returned.{packed, held}
 use Rattle.capi.specs.Lent.{fields_kind, fields_start, fields_length, fields_pairs}
 use Rattle.capi.specs.Asked.{read_asked, output_asked}

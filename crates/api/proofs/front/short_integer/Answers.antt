@@ -1,8 +1,7 @@
-use Prim.Native.Nat.{◌+◌, ◌<◌}
+use Prim.Native.Nat.{◌+◌}
 use mathlib.Core.Path.{sym}
 use native.Mathlib.Omega.{arith}
 use lib.Arith.{lt_of_le-ne}
-use lib.ListN.{get_or}
 use Rattle.api.proofs.ShortHeaders.{read_one, read-two}
 use Rattle.api.proofs.front.short_integer.Goals as goal
 
