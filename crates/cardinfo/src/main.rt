@@ -1,57 +1,70 @@
 // Tells of the card on standard input: a header line and its numbers, or its refusal. At most 65,536 bytes are read.
 #![tactic(auto)]
 
+ghost use Rattle.std.specs.Prelude.{◌≤◌, length};
+
 use api::{ImageInfo, InfoRead};
 use error::WbmpError;
+use std::io;
+use std::io::Read;
 
-fn main() {
-    let mut nothing = [0u8; 0];
-    if libc::read(0, &mut nothing) < 0 {
-        io::write_all(2, b"cardinfo: standard input cannot be read\n");
-        return;
+fn main(rt: HostRuntime) -> io::Result<()> {
+    let mut input = rt.stdin();
+    if input.read(&mut []).is_err() {
+        return eprintln!(rt; "cardinfo: standard input cannot be read");
     }
-    let mut space = io::large_buffer();
-    let n = io::read_full(0, &mut space);
-    print_card(&space[..n]);
+    let mut space = [0u8; 65536];
+    let n = read_full(&mut input, &mut space);
+    print_card(&rt, &space[..n])?;
     if n == 65536 {
-        warn_if_longer();
+        warn_if_longer(&rt, &mut input)?;
     }
+    Ok(())
+}
+
+// Reads until `buf` is full or the input ends, and says how many bytes it read. A read that fails midway looks like the end.
+fn read_full(input: &mut impl Read, buf: &mut [u8]) -> usize
+    ensures { result ≤ length buf.new }
+{
+    let mut done = 0;
+    while done < buf.len() {
+        match input.read(&mut buf[done..]) {
+            Ok(0) => break,
+            Ok(n) => done += n,
+            Err(_) => break,
+        }
+    }
+    done
 }
 
 // Says on standard error that bytes are left behind the 65,536 that are read.
-fn warn_if_longer() {
+fn warn_if_longer(rt: &impl Eprint, input: &mut impl Read) -> io::Result<()> {
     let mut next = [0u8; 1];
-    if libc::read(0, &mut next) > 0 {
-        io::write_all(2, b"cardinfo: bytes past 65,536 are not read\n");
+    if read_full(input, &mut next) > 0 {
+        eprintln!(rt; "cardinfo: bytes past 65,536 are not read")?;
     }
+    Ok(())
 }
 
-fn print_card(card: &[u8]) {
+fn print_card(rt: &impl Print, card: &[u8]) -> io::Result<()> {
     match api::info(card) {
-        InfoRead::Info(i) => print_info(i),
-        InfoRead::Refused(e) => print_refusal(e),
+        InfoRead::Info(i) => print_info(rt, i),
+        InfoRead::Refused(e) => print_refusal(rt, e),
     }
 }
 
-fn print_info(i: ImageInfo) {
-    io::write_all(1, b"width height frames body fixheader\n");
-    io::print_decimal(1, i.width as u64);
-    print_next(i.height as u64);
-    print_next(i.frames as u64);
-    print_next(i.data_offset as u64);
-    print_next(i.fix_header as u64);
-    io::write_all(1, b"\n");
+fn print_info(rt: &impl Print, i: ImageInfo) -> io::Result<()> {
+    let width = i.width;
+    let height = i.height;
+    let frames = i.frames;
+    let body = i.data_offset;
+    let fix_header = i.fix_header;
+    println!(rt; "width height frames body fixheader")?;
+    println!(rt; "{width} {height} {frames} {body} {fix_header}")
 }
 
-fn print_refusal(e: WbmpError) {
-    io::write_all(1, b"refused");
-    print_next(e.code as u64);
-    print_next(e.offset as u64);
-    io::write_all(1, b"\n");
-}
-
-// A number after a space.
-fn print_next(n: u64) {
-    io::write_all(1, b" ");
-    io::print_decimal(1, n);
+fn print_refusal(rt: &impl Print, e: WbmpError) -> io::Result<()> {
+    let code = e.code;
+    let offset = e.offset;
+    println!(rt; "refused {code} {offset}")
 }

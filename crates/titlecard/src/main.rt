@@ -6,26 +6,27 @@ use ext::ExtFieldType;
 use ext_write::Parameter;
 use header::ExtPresence;
 use options::EncodeOptions;
+use std::io;
 
-fn main() {
-    let mut out = io::buffer();
+fn main(rt: HostRuntime) -> io::Result<()> {
+    let mut out = [0u8; 4096];
     match make(&mut out) {
-        Written::Bytes(n) => write_front(&out, n),
-        Written::Refused(e) => print_refusal(e),
+        Written::Bytes(n) => write_front(&rt, &out, n),
+        Written::Refused(e) => print_refusal(&rt, e),
     }
 }
 
 // The first n bytes.
-fn write_front(bytes: &[u8], n: usize) {
+fn write_front(rt: &impl Print, bytes: &[u8], n: usize) -> io::Result<()> {
     if n <= bytes.len() {
-        io::write_all(1, &bytes[..n]);
+        rt.write_all(&bytes[..n])?;
     }
+    Ok(())
 }
 
-fn print_refusal(e: WbmpError) {
-    io::write_all(2, b"refused ");
-    io::print_decimal(2, e.code as u64);
-    io::write_all(2, b"\n");
+fn print_refusal(rt: &impl Eprint, e: WbmpError) -> io::Result<()> {
+    let code = e.code;
+    eprintln!(rt; "refused {code}")
 }
 
 // Black is "#" (35), white "o" (111).

@@ -4,20 +4,21 @@ use crate::parts::{behind, front};
 use crate::report;
 use crate::sweep::replay_sweep;
 use crate::tally::Tally;
+use std::io;
 
 // Every part in the block, after its first line.
-pub(crate) fn replay_all(list: &[u8], before: Tally) -> Tally {
+pub(crate) fn replay_all(rt: &impl Print, list: &[u8], before: Tally) -> io::Result<Tally> {
     let mut tally = before.with_next(after_line(list));
     let mut parts: usize = 0;
     while parts < 256 && byte_at(list, tally.next) != 0 {
-        tally = replay_part(list, tally);
+        tally = replay_part(rt, list, tally)?;
         parts += 1;
     }
-    tally
+    Ok(tally)
 }
 
 // A part: the group's name, its operation, whether the group ends with it, and its sweeps.
-fn replay_part(list: &[u8], before: Tally) -> Tally {
+fn replay_part(rt: &impl Print, list: &[u8], before: Tally) -> io::Result<Tally> {
     let size = number(list, before.next);
     let name = front(behind(list, size.next), size.value);
     let operation = number(list, skip(list, size.next, size.value));
@@ -27,17 +28,17 @@ fn replay_part(list: &[u8], before: Tally) -> Tally {
     let mut tally = before.with_next(count.next);
     let mut i = 0;
     while i < sweeps && tally.next < list.len() {
-        tally = replay_sweep(list, name, operation.value, tally);
+        tally = replay_sweep(rt, list, name, operation.value, tally)?;
         i += 1;
     }
-    ended(name, last.value, tally)
+    ended(rt, name, last.value, tally)
 }
 
 // At a group's end its count is printed.
-fn ended(name: &[u8], last: usize, tally: Tally) -> Tally {
+fn ended(rt: &impl Print, name: &[u8], last: usize, tally: Tally) -> io::Result<Tally> {
     if last == 0 {
-        return tally;
+        return Ok(tally);
     }
-    report::count(name, tally.comparisons);
-    tally.with_group()
+    report::count(rt, name, tally.comparisons)?;
+    Ok(tally.with_group())
 }

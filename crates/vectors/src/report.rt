@@ -1,44 +1,39 @@
 // What the program prints.
-use crate::input::byte;
 use crate::parts::front;
+use std::io;
 
 // A name and a number, on a line.
-pub(crate) fn count(name: &[u8], n: usize) {
-    io::write_all(1, name);
-    labelled(b" ", n);
-    io::write_all(1, b"\n");
+pub(crate) fn count(rt: &impl Print, name: &[u8], n: usize) -> io::Result<()> {
+    rt.write_all(name)?;
+    println!(rt; " {n}")
 }
 
 // A wrong answer: its group, sweep and case, and its input's length and front.
-pub(crate) fn wrong(name: &[u8], sweep: usize, case: usize, input: &[u8]) {
-    io::write_all(1, b"WRONG ");
-    io::write_all(1, name);
-    labelled(b", sweep ", sweep);
-    labelled(b", case ", case);
-    labelled(b", length ", input.len());
-    io::write_all(1, b", input");
-    bytes(front(input, 32));
-    io::write_all(1, b"\n");
+pub(crate) fn wrong(
+    rt: &impl Print,
+    name: &[u8],
+    sweep: usize,
+    case: usize,
+    input: &[u8],
+) -> io::Result<()> {
+    let length = input.len();
+    print!(rt; "WRONG ")?;
+    rt.write_all(name)?;
+    print!(rt; ", sweep {sweep}, case {case}, length {length}, input")?;
+    bytes(rt, front(input, 32))?;
+    println!(rt; "")
 }
 
 // Counts in the list that cannot be right.
-pub(crate) fn damaged(name: &[u8], sweep: usize) {
-    io::write_all(1, b"WRONG ");
-    io::write_all(1, name);
-    labelled(b", sweep ", sweep);
-    io::write_all(1, b": the list is damaged\n");
+pub(crate) fn damaged(rt: &impl Print, name: &[u8], sweep: usize) -> io::Result<()> {
+    print!(rt; "WRONG ")?;
+    rt.write_all(name)?;
+    println!(rt; ", sweep {sweep}: the list is damaged")
 }
 
-fn labelled(label: &[u8], n: usize) {
-    io::write_all(1, label);
-    io::print_decimal(1, n as u64);
-}
-
-fn bytes(input: &[u8]) {
-    let mut i = 0;
-    while i < input.len() {
-        io::write_all(1, b" ");
-        io::print_hex(1, byte(input, i) as u64, 2);
-        i += 1;
+fn bytes(rt: &impl Print, input: &[u8]) -> io::Result<()> {
+    for b in input {
+        print!(rt; " {b:02x}")?;
     }
+    Ok(())
 }

@@ -7,6 +7,7 @@ use crate::list::{TEXT, byte_at, number, skip, text};
 use crate::parts::{front, least, put_byte};
 use crate::report;
 use crate::tally::Tally;
+use std::io;
 
 // The most cases of a sweep.
 const CASES: usize = 1048576;
@@ -33,19 +34,26 @@ struct Run {
     tally: Tally,
 }
 
-pub(crate) fn replay_sweep(list: &[u8], name: &[u8], operation: usize, before: Tally) -> Tally {
+pub(crate) fn replay_sweep(
+    rt: &impl Print,
+    list: &[u8],
+    name: &[u8],
+    operation: usize,
+    before: Tally,
+) -> io::Result<Tally> {
     let mut input = [0u8; TEXT];
-    replay_cases(list, name, operation, before, &mut input)
+    replay_cases(rt, list, name, operation, before, &mut input)
 }
 
 // The answers to the cases stand one behind the other, up to the next sweep.
 fn replay_cases(
+    rt: &impl Print,
     list: &[u8],
     name: &[u8],
     operation: usize,
     before: Tally,
     input: &mut [u8],
-) -> Tally {
+) -> io::Result<Tally> {
     let plan = plan_at(list, before.next, input);
     let cases = cases_of(plan);
     let mut run = Run {
@@ -55,25 +63,32 @@ fn replay_cases(
     };
     let mut case = 0;
     while case < cases && run.record < list.len() {
-        run = replay_case(list, name, operation, plan, case, run, input);
+        run = replay_case(rt, list, name, operation, plan, case, run, input)?;
         case += 1;
     }
-    ended(list, name, both(case > 0, case == plan.cases), run)
+    ended(rt, list, name, both(case > 0, case == plan.cases), run)
 }
 
 // A sweep whose counts are not those of its cases, or that goes past its block, is damaged: the rest
 // of the block is left out.
-fn ended(list: &[u8], name: &[u8], whole: bool, run: Run) -> Tally {
+fn ended(
+    rt: &impl Print,
+    list: &[u8],
+    name: &[u8],
+    whole: bool,
+    run: Run,
+) -> io::Result<Tally> {
     let tally = run.tally;
     let next = run.record;
     if whole && run.left == 0 && next < list.len() {
-        return tally.with_sweep(next);
+        return Ok(tally.with_sweep(next));
     }
-    report::damaged(name, tally.sweeps);
-    tally.with_case(0, false).with_sweep(list.len())
+    report::damaged(rt, name, tally.sweeps)?;
+    Ok(tally.with_case(0, false).with_sweep(list.len()))
 }
 
 fn replay_case(
+    rt: &impl Print,
     list: &[u8],
     name: &[u8],
     operation: usize,
@@ -81,14 +96,14 @@ fn replay_case(
     case: usize,
     before: Run,
     input: &mut [u8],
-) -> Run {
+) -> io::Result<Run> {
     spell(list, plan, case, input);
     let run = run_at(list, before);
     let done = replay(list, run.record, operation, front(input, plan.len));
     let earlier = run.tally;
     let tally = earlier.with_case(done.comparisons, done.same);
-    show_wrong(name, case, front(input, plan.len), done.same, tally);
-    used(run, done.next, tally)
+    show_wrong(rt, name, case, front(input, plan.len), done.same, tally)?;
+    Ok(used(run, done.next, tally))
 }
 
 fn plan_at(list: &[u8], start: usize, input: &mut [u8]) -> Plan {
@@ -184,8 +199,16 @@ fn used(run: Run, end: usize, tally: Tally) -> Run {
 }
 
 // A group's first ten wrong cases are shown.
-fn show_wrong(name: &[u8], case: usize, input: &[u8], right: bool, tally: Tally) {
+fn show_wrong(
+    rt: &impl Print,
+    name: &[u8],
+    case: usize,
+    input: &[u8],
+    right: bool,
+    tally: Tally,
+) -> io::Result<()> {
     if !right && tally.wrong <= 10 {
-        report::wrong(name, tally.sweeps, case, input);
+        report::wrong(rt, name, tally.sweeps, case, input)?;
     }
+    Ok(())
 }

@@ -1,0 +1,6 @@
+-- The count is the one asked, or the length.
+use Rattle.vectors.proofs.Fronts.{front-is}
+use Rattle.vectors.proofs.parts.front.Goals as goal
+
+pub returns : goal.returns
+returns c = front-is _ _ _ c.least.ensures.0 c.least.ensures.1.1
