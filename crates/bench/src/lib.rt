@@ -1,5 +1,5 @@
-// Threshold and dithering, sessions, whole making and writing under C names, for tools/bench, which times them. They are no part of
-// include/wbmp.h.
+// Threshold and dithering, sessions, whole making and writing, for tools/bench, which times them: crate bench_c exports them to C. They are
+// no part of include/wbmp.h.
 #![tactic(auto)]
 
 ghost use Rattle.std.specs.Prelude.{◌≡◌};
@@ -12,6 +12,8 @@ use error::Written;
 
 mod sessions;
 
+pub use sessions::{bench_make, bench_make_list, bench_read_list, bench_write};
+
 pub(crate) fn number(w: Written) -> u8
     ensures { result ≡ code_of (written w) }
 {
@@ -21,28 +23,14 @@ pub(crate) fn number(w: Written) -> u8
     }
 }
 
-#[unsafe(no_mangle)]
-pub extern "C" fn bench_threshold(
-    width: u32,
-    height: u32,
-    gray: &[u8],
-    threshold: u8,
-    out: &mut [u8],
-) -> u8
+pub fn bench_threshold(width: u32, height: u32, gray: &[u8], threshold: u8, out: &mut [u8]) -> u8
     ensures { Made (quantized (Threshold threshold) width height gray.now 0) result out.old out.new }
 {
     number(quantize::threshold_bits(width, height, gray, threshold, out))
 }
 
 // `work` has at least 2 × width numbers.
-#[unsafe(no_mangle)]
-pub extern "C" fn bench_dither(
-    width: u32,
-    height: u32,
-    gray: &[u8],
-    work: &mut [i16],
-    out: &mut [u8],
-) -> u8
+pub fn bench_dither(width: u32, height: u32, gray: &[u8], work: &mut [i16], out: &mut [u8]) -> u8
     ensures { Dithered width height gray.now result out.old out.new
         work.old work.new }
 {

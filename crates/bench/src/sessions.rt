@@ -1,4 +1,4 @@
-// Lists of calls on sessions, and whole making and writing, under C names. The lists are those of crate replay: five numbers a call, three
+// Lists of calls on sessions, and whole making and writing. The lists are those of crate replay: five numbers a call, three
 // an answer.
 ghost use Rattle.std.specs.Prelude.{◌≡◌};
 ghost use Rattle.options.specs.Limits.{decoding};
@@ -45,8 +45,7 @@ fn making(dithered: bool) -> EncodeOptions
 
 // Reads a file by the calls of a list on a new session, and says how many were made. `ext` has at least 4,118 bytes; with fewer the
 // session is closed from the start.
-#[unsafe(no_mangle)]
-pub extern "C" fn bench_read_list(
+pub fn bench_read_list(
     inverted: bool,
     calls: &[usize],
     file: &[u8],
@@ -65,8 +64,7 @@ pub extern "C" fn bench_read_list(
 
 // Makes bodies of scans by the calls of a list on a new session without fields, and says how many were made. `work` has at least 2 × width
 // numbers for dithering; where opening is refused the session is closed from the start.
-#[unsafe(no_mangle)]
-pub extern "C" fn bench_make_list(
+pub fn bench_make_list(
     width: u32,
     height: u32,
     dithered: bool,
@@ -97,8 +95,7 @@ pub extern "C" fn bench_make_list(
 }
 
 // Makes a file of so many scans whole, and gives the number of a refusal, 0 where there is none.
-#[unsafe(no_mangle)]
-pub extern "C" fn bench_make(
+pub fn bench_make(
     width: u32,
     height: u32,
     count: usize,
@@ -118,8 +115,7 @@ pub extern "C" fn bench_make(
 }
 
 // Writes a file of so many planes without fields, and gives the number of a refusal, 0 where there is none.
-#[unsafe(no_mangle)]
-pub extern "C" fn bench_write(
+pub fn bench_write(
     width: u32,
     height: u32,
     count: usize,
