@@ -3,4 +3,4 @@ use Rattle.vectors.proofs.Fronts.{behind-is}
 use Rattle.vectors.proofs.parts.behind.Goals as goal
 
 pub returns : goal.returns
-returns c = behind-is _ _ _ c.least.ensures.0 c.least.ensures.1.1
+returns c = behind-is _ _ _ c.least-start.ensures.0 c.least-start.ensures.1.1

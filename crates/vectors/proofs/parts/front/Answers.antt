@@ -3,4 +3,4 @@ use Rattle.vectors.proofs.Fronts.{front-is}
 use Rattle.vectors.proofs.parts.front.Goals as goal
 
 pub returns : goal.returns
-returns c = front-is _ _ _ c.least.ensures.0 c.least.ensures.1.1
+returns c = front-is _ _ _ c.least-end.ensures.0 c.least-end.ensures.1.1
