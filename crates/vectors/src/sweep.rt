@@ -71,13 +71,7 @@ fn replay_cases(
 
 // A sweep whose counts are not those of its cases, or that goes past its block, is damaged: the rest
 // of the block is left out.
-fn ended(
-    rt: &impl Print,
-    list: &[u8],
-    name: &[u8],
-    whole: bool,
-    run: Run,
-) -> io::Result<Tally> {
+fn ended(rt: &impl Print, list: &[u8], name: &[u8], whole: bool, run: Run) -> io::Result<Tally> {
     let tally = run.tally;
     let next = run.record;
     if whole && run.left == 0 && next < list.len() {
