@@ -29,20 +29,6 @@ use Rattle.quantize.proofs.FinishedGrows.{finished-none}
 use Rattle.quantize.proofs.EmittedFinished.{kept}
 use Rattle.quantize.proofs.DiffusionFollows.{diffusion-frame}
 
--- ---- the table
-
-pub tabled-threshold : (rule : Quantize) (t : ℕ) (table : List ℕ) → rule ≡ Threshold t → Tabled rule table
-tabled-threshold rule t table e = subst (λ (r : Quantize). Tabled r table) (sym e) (λ r k. (named-known (Threshold t) r k).1)
-
-pub tabled-dither : (rule : Quantize) (table : List ℕ) → rule ≡ Dither → Tabled rule table
-tabled-dither rule table e = subst (λ (r : Quantize). Tabled r table) (sym e) (λ r k. (named-known Dither r k).1)
-
-pub tabled-ordered : (rule : Quantize) (side : ℕ) (table : List ℕ) → rule ≡ Ordered side → table ≡ number_table (exponent side)
-    → Tabled rule table
-tabled-ordered rule side table e h =
-    subst (λ (r : Quantize). Tabled r table) (sym e)
-    (λ r k. let n = named-known (Ordered side) r k in ap (ordered side) (ap (take (side * side)) h ∙ table-front side n.0) ∙ n.1)
-
 -- ---- the first place
 
 first : (w h frames : ℕ) → 0 ≡ ((frames - frames) * h + 0) * w + 0
