@@ -8,11 +8,10 @@ use native.Mathlib.Omega.{arith}
 use borrow.Author.Tests.{eq-eqb, ne_eqb, lt-ltb, le-ltb, ltb-true, ltb-false}
 use lib.Dec.{ltb, eqb}
 use Rattle.quantize.specs.declared.engine.Quantizer.{Quantizer}
-use Rattle.quantize.specs.declared.engine.Spot.{Spot}
 use Rattle.rules.specs.Rule.{Rule, enough_work}
 use Rattle.quantize.specs.Finished.{Setting, whole_frames}
 use Rattle.quantize.specs.Internal.Place.{At}
-use Rattle.quantize.specs.Internal.Engine.{QuantizerAt, spot_of, room_for, behind_frames}
+use Rattle.quantize.specs.Internal.Engine.{QuantizerAt, room_for, behind_frames}
 use Rattle.quantize.proofs.DotsByRule.{enough-work-same}
 use Rattle.rules.proofs.PlaneBytes.{mod-at, div-at}
 

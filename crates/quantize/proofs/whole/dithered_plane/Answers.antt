@@ -1,4 +1,3 @@
-use Rattle.laws.proofs.Products.{product-below}
 use Rattle.quantize.proofs.PlaneFinished.{quantizes-dither}
 use Rattle.quantize.proofs.whole.dithered_plane.Goals as goal
 
