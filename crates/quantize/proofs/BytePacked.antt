@@ -6,7 +6,6 @@ use mathlib.Core.Logic.{◌⊎◌, ⊎_elim}
 use native.Mathlib.Nat.{mod-lt, div-add-mod', mul-one}
 use native.Mathlib.Numerals.{add-one}
 use native.Mathlib.Omega.{arith}
-use Rattle.image.specs.Geometry.{row_bytes}
 use Rattle.rules.specs.Bits.{appended, digits}
 use Rattle.quantize.specs.Finished.{Setting, Bytewise, count}
 use Rattle.rules.specs.Packed.{padded_bit, byte_at}

@@ -8,11 +8,10 @@ use native.Mathlib.Omega.{arith}
 use borrow.Author.Tests.{eq-eqb, ne_eqb, lt-ltb, le-ltb, ltb-true, ltb-false}
 use lib.Dec.{ltb, eqb}
 use Rattle.quantize.specs.declared.engine.Quantizer.{Quantizer}
-use Rattle.quantize.specs.declared.engine.Spot.{Spot}
 use Rattle.rules.specs.Rule.{Rule, enough_work}
 use Rattle.quantize.specs.Finished.{Setting, whole_frames}
 use Rattle.quantize.specs.Internal.Place.{At}
-use Rattle.quantize.specs.Internal.Engine.{QuantizerAt, spot_of, room_for, behind_frames}
+use Rattle.quantize.specs.Internal.Engine.{QuantizerAt, room_for, behind_frames}
 use Rattle.quantize.proofs.DotsByRule.{enough-work-same}
 use Rattle.rules.proofs.PlaneBytes.{mod-at, div-at}
 
@@ -94,18 +93,3 @@ room-behind q s n work t =
     sym (enough-work-same q.rule q.table q.width work)
     ∙ ap (λ (x : Rule). enough_work x q.width work) (sym t.rule)
     ∙ ap (λ (w : ℕ). enough_work s.rule w work) (sym t.width)
-
--- a test of the place that fails
-pub off-row : (q : Quantizer) (r : Spot) (frames : ℕ) → r ≡ spot_of q → (r.row ≡ 0 → ⊥) → false ≡ behind_frames q frames
-off-row q r frames e h = rw (ne_eqb q.place.row 0 (λ z. h (ap (λ (x : Spot). x.row) e ∙ z)))
-
-pub off-column : (q : Quantizer) (r : Spot) (frames : ℕ) → r ≡ spot_of q → (r.column ≡ 0 → ⊥) → false ≡ behind_frames q frames
-off-column q r frames e h =
-    and-false (eqb q.place.row 0) _ (rw (ne_eqb q.place.column 0 (λ z. h (ap (λ (x : Spot). x.column) e ∙ z))))
-
-pub at-start : (q : Quantizer) (r : Spot) (frames : ℕ) → r ≡ spot_of q → r.row ≡ 0 → r.column ≡ 0
-    → ltb r.frames frames ≡ behind_frames q frames
-at-start q r frames e top left =
-    let p : q.place.row ≡ 0 = ap (λ (x : Spot). x.row) (sym e) ∙ top in
-    let c : q.place.column ≡ 0 = ap (λ (x : Spot). x.column) (sym e) ∙ left in
-    rw (p, c) (ap (λ (x : Spot). ltb x.frames frames) e)

@@ -1,25 +1,22 @@
 -- A new quantizer: nothing is taken, and any numbers may stand in the work buffer.
 -- Assumes nothing.
 use Prim.Native.Nat.{ℕ, ◌+◌, ◌-◌, ◌*◌, ◌/◌, ◌<◌}
-use mathlib.Core.Path.{◌≡◌, refl, sym, ap, ◌∙◌, subst}
+use mathlib.Core.Path.{◌≡◌, refl, sym, ap, ◌∙◌}
 use mathlib.Core.Bool.{true}
 use mathlib.Core.List.{List, [], ◌∷◌, ◌++◌}
 use native.Mathlib.Nat.{zero-mul, zero-mod, zero-div}
 use native.Mathlib.Omega.{arith}
 use lib.IntN.{pos, negsuc}
-use lib.ListN.{length, get_or, take}
+use lib.ListN.{length, get_or}
 use lib.Seq.{take-length}
 use lib.Pow.{pow_pos}
 use Rattle.options.specs.declared.Quantize.{Quantize}
-use Rattle.options.specs.declared.Quantize.TheVariants.{Threshold, Dither, Ordered}
-use Rattle.rules.specs.Ordered.{exponent}
+use Rattle.options.specs.declared.Quantize.TheVariants.{Dither}
 use Rattle.rules.specs.Rule.{Rule, threshold, dither, ordered, rightwards, enough_work}
 use Rattle.quantize.specs.Finished.{Setting, frame, dot_of, finished, setting}
 use Rattle.dither.specs.Internal.Carry.{Carry}
 use Rattle.quantize.specs.Internal.Machine.{machine_bytes}
 use Rattle.dither.specs.Internal.Kernels.{carry_of}
-use Rattle.ordered.specs.Internal.Sides.{number_table}
-use Rattle.ordered.proofs.OrderedNumbers.{table-front}
 use Rattle.quantize.specs.Internal.Engine.{BeginsByte, KeptAfter, QuantizerAfter, Tabled, NewQuantizer}
 use Rattle.laws.proofs.Octets.{octets-by}
 use Rattle.dither.proofs.HeldRange.{Held}
@@ -28,20 +25,6 @@ use Rattle.quantize.proofs.BytePacked.{begun-none}
 use Rattle.quantize.proofs.FinishedGrows.{finished-none}
 use Rattle.quantize.proofs.EmittedFinished.{kept}
 use Rattle.quantize.proofs.DiffusionFollows.{diffusion-frame}
-
--- ---- the table
-
-pub tabled-threshold : (rule : Quantize) (t : ℕ) (table : List ℕ) → rule ≡ Threshold t → Tabled rule table
-tabled-threshold rule t table e = subst (λ (r : Quantize). Tabled r table) (sym e) (λ r k. (named-known (Threshold t) r k).1)
-
-pub tabled-dither : (rule : Quantize) (table : List ℕ) → rule ≡ Dither → Tabled rule table
-tabled-dither rule table e = subst (λ (r : Quantize). Tabled r table) (sym e) (λ r k. (named-known Dither r k).1)
-
-pub tabled-ordered : (rule : Quantize) (side : ℕ) (table : List ℕ) → rule ≡ Ordered side → table ≡ number_table (exponent side)
-    → Tabled rule table
-tabled-ordered rule side table e h =
-    subst (λ (r : Quantize). Tabled r table) (sym e)
-    (λ r k. let n = named-known (Ordered side) r k in ap (ordered side) (ap (take (side * side)) h ∙ table-front side n.0) ∙ n.1)
 
 -- ---- the first place
 

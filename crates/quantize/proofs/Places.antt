@@ -3,7 +3,7 @@
 use Prim.Native.Nat.{ℕ, ◌+◌, ◌-◌, ◌*◌, ◌/◌, ◌%◌, ◌≤◌, ◌<◌}
 use mathlib.Core.Path.{◌≡◌, refl, sym, ap, ◌∙◌}
 use mathlib.Core.Logic.{◌⊎◌, ⊎_elim}
-use native.Mathlib.Nat.{mul-add-div_right, mul-add-mod_self_right, mod-eq_of_lt, mod-lt, div-eq_of_lt, div-add-mod', eq-or-lt_of_le}
+use native.Mathlib.Nat.{mod-lt, div-add-mod', eq-or-lt_of_le}
 use native.Mathlib.Nat.{add-zero, add-mul, one-mul, add_assoc}
 use native.Mathlib.Omega.{arith}
 use Rattle.image.specs.Geometry.{row_bytes}

@@ -7,7 +7,7 @@ use mathlib.Core.Logic.{inl}
 use mathlib.Core.List.{List, [], ◌++◌}
 use native.Mathlib.Nat.{zero-mul, add-zero, zero-add, one-mul, mul_comm}
 use native.Mathlib.Omega.{arith}
-use borrow.Author.Tests.{ne_eqb, eqb-false, le-leb, lt-leb, leb-true}
+use borrow.Author.Tests.{ne_eqb, eqb-false, le-leb, leb-true}
 use lib.Dec.{eqb, leb}
 use lib.IntN.{ℤ}
 use lib.ListN.{length, take, drop, length-take}
@@ -58,34 +58,10 @@ module _ (asked : Quantize) (w h gray work : ℕ) where
       ∙ ap₂ (λ (x y : Bool). tests a b x y (leb (w * h) gray)) r s
       ∙ ap (λ (x : Bool). tests a b c d x) t
 
-  pub refused-width : w ≡ 0 → 8 ≡ refused_by asked w h gray work
-  refused-width e = rw e
-
-  module _ (pw : w ≡ 0 → ⊥) where
-    pub refused-height : h ≡ 0 → 8 ≡ refused_by asked w h gray work
-    refused-height e = rw (ne_eqb w 0 pw, e)
-
-    module _ (ph : h ≡ 0 → ⊥) where
-      pub refused-rule : known_rule asked ≡ false → 29 ≡ refused_by asked w h gray work
-      refused-rule e = rw (ne_eqb w 0 pw, ne_eqb h 0 ph, e)
-
-      module _ (known : known_rule asked ≡ true) where
-        known_is : (d f : Bool) → enough_work rule w work ≡ d → leb (w * h) gray ≡ f
-            → check_scan asked w h gray work ≡ tests false false true d f
-        known_is d f = checked false false true d f (ne_eqb w 0 pw) (ne_eqb h 0 ph) known
-
-        pub refused-work : enough_work rule w work ≡ false → 28 ≡ refused_by asked w h gray work
-        refused-work e = ap code_of (sym (known_is false (leb (w * h) gray) e refl))
-
-        module _ (room : enough_work rule w work ≡ true) where
-          pub refused-gray : gray < w * h → 22 ≡ refused_by asked w h gray work
-          refused-gray l = ap code_of (sym (known_is true false room (lt-leb (w * h) gray l)))
-
-          pub given-rule : w * h ≤ gray → check_scan asked w h gray work ≡ gives rule
-          given-rule l = known_is true true room (le-leb (w * h) gray l)
-
-          pub refused_none : w * h ≤ gray → 0 ≡ refused_by asked w h gray work
-          refused_none l = ap code_of (sym (given-rule l))
+  module _ (pw : w ≡ 0 → ⊥) (ph : h ≡ 0 → ⊥) (known : known_rule asked ≡ true) (room : enough_work rule w work ≡ true) where
+    pub given-rule : w * h ≤ gray → check_scan asked w h gray work ≡ gives rule
+    given-rule l =
+        checked false false true true true (ne_eqb w 0 pw) (ne_eqb h 0 ph) known room (le-leb (w * h) gray l)
 
   -- a refusal has place 0
   pub refused-place : (code : ℕ) → code ≡ refused_by asked w h gray work → (code ≡ 0 → ⊥) → check_scan asked w h gray work ≡ refuses code 0

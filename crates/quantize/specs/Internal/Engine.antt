@@ -1,5 +1,5 @@
 -- What a `Quantizer` stands for, and what `new` and `run` promise.
-use Rattle.std.specs.Prelude.{ℕ, ◌+◌, ◌*◌, ◌/◌, ◌%◌, ◌^◌, ◌≤◌, ◌<◌, ◌≡◌, Bool, true, false, ◌&&◌, List, [], ◌++◌, ltb, eqb, ℤ, pos, length, get_or, take, drop}
+use Rattle.std.specs.Prelude.{ℕ, ◌+◌, ◌/◌, ◌%◌, ◌^◌, ◌≤◌, ◌<◌, ◌≡◌, Bool, true, false, ◌&&◌, List, [], ◌++◌, ltb, eqb, ℤ, pos, length, get_or, take, drop}
 use Rattle.error.specs.Choice.{if}
 use Rattle.error.specs.Answer.{gives}
 use Rattle.options.specs.declared.Quantize.{Quantize}

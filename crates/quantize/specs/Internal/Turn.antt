@@ -5,7 +5,6 @@ use Rattle.options.specs.declared.Quantize.TheVariants.{Threshold, Dither, Order
 use Rattle.dither.specs.declared.dots.RowDots.{RowDots}
 use Rattle.quantize.specs.declared.turn.ByteTaken.{ByteTaken}
 use Rattle.quantize.specs.declared.turn.Place.{Place}
-use Rattle.rules.specs.Bits.{digits}
 use Rattle.rules.specs.Rule.{Rule, threshold, dither, ordered, known_rule, enough_work, rule_named, rule_given}
 use Rattle.quantize.specs.Finished.{Setting}
 use Rattle.quantize.specs.Internal.Machine.{MachineState}

@@ -1,12 +1,9 @@
 use Prim.Native.Nat.{ℕ}
-use mathlib.Core.Path.{refl, sym, subst}
+use mathlib.Core.Path.{refl, subst}
 use native.Mathlib.Omega.{arith}
 use lib.Seq.{length-take-le}
 use Rattle.quantize.specs.Internal.Turn.{Fills}
 use Rattle.quantize.proofs.turn.fill_row.Goals as goal
-
-pub slice_bounds-fill-end-2 : goal.slice_bounds-fill-end-2
-slice_bounds-fill-end-2 c = sym (length-take-le _ _ c.bytes_at_once-k.ensures.0.fits)
 
 pub fill-corner-requires : goal.fill-corner-requires
 fill-corner-requires c =

@@ -7,6 +7,3 @@ pub overflow_cast-result : goal.overflow_cast-result
 overflow_cast-result c =
     let h = shifted-lt c.args.digits c.args.m c.requires.0 c.requires.1 in
     rw (mod-eq_of_lt {m = 4294967296} (lt_trans h (lit< tt))) (record { fits = h })
-
-pub returns : goal.returns
-returns c = mod-eq_of_lt (lt_trans (shifted-lt c.args.digits c.args.m c.requires.0 c.requires.1) (lit< tt))

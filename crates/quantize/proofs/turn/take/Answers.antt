@@ -5,9 +5,6 @@ use Rattle.quantize.proofs.turn.take.Goals as goal
 
 -- `quantize::turn::take` meets its contract.
 -- Assumes nothing.
-pub dots-d-requires : goal.dots-d-requires
-dots-d-requires c = c.requires.dotting
-
 pub advance-requires : goal.advance-requires
 advance-requires c =
     let p = c.requires in

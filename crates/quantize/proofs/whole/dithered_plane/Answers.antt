@@ -1,11 +1,7 @@
-use Rattle.laws.proofs.Products.{product-below}
 use Rattle.quantize.proofs.PlaneFinished.{quantizes-dither}
 use Rattle.quantize.proofs.whole.dithered_plane.Goals as goal
 
 -- `quantize::whole::dithered_plane` meets its contract.
 -- Assumes nothing.
-pub overflow_mul-area : goal.overflow_mul-area
-overflow_mul-area c = record { fits = product-below 32 32 c.ranges.width.fits c.ranges.height.fits }
-
 pub returns : goal.returns
 returns c = quantizes-dither _ _ _ _ _ c.requires.0 c.requires.1 _ _ c.dither_plane.ensures c.plane_bytes.ensures

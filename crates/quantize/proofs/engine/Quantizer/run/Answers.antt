@@ -2,7 +2,7 @@ use Prim.Native.Nat.{ℕ, ◌+◌, ◌-◌, ◌*◌, ◌≤◌, ◌<◌}
 use mir.Syntax.{w8}
 use mir.Val.{Fits}
 use mathlib.Core.List.{List}
-use mathlib.Core.Logic.{inl, inr, ⊎_elim}
+use mathlib.Core.Logic.{inl, inr}
 use native.Mathlib.Omega.{arith}
 use borrow.Rule.Slice.PartMut.{put_mid}
 use lib.ListN.{length, get_or}
@@ -47,12 +47,6 @@ mid f =
     f.loop-p.taken f.loop-p.written f.loop-p.invariant f.loop-p-test.true (by_bytes q f.loop-p.p.row)
     r.result r.new.out r.new.work r.ensures
 
-pub can_take-requires : goal.can_take-requires
-can_take-requires c = tt
-
-pub ran-requires : goal.ran-requires
-ran-requires c = tt
-
 pub returns-then-not-can_take : goal.returns-then-not-can_take
 returns-then-not-can_take c =
     let a = c.args in
@@ -68,17 +62,11 @@ slice_bounds-fill_row-count c = c.loop-p.invariant.taken_fits
 pub slice_bounds-fill_row-start : goal.slice_bounds-fill_row-start
 slice_bounds-fill_row-start c = c.loop-p.invariant.taken_fits
 
-pub slice_bounds-fill_row-end : goal.slice_bounds-fill_row-end
-slice_bounds-fill_row-end c = omega arith
-
 pub slice_bounds-fill_row-count-in-loop-p : goal.slice_bounds-fill_row-count-in-loop-p
 slice_bounds-fill_row-count-in-loop-p c = let i = c.loop-p.invariant in omega (arith, i.written_fits, i.out_long)
 
 pub slice_bounds-fill_row-start-in-loop-p : goal.slice_bounds-fill_row-start-in-loop-p
 slice_bounds-fill_row-start-in-loop-p c = let i = c.loop-p.invariant in omega (arith, i.written_fits, i.out_long)
-
-pub slice_bounds-fill_row-end-in-loop-p : goal.slice_bounds-fill_row-end-in-loop-p
-slice_bounds-fill_row-end-in-loop-p c = omega arith
 
 pub fill_row-f-requires : goal.fill_row-f-requires
 fill_row-f-requires c =
@@ -109,9 +97,6 @@ overflow_sub-out c = let i = mid (goal.at.overflow_sub-out c).After-fill_row-f i
 pub samples_for_byte-m-requires : goal.samples_for_byte-m-requires
 samples_for_byte-m-requires c = (mid (goal.at.samples_for_byte-m-requires c).After-fill_row-f).turn.sound.in_row
 
-pub ran-requires-then-m-eq0 : goal.ran-requires-then-m-eq0
-ran-requires-then-m-eq0 c = tt
-
 pub shape_of-out-then-m-eq0 : goal.shape_of-out-then-m-eq0
 shape_of-out-then-m-eq0 c = (mid (goal.at.shape_of-out-then-m-eq0 c).After-fill_row-f).out_long
 
@@ -135,12 +120,6 @@ there e =
 
 pub overflow_add-end : goal.overflow_add-end
 overflow_add-end c = omega (arith, there c, c.well_formed)
-
-pub slice_bounds-take-count : goal.slice_bounds-take-count
-slice_bounds-take-count c = omega arith
-
-pub slice_bounds-take-start : goal.slice_bounds-take-start
-slice_bounds-take-start c = omega arith
 
 pub slice_bounds-take-end : goal.slice_bounds-take-end
 slice_bounds-take-end c = there (goal.at.slice_bounds-take-end c).Else-m-eq0
@@ -174,9 +153,6 @@ loop-p-preserved c =
     _ _ c.take-t.ensures
     (by_bytes c.args.self c.loop-p.p.row) _ _
     (elim c.if-t.branch [ then-t w ↦ inl (w.if-t.true, w.out-is, w.written-is) | else-t w ↦ inr (w.if-t.false, w.out-is, w.written-is) ])
-
-pub ran-requires-2 : goal.ran-requires-2
-ran-requires-2 c = tt
 
 pub shape_of-out : goal.shape_of-out
 shape_of-out c = c.loop-p.invariant.out_long
