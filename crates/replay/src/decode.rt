@@ -97,7 +97,7 @@ fn make_call(
     }
 }
 
-// RunsCalls the calls on a session.
+// Runs the calls on a session.
 pub fn replay_decode(
     session: DecodeSession,
     calls: &[usize],

@@ -102,7 +102,7 @@ fn make_call(
     }
 }
 
-// RunsCalls the calls on a session.
+// Runs the calls on a session.
 pub fn replay_encode(
     session: EncodeSession,
     calls: &[usize],
