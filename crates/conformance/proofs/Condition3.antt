@@ -12,7 +12,6 @@ use Rattle.error.specs.Emits.{Emits}
 use Rattle.laws.proofs.Answers.{bind-gives, unless}
 use Rattle.laws.proofs.Emitted.{emitted-is}
 use Rattle.header.specs.Write.{presented}
-use Rattle.options.specs.Limits.{Decoding, ceiling_of}
 use Rattle.quantize.specs.Finished.{setting, finished}
 use Rattle.quantize.proofs.FramesJoined.{finished-frames}
 use Rattle.encoder.specs.Make.{file_of_scans}

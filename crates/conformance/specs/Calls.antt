@@ -1,5 +1,5 @@
 -- What the functions of src/lib.rt promise: the calls that they make are lists of which condition 3 speaks.
-use Rattle.std.specs.Prelude.{ℕ, ◌*◌, ◌≡◌, false, List, [], ◌∷◌, ℤ, length, take, drop}
+use Rattle.std.specs.Prelude.{ℕ, ◌≡◌, false, List, [], ◌∷◌, ℤ, length, take, drop}
 use Rattle.error.specs.Answer.{gives, refuses, written, checked}
 use Rattle.error.specs.Emits.{Emits}
 use Rattle.options.specs.Limits.{Decoding}

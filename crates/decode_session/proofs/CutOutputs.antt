@@ -14,7 +14,7 @@ use Rattle.decoder.specs.Image.{image_settings, read_image}
 use Rattle.decoder.specs.Frames.{frames_of}
 use Rattle.decode_session.specs.Sequence.{sequence}
 use Rattle.header_pieces.specs.Extension.{field_bytes}
-use Rattle.decode_session.specs.Model.{nothing, met_at, Model, Call, feed, close, Told, frames, Reply, takes, grown, written, stored}
+use Rattle.decode_session.specs.Model.{nothing, Model, Call, feed, close, Told, frames, Reply, takes, grown, written, stored}
 use Rattle.decode_session.specs.Model.{outcome, replies}
 use Rattle.decode_session.specs.Trace.{bytes_of, joined, took_of, is_met, Cut, part, taken}
 use Rattle.decode_session.specs.Trace as Traces

@@ -14,7 +14,7 @@ use Rattle.replay.specs.declared.call.Named.{Named}
 use Rattle.replay.specs.declared.call.Named.TheVariants.{Close, Feed}
 use Rattle.replay.specs.declared.call.NextCall.{NextCall}
 use Rattle.replay.specs.declared.call.Lending.{Lending}
-use Rattle.replay.specs.Calls.{name_of, room_of, has_parts, is_there, named, Fits, Tests, There, Goes, Nexts}
+use Rattle.replay.specs.Calls.{room_of, has_parts, is_there, named, Tests, There, Goes, Nexts}
 
 -- ---- the parts are there
 

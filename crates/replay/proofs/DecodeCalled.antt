@@ -17,7 +17,7 @@ use Rattle.replay.specs.declared.call.Named.{Named}
 use Rattle.replay.specs.declared.call.Named.TheVariants.{Close, Feed}
 use Rattle.replay.specs.declared.call.Lending.{Lending}
 use Rattle.replay.specs.Calls.{three_of}
-use Rattle.replay.specs.Decode.{numbers_of, output, FeedsPart, MakesCall}
+use Rattle.replay.specs.Decode.{numbers_of, FeedsPart, MakesCall}
 use Rattle.replay.proofs.Parts.{size_is, part-long, put_is}
 
 -- a feeding call over parts

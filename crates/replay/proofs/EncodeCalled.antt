@@ -21,7 +21,7 @@ use Rattle.replay.specs.declared.call.Named.{Named}
 use Rattle.replay.specs.declared.call.Named.TheVariants.{Close, Feed}
 use Rattle.replay.specs.declared.call.Lending.{Lending}
 use Rattle.replay.specs.Calls.{three_of}
-use Rattle.replay.specs.Encode.{numbers_of, output}
+use Rattle.replay.specs.Encode.{numbers_of}
 use Rattle.replay.specs.Encode.{FeedsPart, Tracks, MakesCall}
 use Rattle.replay.proofs.WorkLeft.{same-leaves}
 use Rattle.replay.proofs.EncodeFed.{fed-tells, fed-leaves, fed-tracks, fed-calls}

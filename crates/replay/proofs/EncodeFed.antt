@@ -1,6 +1,6 @@
 -- A feeding call of a run on a making session: what its model says of it.
 -- Assumes nothing.
-use Prim.Native.Nat.{ℕ, ◌+◌, ◌-◌, ◌*◌, ◌≤◌}
+use Prim.Native.Nat.{ℕ, ◌+◌, ◌-◌, ◌≤◌}
 use mathlib.Core.Path.{◌≡◌, refl, sym, ap, subst, ◌∙◌}
 use mathlib.Core.Bool.{true}
 use mathlib.Core.List.{List, ◌++◌}
@@ -27,7 +27,7 @@ use Rattle.replay.specs.declared.call.ThreeNumbers.{ThreeNumbers}
 use Rattle.replay.specs.declared.call.Lending.{Lending}
 use Rattle.replay.specs.declared.encode.Called.{Called}
 use Rattle.replay.specs.Calls.{three_of}
-use Rattle.replay.specs.Encode.{numbers_of, output, kept_by, Leaves}
+use Rattle.replay.specs.Encode.{numbers_of, kept_by, Leaves}
 use Rattle.replay.specs.Encode.{FeedsPart, Tells, Tracks, CallsAs}
 use Rattle.replay.proofs.CarriedFront.{behind, carried-front}
 use Rattle.replay.proofs.WorkLeft.{drop-front, none-taken, took, next-same, same-leaves}

@@ -7,7 +7,7 @@ use native.Mathlib.Numerals.{add-one}
 use native.Mathlib.Omega.{arith}
 use borrow.Rule.Slice.PartMut.{mid_of, put_mid, Post-is, mid_len}
 use lib.ListN.{length, take, drop, set, length-append, length-drop}
-use lib.Seq.{sets-eq, length-take-le, take_at, drop_at, drop-append-add, drop-drop}
+use lib.Seq.{sets-eq, length-take-le, take_at, drop_at, drop-drop}
 use Rattle.replay.specs.Calls.{replaced}
 
 -- three stores

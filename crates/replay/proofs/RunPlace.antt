@@ -9,7 +9,7 @@ use lib.Seq.{take_all, take_at, drop_at, drop-drop}
 use Rattle.replay.specs.declared.call.Named.{Named}
 use Rattle.replay.specs.declared.call.Named.TheVariants.{Close, Feed}
 use Rattle.replay.specs.declared.call.NextCall.{NextCall}
-use Rattle.replay.specs.Calls.{room_of, lent_of, named, room_in, Within, concat_map, over, Spares, There, Goes, Nexts, replaced}
+use Rattle.replay.specs.Calls.{room_of, lent_of, named, room_in, Within, concat_map, Spares, There, Goes, Nexts, replaced}
 use Rattle.replay.proofs.Parts.{replaced-behind, replaced-long}
 
 -- ---- lists that grow at their end

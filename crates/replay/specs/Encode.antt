@@ -1,5 +1,5 @@
 -- A run of calls on a making session: what the plain machine replies to the calls that the numbers name.
-use Rattle.std.specs.Prelude.{ℕ, ◌*◌, ◌≡◌, true, false, List, [], ◌∷◌, ◌++◌, ℤ, length, take, drop}
+use Rattle.std.specs.Prelude.{ℕ, ◌≡◌, true, false, List, [], ◌∷◌, ◌++◌, ℤ, length, take, drop}
 use Rattle.error.specs.Answer.{Answer, gives, refuses}
 use Rattle.rules.specs.Rule.{carries}
 use Rattle.quantize.specs.Internal.Machine.{MachineState, carried}
