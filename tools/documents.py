@@ -25,12 +25,12 @@ def tell(place, what):
     print(f"{place}: {what}")
 
 
-LISTED = [line.split(":") for line in read("crates.txt").splitlines() if ":" in line and line[0] != "#"]
+LISTED = [(name.split()[0], deps) for name, deps in (line.split(":") for line in read("crates.txt").splitlines() if ":" in line and line[0] != "#")]
 CRATES = [name for name, _ in LISTED]
 GROUPS = [line.rsplit(" ", 1)[0] for line in read("crates/vectors/stdout").splitlines()]
 CODE = "\n".join(read(p) for p in glob.glob("crates/*/src/**/*.rt", recursive=True))
 MODULE = re.compile(
-    r"(?<![\w/·])(%s)/(?:(?:specs|proofs)/(?:Internal/)?)?([A-Z]\w*)(?:\.(?!antt\b)([A-Za-z][\w-]*′?))?" % "|".join(CRATES))
+    r"(?<![\w/·])(%s)/(?:(?:specs|proofs)/(?:Internal/)?)?([A-Z]\w*)(?:\.(?!antt\b)([A-Za-z][\w-]*'?))?" % "|".join(CRATES))
 PATH = re.compile(r"(?<![\w/.-])((?:crates|tools|docs|examples|include|\.ci)/[\w./*-]*[\w*])")
 
 
@@ -41,7 +41,7 @@ def module(crate, name):
 
 
 def defines(text, name):
-    return re.search(r"^\s*(?:(?:abbrev|unfoldable|pub|record|data|module|\|)\s+)*%s(?![\w′-])" % re.escape(name), text, re.M)
+    return re.search(r"^\s*(?:(?:abbrev|unfoldable|pub|record|data|module|\|)\s+)*%s(?![\w'-])" % re.escape(name), text, re.M)
 
 
 def declared(name):
@@ -75,7 +75,7 @@ def check_names(place, cell, homes):
             last = (homes[0][0], beside[1])
             if not defines(module(*last), beside[2]):
                 tell(place, f"no {token}")
-        elif re.fullmatch(r"[A-Za-z][\w-]*′?(\.\w+)?", token):
+        elif re.fullmatch(r"[A-Za-z][\w-]*'?(\.\w+)?", token):
             bodies = [b for b in (module(*h) for h in ([last] if last else []) + homes) if b]
             if bodies and not any(defines(b, token.split(".")[-1]) for b in bodies):
                 tell(place, f"no {token}")
