@@ -47,7 +47,7 @@ def defines(text, name):
 def declared(name):
     """Whether the code has a crate, function, type, constant or case of this name, or a method Type::name."""
     last = name.split("::")[-1]
-    return last in CRATES or re.search(r"\b(?:fn|struct|enum|const|mod) %s\b|^    %s(?:\(|,| \{)" % (last, last), CODE, re.M)
+    return last in CRATES or re.search(r"\b(?:fn|struct|enum|trait|type|const|mod) %s\b|^    %s(?:\(|,| \{)" % (last, last), CODE, re.M)
 
 
 def check_text(place, text):
@@ -117,10 +117,13 @@ def check_rows(path):
 
 
 def check_numbers():
-    """The numbers of refusals, by their constants."""
-    numbers = dict(re.findall(r"pub const (\w+): u8 = (\d+);", read("crates/error/src/lib.rt")))
+    """The numbers of refusals, by their cases, which C has in capitals."""
+    cases = re.search(r"enum Refusal \{(.*?)\n\}", read("crates/error/src/lib.rt"), re.S)[1]
+    names = re.findall(r"^    (\w+)(?: = 1)?,", cases, re.M)
+    numbers = {name: str(i) for i, name in enumerate(names, 1)}
+    capitals = {re.sub(r"(?<=[a-z])(?=[A-Z0-9])", "_", n).upper(): k for n, k in numbers.items()}
     for name, number in re.findall(r"#define WBMP_(\w+) (\d+) +/\*", read("include/wbmp.h")):
-        if numbers.get(name) != number:
+        if capitals.get(name) != number:
             tell("include/wbmp.h", f"{name} is not {number}")
     rows = re.findall(r"^\| ([\d, ]+) \| ([`\w, ]+) \|", read("docs/REFUSALS.md"), re.M)
     told = {n.strip("` "): k.strip() for ks, ns in rows for k, n in zip(ks.split(","), ns.split(","))}
@@ -165,7 +168,9 @@ if "--write" in sys.argv:
         f.write(present(readme))
 elif present(readme) != readme:
     tell("README.md", "the graph of crates or the table of definitions is not the present one")
-for document in ["README.md"] + sorted(glob.glob("docs/**/*.md", recursive=True)):
+# Two pages tell of what was.
+PAST = {"docs/PORT.md", "docs/DESIGN-PASS.md"}
+for document in ["README.md"] + sorted(set(glob.glob("docs/**/*.md", recursive=True)) - PAST):
     check_text(document, read(document))
 check_rows("docs/TRACEABILITY.md")
 check_numbers()

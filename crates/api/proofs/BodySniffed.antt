@@ -10,7 +10,8 @@ use lib.Dec.{leb}
 use lib.ListN.{length}
 use Rattle.laws.proofs.Tests.{if-elim}
 use Rattle.image.proofs.PlaneSizes.{stride-is, total-is}
-use Rattle.image.specs.Geometry.{row_bytes, layout_of}
+use Rattle.image.specs.Geometry.{row_bytes}
+use Rattle.image.specs.Layout.{layout_of}
 use Rattle.image.specs.declared.PlaneLayout.{PlaneLayout}
 use Rattle.api.specs.Sniff.{are_clear, sniff_length, sniff_body}
 use Rattle.api.specs.declared.Sniffed.{Sniffed}

@@ -2,11 +2,12 @@
 use Prim.Native.Nat.{ℕ, ◌+◌, ◌-◌, ◌*◌, ◌%◌, ◌≤◌, ◌<◌}
 use mathlib.Core.Path.{◌≡◌, ap, ◌∙◌}
 use mathlib.Core.Bool.{true, false}
-use mathlib.Core.List.{List}
+use mathlib.Core.List.{List, ◌∷◌}
 use native.Mathlib.Omega.{arith}
-use borrow.Author.Tests.{lt-leb, ne_eqb}
+use borrow.Author.Tests.{lt-leb}
 use lib.Dec.{eqb}
 use lib.ListN.{length, get_or, drop}
+use Rattle.std.proofs.Common.{Option, Some, None}
 use Rattle.error.specs.Choice.{if}
 use Rattle.error.specs.Answer.{gives, refuses, bind, map}
 use Rattle.laws.proofs.Lists.{drop_at}
@@ -14,11 +15,10 @@ use Rattle.mbi.specs.Read.{goes, ends, read_byte, read_rest, read_mbi}
 use Rattle.mbi.proofs.Step.{ends_by, goes_by}
 use Rattle.ext.specs.Kinds.{absent, kind_bits}
 use Rattle.header.specs.Settings.{inner}
-use Rattle.header.specs.Read.{outline, read_header, read_fix, read_after_fix, outline_sizes, outline_height, sized}
+use Rattle.header.specs.Read.{outline, read_header, read_fix, read_after_fix, outline_sizes, outline_height}
 use Rattle.header.proofs.HeaderParts.{no_fields}
 use Rattle.api.specs.declared.front.Front.{Front}
-use Rattle.api.specs.declared.front.Front.TheVariants.{Sizes, Unread}
-use Rattle.api.specs.Internal.Parts.{plain, Heights, Fronts}
+use Rattle.api.specs.Internal.Parts.{Heights, Fronts}
 
 -- ---- an integer of one or two bytes, and 81 80 00
 
@@ -58,44 +58,39 @@ module _ (s : List ℕ) (at : ℕ) where
       (ap (λ (t : List ℕ). read_rest true t (at + 1) (get_or s at 0 - 128) 1) (drop_at s (at + 1) h)
       ∙ rw (byte-second (at + 1) (get_or s at 0 - 128) (get_or s (at + 1) 0) (omega arith) m, read_rest))
 
-  pub read-largest : at + 2 < length s → get_or s at 0 ≡ 129 → get_or s (at + 1) 0 ≡ 128 → get_or s (at + 2) 0 ≡ 0
-      → read_mbi true s at ≡ gives (16384, at + 3)
+  pub read-largest : (rest : List ℕ) → drop at s ≡ 129 ∷ 128 ∷ 0 ∷ rest → read_mbi true s at ≡ gives (16384, at + 3)
   unfolding read_rest
-  read-largest h k l m =
-      let p : at < length s = omega arith in
-      let q : at + 1 < length s = omega arith in
-      let e : at + 1 + 1 ≡ at + 2 = omega arith in
-      let f : at + 2 + 1 ≡ at + 3 = omega arith in
-      ap (λ (t : List ℕ). read_rest true t at 0 0) (drop_at s at p)
-      ∙ rw (k, byte-goes at 129 (omega arith) (omega arith), read_rest)
-      (ap (λ (t : List ℕ). read_rest true t (at + 1) 1 1) (drop_at s (at + 1) q)
-      ∙ rw (l, byte-middle (at + 1), read_rest)
-      (ap (λ (n : ℕ). read_rest true (drop n s) n 128 2) e
-      ∙ ap (λ (t : List ℕ). read_rest true t (at + 2) 128 2) (drop_at s (at + 2) h)
-      ∙ rw (m, byte-third (at + 2), read_rest) (ap (λ (n : ℕ). gives (16384, n)) f)))
-
--- ---- the sizes
-
-pub sizes-read : (s : List ℕ) (w at h b : ℕ) → (w ≡ 0 → ⊥) → (h ≡ 0 → ⊥) → read_mbi true s at ≡ gives (h, b)
-    → outline_height true s 0 absent (w, at) ≡ gives (plain w h b)
-sizes-read s w at h b p q e = ap (λ x. bind x (sized 0 absent w)) e ∙ rw (ne_eqb w 0 p, ne_eqb h 0 q)
+  read-largest rest k =
+      let e : at + 1 + 1 + 1 ≡ at + 3 = omega arith in
+      ap (λ (t : List ℕ). read_rest true t at 0 0) k
+      ∙ rw (byte-goes at 129 (omega arith) (omega arith), read_rest)
+      (rw (byte-middle (at + 1), read_rest) (rw (byte-third (at + 1 + 1), read_rest) (ap (λ (n : ℕ). gives (16384, n)) e)))
 
 -- ---- 00 00 before them
 
-module _ (s : List ℕ) (long : 2 ≤ length s) (type : get_or s 0 0 ≡ 0) (fix : get_or s 1 0 ≡ 0) where
+module _ (s rest : List ℕ) (starts : s ≡ 0 ∷ 0 ∷ rest) where
+  long : 2 ≤ length s
+  long = rw starts (omega arith)
+
+  type : get_or s 0 0 ≡ 0
+  type = rw starts
+
+  fix : get_or s 1 0 ≡ 0
+  fix = rw starts
+
   after-fix : map outline (read_after_fix (inner true) s 0 2) ≡ outline_sizes true s 0 absent 2
   after-fix = no_fields (inner true) s 0 2 false (kind_bits 0)
 
   fix-read : map outline (read_fix (inner true) s 1) ≡ outline_sizes true s 0 absent 2
-  fix-read = rw (lt-leb (length s) 1 (omega arith), fix) after-fix
+  fix-read = rw (lt-leb (length s) 1 (omega (arith, long)), fix) after-fix
 
   pub front_read : map outline (read_header (inner true) s) ≡ outline_sizes true s 0 absent 2
   unfolding read_header
   front_read =
       ap (λ x. map outline (bind x (λ t. if (eqb t.0 0) (read_fix (inner true) s t.1) (refuses 5 t.1))))
-      (read_one s 0 (omega arith) (omega arith))
+      (read_one s 0 (omega (arith, long)) (omega (arith, type)))
       ∙ rw type fix-read
 
-  pub front-on : (r : Front) (w at : ℕ) → read_mbi true s 2 ≡ gives (w, at) → Heights s w at r → Fronts s r
-  front-on (Sizes v h b) w at e k = front_read ∙ ap (λ x. bind x (outline_height true s 0 absent)) e ∙ k
-  front-on Unread w at e k = tt
+  pub front-on : (r : Option Front) (w at : ℕ) → read_mbi true s 2 ≡ gives (w, at) → Heights s w at r → Fronts s r
+  front-on (Some f) w at e k = front_read ∙ ap (λ x. bind x (outline_height true s 0 absent)) e ∙ k
+  front-on None w at e k = tt

@@ -1,13 +1,13 @@
 -- What is told of a file without reading its dots (document 01, api.rs): "`info` tests no limit and says 1 frame when the body is short."
-use Rattle.std.specs.Prelude.{ℕ, List, length}
-use Rattle.error.specs.Answer.{Answer, gives, map, refusal}
-use Rattle.ext.specs.Kinds.{Span}
-use Rattle.header.specs.Read.{Outline, ext_span}
+use Rattle.std.specs.Prelude.{ℕ, List, length, Result}
+use Rattle.error.specs.declared.WbmpError.{WbmpError}
+use Rattle.error.specs.Answer.{Answer, map, answered}
+use Rattle.ext.specs.Kinds.{Span, ext_span}
+use Rattle.header.specs.Read.{Outline}
 use Rattle.options.specs.Limits.{lenient}
 use Rattle.decoder.specs.Body.{frames_in}
 use Rattle.decoder.specs.Image.{header_of}
 use Rattle.api.specs.declared.ImageInfo.{ImageInfo}
-use Rattle.api.specs.declared.InfoRead.{InfoRead}
 
 pub record Info : Type 0 where
   pub width : ℕ
@@ -39,6 +39,5 @@ told i =
       body = i.data_offset;
     }
 
-abbrev pub meaning : InfoRead → Answer Info
-meaning (InfoRead.Info i) = gives (told i)
-meaning (InfoRead.Refused e) = refusal e
+abbrev pub meaning : Result ImageInfo WbmpError → Answer Info
+meaning r = map told (answered r)

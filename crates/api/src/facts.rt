@@ -3,9 +3,10 @@ ghost use Rattle.std.specs.Prelude.{◌≡◌};
 ghost use Rattle.header.specs.Read.{parsed};
 ghost use Rattle.api.specs.Info.{told, info_of, meaning, read_info};
 
-use crate::{ImageInfo, InfoRead};
+use crate::ImageInfo;
 use decoder::MAX_ANIMATED_IMAGES;
-use header::{HeaderRead, ParsedHeader};
+use error::Result;
+use header::ParsedHeader;
 use image::PlaneLayout;
 
 // What a header tells of a file of so many bytes.
@@ -14,25 +15,22 @@ fn image_info(size: usize, h: ParsedHeader) -> ImageInfo
 {
     let layout = PlaneLayout::new(h.width, h.height);
     let plane = layout.total_bytes;
-    let start = h.data_offset;
-    let ext_fields = h.ext_fields;
-    let extra = decoder::animated_frame_count(size, start, plane, MAX_ANIMATED_IMAGES);
+    let extra = decoder::animated_frame_count(size, h.data_offset, plane, MAX_ANIMATED_IMAGES);
     ImageInfo {
         width: h.width,
         height: h.height,
         frames: 1 + extra as u32,
         fix_header: h.fix_header,
-        ext_fields,
-        data_offset: start,
+        ext_fields: h.ext_fields,
+        data_offset: h.data_offset,
     }
 }
 
 // Read leniently and without limits; 1 frame where the body is short.
-pub fn info(bytes: &[u8]) -> InfoRead
+#[tactic(auto, unfolding(crate::specs::Info::read_info))]
+pub fn info(bytes: &[u8]) -> Result<ImageInfo>
     ensures { meaning result ≡ read_info bytes.now }
 {
-    match header::parse_header_ext_inner(bytes, false) {
-        HeaderRead::Header(h) => InfoRead::Info(image_info(bytes.len(), h)),
-        HeaderRead::Refused(e) => InfoRead::Refused(e),
-    }
+    let h = header::parse_header_ext_inner(bytes, false)?;
+    Ok(image_info(bytes.len(), h))
 }

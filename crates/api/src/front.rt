@@ -3,143 +3,85 @@
 ghost use Rattle.std.specs.Prelude.{◌≡◌, ◌≤◌, length};
 ghost use Rattle.api.specs.Internal.Parts.{ShortReads, Heights, Fronts, front_in};
 
-use header::HeaderRead;
-
-// The sizes and the offset after them, where they were read.
-#[derive(Drop)]
-pub(crate) enum Front {
-    Sizes {
-        width: u32,
-        height: u32,
-        start: usize,
-    },
-    Unread,
+// The sizes and the offset after them.
+#[derive(Clone, Copy)]
+pub(crate) struct Front {
+    pub width: u32,
+    pub height: u32,
+    pub start: usize,
 }
 
-// An integer and the offset after it.
-#[derive(Drop)]
-enum Short {
-    Value { value: u32, next: usize },
-    Longer,
-}
-
-// The integer 16384, the largest that sniffing takes for a size: 81 80 00.
-fn largest_size(bytes: &[u8], at: usize) -> Short
+// The integer 16384, the largest that sniffing takes for a size: 81 80 00. The offset after it stands beside it.
+fn largest_size(bytes: &[u8], at: usize) -> Option<(u32, usize)>
     requires { at ≤ length bytes.now }
     ensures { ShortReads bytes.now at result }
 {
-    if bytes.len() - at < 3 {
-        return Short::Longer;
+    if !bytes[at..].starts_with(&[0x81, 0x80, 0x00]) {
+        return None;
     }
-    if bytes[at] != 129 {
-        return Short::Longer;
-    }
-    if bytes[at + 1] != 128 {
-        return Short::Longer;
-    }
-    if bytes[at + 2] != 0 {
-        return Short::Longer;
-    }
-    Short::Value {
-        value: 16384,
-        next: at + 3,
-    }
+    Some((16384, at + 3))
 }
 
-// An integer of one or two bytes in its smallest encoding, or 16384.
-fn short_integer(bytes: &[u8], at: usize) -> Short
+// An integer of one or two bytes in its smallest encoding, or 16384, and the offset after it.
+fn short_integer(bytes: &[u8], at: usize) -> Option<(u32, usize)>
     ensures { ShortReads bytes.now at result }
 {
-    if bytes.len() <= at {
-        return Short::Longer;
-    }
-    let first = bytes[at] as u32;
+    let first = u32::from(*bytes.get(at)?);
     let next = at + 1;
     if first < 128 {
-        return Short::Value { value: first, next };
+        return Some((first, next));
     }
+    let second = u32::from(*bytes.get(next)?);
     if first == 128 {
-        return Short::Longer;
+        return None;
     }
-    if bytes.len() <= next {
-        return Short::Longer;
-    }
-    let second = bytes[next] as u32;
     if second >= 128 {
         return largest_size(bytes, at);
     }
-    Short::Value {
-        value: (first - 128) * 128 + second,
-        next: next + 1,
-    }
+    Some(((first - 128) * 128 + second, next + 1))
 }
 
 // The height, after the width.
-fn short_height(bytes: &[u8], width: u32, at: usize) -> Front
+fn short_height(bytes: &[u8], width: u32, at: usize) -> Option<Front>
     ensures { Heights bytes.now width at result }
 {
-    if width == 0 {
-        return Front::Unread;
+    let (height, start) = short_integer(bytes, at)?;
+    if width == 0 || height == 0 {
+        return None;
     }
-    match short_integer(bytes, at) {
-        Short::Value { value, next } => {
-            if value == 0 {
-                return Front::Unread;
-            }
-            Front::Sizes {
-                width,
-                height: value,
-                start: next,
-            }
-        }
-        Short::Longer => Front::Unread,
-    }
+    Some(Front {
+        width,
+        height,
+        start,
+    })
 }
 
 // The sizes of a short header.
-fn short_header(bytes: &[u8]) -> Front
+fn short_header(bytes: &[u8]) -> Option<Front>
     ensures { Fronts bytes.now result }
 {
-    if bytes.len() < 2 {
-        return Front::Unread;
+    if !bytes.starts_with(&[0, 0]) {
+        return None;
     }
-    if bytes[0] != 0 {
-        return Front::Unread;
-    }
-    if bytes[1] != 0 {
-        return Front::Unread;
-    }
-    match short_integer(bytes, 2) {
-        Short::Value { value, next } => short_height(bytes, value, next),
-        Short::Longer => Front::Unread,
-    }
+    let (width, next) = short_integer(bytes, 2)?;
+    short_height(bytes, width, next)
 }
 
 // The sizes of any header: unread where it is refused.
-fn any_header(bytes: &[u8]) -> Front
+fn any_header(bytes: &[u8]) -> Option<Front>
     ensures { result ≡ front_in bytes.now }
 {
-    match header::parse_header_inner(bytes, true) {
-        HeaderRead::Header(h) => Front::Sizes {
-            width: h.width,
-            height: h.height,
-            start: h.data_offset,
-        },
-        HeaderRead::Refused(_) => Front::Unread,
-    }
+    let h = header::parse_header_inner(bytes, true).ok()?;
+    Some(Front {
+        width: h.width,
+        height: h.height,
+        start: h.data_offset,
+    })
 }
 
 // The same, a short header first.
-pub(crate) fn read_front(bytes: &[u8]) -> Front
+pub(crate) fn read_front(bytes: &[u8]) -> Option<Front>
     ensures { result ≡ front_in bytes.now }
 {
-    let short = short_header(bytes);
-    match short {
-        Front::Sizes {
-            width: _,
-            height: _,
-            start: _,
-        } => short,
-        Front::Unread => any_header(bytes),
-    }
+    short_header(bytes).or_else(|| any_header(bytes))
 }

@@ -1,8 +1,7 @@
 // What is told of a file before its dots are read.
 #![tactic(auto)]
 
-use error::WbmpError;
-use header::HeaderFields;
+use ext::ExtFields;
 
 mod facts;
 mod front;
@@ -17,21 +16,16 @@ pub struct ImageInfo {
     pub height: u32,
     pub frames: u32,
     pub fix_header: u8,
-    pub ext_fields: HeaderFields,
+    pub ext_fields: Option<ExtFields>,
     pub data_offset: usize,
 }
 
-#[derive(Clone, Copy)]
-pub enum InfoRead {
-    Info(ImageInfo),
-    Refused(WbmpError),
-}
-
-#[derive(Clone, Copy)]
+// What a file is taken for; C gets these numbers.
+#[derive(Clone, Copy, PartialEq, Eq)]
 pub enum Sniffed {
+    Neither,
     // The header and 1 to 16 whole planes.
     Exact,
     // The header, at least one row, and less than a plane.
     Truncated,
-    Neither,
 }

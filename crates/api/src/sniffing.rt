@@ -4,7 +4,7 @@ ghost use Rattle.api.specs.Sniff.{sniff_length, sniff_body, sniffed, is_exact, s
 ghost use Rattle.api.specs.Internal.Parts.{eight_ends, AreClear, SniffedSizes, Sized};
 
 use crate::Sniffed;
-use crate::front::{Front, read_front};
+use crate::front::read_front;
 use decoder::MAX_READ_FRAMES;
 use image::PlaneLayout;
 
@@ -22,33 +22,27 @@ fn eight_ends(body: &[u8], row: usize, at: usize) -> u8
 }
 
 // Whether the padding of a body's whole rows is clear: the first row alone, since most other files fail there, then eight rows a turn,
-// and then the others. `at` is the last byte of row y.
+// and then the others. Row by row, by `step_by` and `all`, 9x4096 takes twice as long, more than the Rust.
 fn are_clear(body: &[u8], row: usize, mask: u8) -> bool
     requires { (0 < row) × (row ≤ length body.now) }
     ensures { AreClear body.now row mask (length body.now / row) result }
 {
-    let rows = body.len() / row;
-    let mut y: usize = 0;
-    let mut at: usize = row - 1;
-    let first = body[at];
+    let first = body[row - 1];
     if first & mask != first {
         return false;
     }
-    while 7 < rows - y {
-        let ends = eight_ends(body, row, at);
+    let rows = body.len() / row;
+    for turn in 0..rows / 8 {
+        let ends = eight_ends(body, row, 8 * turn * row + (row - 1));
         if ends & mask != ends {
             return false;
         }
-        at += 8 * row;
-        y += 8;
     }
-    while y < rows {
-        let end = body[at];
+    for y in rows / 8 * 8..rows {
+        let end = body[y * row + (row - 1)];
         if end & mask != end {
             return false;
         }
-        at += row;
-        y += 1;
     }
     true
 }
@@ -63,10 +57,7 @@ fn sniff_length(plane: usize, size: usize) -> Sniffed
     if size < plane {
         return Sniffed::Truncated;
     }
-    if MAX_READ_FRAMES * plane < size {
-        return Sniffed::Neither;
-    }
-    if size % plane != 0 {
+    if MAX_READ_FRAMES * plane < size || size % plane != 0 {
         return Sniffed::Neither;
     }
     Sniffed::Exact
@@ -84,24 +75,11 @@ fn sniff_body(width: u32, height: u32, body: &[u8]) -> Sniffed
     if size < row {
         return Sniffed::Neither;
     }
-    if width % 8 == 0 {
-        return sniff_length(plane, size);
+    let told = sniff_length(plane, size);
+    if told != Sniffed::Neither && width % 8 != 0 && !are_clear(body, row, mask) {
+        return Sniffed::Neither;
     }
-    match sniff_length(plane, size) {
-        Sniffed::Exact => {
-            if !are_clear(body, row, mask) {
-                return Sniffed::Neither;
-            }
-            Sniffed::Exact
-        }
-        Sniffed::Truncated => {
-            if !are_clear(body, row, mask) {
-                return Sniffed::Neither;
-            }
-            Sniffed::Truncated
-        }
-        Sniffed::Neither => Sniffed::Neither,
-    }
+    told
 }
 
 // What is said of a file whose header has these sizes.
@@ -109,10 +87,7 @@ fn sniff_sizes(bytes: &[u8], width: u32, height: u32, start: usize) -> Sniffed
     requires { Sized width height start (length bytes.now) }
     ensures { result ≡ sniff_sizes bytes.now width height start }
 {
-    if width > PROBE_MAX_DIMENSION {
-        return Sniffed::Neither;
-    }
-    if height > PROBE_MAX_DIMENSION {
+    if width > PROBE_MAX_DIMENSION || height > PROBE_MAX_DIMENSION {
         return Sniffed::Neither;
     }
     sniff_body(width, height, &bytes[start..])
@@ -123,12 +98,8 @@ pub fn sniff(bytes: &[u8]) -> Sniffed
     ensures { result ≡ sniffed bytes.now }
 {
     match read_front(bytes) {
-        Front::Sizes {
-            width,
-            height,
-            start,
-        } => sniff_sizes(bytes, width, height, start),
-        Front::Unread => Sniffed::Neither,
+        Some(f) => sniff_sizes(bytes, f.width, f.height, f.start),
+        None => Sniffed::Neither,
     }
 }
 
@@ -136,9 +107,5 @@ pub fn sniff(bytes: &[u8]) -> Sniffed
 pub fn probe(bytes: &[u8]) -> bool
     ensures { result ≡ is_exact (sniffed bytes.now) }
 {
-    match sniff(bytes) {
-        Sniffed::Exact => true,
-        Sniffed::Truncated => false,
-        Sniffed::Neither => false,
-    }
+    sniff(bytes) == Sniffed::Exact
 }

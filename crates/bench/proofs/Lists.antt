@@ -3,6 +3,7 @@ use Prim.Native.Nat.{ℕ, ◌≤◌, ◌<◌}
 use mathlib.Core.Path.{◌≡◌, ◌∙◌, refl, ap, subst}
 use mathlib.Core.Bool.{Bool, true, false, ◌||◌}
 use mathlib.Core.List.{List, []}
+use Rattle.std.proofs.Common.{None}
 use native.Mathlib.Omega.{arith}
 use lib.Dec.{eqb, leb}
 use lib.IntN.{ℤ}
@@ -15,7 +16,6 @@ use Rattle.laws.proofs.Tests.{if-true, if-false, zero_one}
 use Rattle.ext_write.specs.Write.{fields_bytes}
 use Rattle.header.specs.Write.{header_bytes}
 use Rattle.header.proofs.HeaderBytes.{header-length, sizes-ten}
-use Rattle.header.specs.declared.ExtPresence.TheVariants.{Absent}
 use Rattle.image.specs.declared.PixelFormat.{PixelFormat}
 use Rattle.options.specs.Limits.{Decoding, settled, decoding}
 use Rattle.options.specs.Defaults.{defaults, with_format}
@@ -27,14 +27,15 @@ use Rattle.encoder.specs.Write.{file_of_planes}
 use Rattle.encode_session.specs.Model as Making
 use Rattle.encode_session.specs.Session as MakingSession
 use Rattle.encode_session.specs.declared.EncodeOpened.{EncodeOpened}
+use Rattle.encode_session.specs.declared.EncodeSession.{EncodeSession}
 use Rattle.encode_session.proofs.OpenCorrect.{passed}
 use Rattle.decode_session.specs.Model as Reading
 use Rattle.decode_session.specs.Session as ReadingSession
 use Rattle.decode_session.specs.declared.DecodeOpened.{DecodeOpened}
+use Rattle.decode_session.specs.declared.DecodeSession.{DecodeSession}
 use Rattle.replay.specs.Encode as Encode
 use Rattle.replay.specs.Decode as Decode
-use Rattle.replay.specs.declared.EncodeReplayed.{EncodeReplayed}
-use Rattle.replay.specs.declared.DecodeReplayed.{DecodeReplayed}
+use Rattle.replay.specs.declared.Replayed.{Replayed}
 use Rattle.bench.specs.Made.{Made}
 use Rattle.bench.specs.Lists.{format_of, asked, rule, rule_of, planes_file, ReadsList, started_by, making_from, MakesList, MadeWhole}
 use Rattle.bench.proofs.Makes.{made}
@@ -50,7 +51,7 @@ pub rule-is : (new with : EncodeOptions) (q : Quantize) (dithered : Bool) → ne
 rule-is new with q dithered d e g =
     g
     ∙ ap (λ (o : EncodeOptions). record { quantize = q; ext = o.ext; strict = o.strict }) d
-    ∙ ap (λ (x : Quantize). record { quantize = x; ext = Absent; strict = false }) e
+    ∙ ap (λ (x : Quantize). record { quantize = x; ext = None; strict = false }) e
 
 -- ---- reading
 
@@ -63,7 +64,7 @@ reading-opened d ext o p = go (leb 4118 ext) refl
     go true e = p.stands (if-true _ _ _ e)
     go false e = p.refused 28 0 (if-false _ _ _ e)
 
-pub reads-list : (inverted : Bool) (numbers file out ext answers : List ℕ) (s : DecodeOptions) (o : DecodeOpened) (last : DecodeReplayed)
+pub reads-list : (inverted : Bool) (numbers file out ext answers : List ℕ) (s : DecodeOptions) (o : DecodeOpened) (last : Replayed DecodeSession)
     (out' ext' answers' : List ℕ) → decoding s ≡ asked inverted
     → ReadingSession.Opens (Reading.opening (decoding s) (length ext)) o (Reading.opened (decoding s))
     → Decode.Replays o.session numbers file out ext answers last out' ext' answers'
@@ -105,7 +106,7 @@ making-opened w h work dithered any o old new wide high room p =
     go (refuses code place) fits e = p.refused code place e any
 
 pub makes-list : (w h : ℕ) (dithered : Bool) (numbers gray : List ℕ) (work : List ℤ) (out answers : List ℕ) (s : EncodeOptions)
-    (o : EncodeOpened) (old new : List ℕ) (last : EncodeReplayed) (work' : List ℤ) (out' answers' : List ℕ) → w < 4294967296
+    (o : EncodeOpened) (old new : List ℕ) (last : Replayed EncodeSession) (work' : List ℤ) (out' answers' : List ℕ) → w < 4294967296
     → h < 4294967296 → 12 ≤ length old → s ≡ rule dithered → MakingSession.Opens (Making.opening s w h [] []) (length work) o old new
     → Encode.Replays o.session numbers gray work out answers last work' out' answers'
     → MakesList w h dithered numbers gray work out answers last.calls work' out' answers'

@@ -1,9 +1,8 @@
 -- What the timed lists of calls, and whole making and writing, promise.
-use Rattle.std.specs.Prelude.{ℕ, ◌≡◌, Bool, true, false, List, [], leb, ℤ, length}
+use Rattle.std.specs.Prelude.{ℕ, ◌≡◌, Bool, true, false, List, [], leb, ℤ, length, None}
 use Rattle.error.specs.Choice.{if}
 use Rattle.error.specs.Answer.{Answer, gives, refuses, code_of}
 use Rattle.ext.specs.Kinds.{longest_fields}
-use Rattle.header.specs.declared.ExtPresence.TheVariants.{Absent}
 use Rattle.image.specs.declared.PixelFormat.{PixelFormat}
 use Rattle.image.specs.declared.PixelFormat.TheVariants.{MonoBlack, MonoWhite}
 use Rattle.options.specs.Limits.{Decoding}
@@ -17,11 +16,11 @@ use Rattle.encoder.specs.Write.{file_of_planes}
 use Rattle.encode_session.specs.Model as Making
 use Rattle.encode_session.specs.declared.EncodeSession.{EncodeSession}
 use Rattle.decode_session.specs.Model as Reading
+use Rattle.decode_session.specs.declared.DecodeSession.{DecodeSession}
 use Rattle.replay.specs.Calls.{named}
 use Rattle.replay.specs.Encode as Encode
 use Rattle.replay.specs.Decode as Decode
-use Rattle.replay.specs.declared.EncodeReplayed.{EncodeReplayed}
-use Rattle.replay.specs.declared.DecodeReplayed.{DecodeReplayed}
+use Rattle.replay.specs.declared.Replayed.{Replayed}
 use Rattle.options.specs.Defaults.{made_frames}
 
 -- ---- settings
@@ -40,7 +39,7 @@ rule_of false = Threshold 128
 
 -- the default settings of making, with the asked rule
 abbrev pub rule : Bool → EncodeOptions
-rule dithered = record { quantize = rule_of dithered; ext = Absent; strict = false }
+rule dithered = record { quantize = rule_of dithered; ext = None; strict = false }
 
 -- ---- a list of calls on a reading session
 
@@ -50,7 +49,7 @@ reading_from inverted ext = let m = Reading.opened (asked inverted) in if (leb l
 
 -- so many calls are made, with their replies in every lent byte
 pub record ReadsList (inverted : Bool) (numbers file out ext answers : List ℕ) (r : ℕ) (out' ext' answers' : List ℕ) : Type 0 where
-  pub last : DecodeReplayed
+  pub last : Replayed DecodeSession
   pub made : r ≡ last.calls
   pub shows : let m = reading_from inverted (length ext) in
       let cs = named numbers (length file) (length out) (length ext) (length answers) in
@@ -71,7 +70,7 @@ making_from width height dithered work =
 -- running machine keeps, from the numbers found and the opened session's
 pub record MakesBy (m : Making.Model) (cs : List Making.Call) (work : List ℤ) (out answers : List ℕ) (r : ℕ) (work' : List ℤ)
     (out' answers' : List ℕ) : Type 0 where
-  pub last : EncodeReplayed
+  pub last : Replayed EncodeSession
   pub made : r ≡ last.calls
   pub counts : Encode.AnswersAs m cs answers last answers'
   pub shows : Encode.WritesAs m cs out last out' work'

@@ -8,18 +8,18 @@ ghost use Rattle.options.specs.declared.Quantize.TheVariants.{Threshold};
 ghost use Rattle.quantize.specs.Whole.{quantized};
 ghost use Rattle.bench.specs.Made.{Made, Dithered};
 
-use error::Written;
+use error::Result;
 
 mod sessions;
 
 pub use sessions::{bench_make, bench_make_list, bench_read_list, bench_write};
 
-pub(crate) fn number(w: Written) -> u8
+pub(crate) fn number(w: Result<usize>) -> u8
     ensures { result ≡ code_of (written w) }
 {
     match w {
-        Written::Bytes(_) => 0,
-        Written::Refused(e) => e.code,
+        Ok(_) => 0,
+        Err(e) => e.kind.number(),
     }
 }
 

@@ -56,10 +56,8 @@ pub fn bench_read_list(
     ensures { ReadsList inverted calls.now file.now out.old ext.old
         answers.old result out.new ext.new answers.new }
 {
-    let opened = DecodeSession::open(reading(inverted), &ext[..]);
-    let session = opened.session;
-    let last = replay::replay_decode(session, calls, file, out, ext, answers);
-    last.calls
+    let session = DecodeSession::open(reading(inverted), ext).session;
+    replay::replay_decode(session, calls, file, out, ext, answers).calls
 }
 
 // Makes bodies of scans by the calls of a list on a new session without fields, and says how many were made. `work` has at least 2 × width
@@ -77,21 +75,19 @@ pub fn bench_make_list(
     ensures { MakesList width height dithered calls.now gray.now work.old out.old
         answers.old result work.new out.new answers.new }
 {
-    let options = making(dithered);
-    let lengths = [0usize; 0];
+    let pairs: [usize; 0] = [];
     let mut head = [0u8; 32];
-    let opened = EncodeSession::open_lengths(
+    let session = EncodeSession::open(
         width,
         height,
-        options,
+        making(dithered),
         b"",
-        &lengths,
-        &work[..],
+        &pairs[..],
+        work,
         &mut head,
-    );
-    let session = opened.session;
-    let last = replay::replay_encode(session, calls, gray, work, out, answers);
-    last.calls
+    )
+    .session;
+    replay::replay_encode(session, calls, gray, work, out, answers).calls
 }
 
 // Makes a file of so many scans whole, and gives the number of a refusal, 0 where there is none.
@@ -107,10 +103,17 @@ pub fn bench_make(
     ensures { MadeWhole width height count dithered gray.now out.old work.old
         result out.new work.new }
 {
-    let options = making(dithered);
-    let lengths = [0usize; 0];
-    number(encoder::encode_gray8_lengths(
-        width, height, count, gray, options, b"", &lengths, work, out,
+    let pairs: [usize; 0] = [];
+    number(encoder::encode_gray8(
+        width,
+        height,
+        count,
+        gray,
+        making(dithered),
+        b"",
+        &pairs[..],
+        work,
+        out,
     ))
 }
 
@@ -126,10 +129,17 @@ pub fn bench_write(
 ) -> u8
     ensures { Made (planes_file inverted width height count stride planes.now) result out.old out.new }
 {
-    let options = making(false);
-    let format = format_of(inverted);
-    let lengths = [0usize; 0];
-    number(encoder::encode_images_lengths(
-        width, height, count, planes, stride, format, options, b"", &lengths, out,
+    let pairs: [usize; 0] = [];
+    number(encoder::encode_images(
+        width,
+        height,
+        count,
+        planes,
+        stride,
+        format_of(inverted),
+        making(false),
+        b"",
+        &pairs[..],
+        out,
     ))
 }

@@ -74,10 +74,7 @@ module _ (ceiling plane whole begun given room : ℕ) where
         let z : left ≡ 0 = omega arith in
         counted given 0 whole begun (omega arith) k ∙ ap (fed_up_to plane at given) (sym z) ∙ filled (omega arith)
 
-    module _ (n : ℕ) (in-given : n ≤ given) (in-room : n ≤ room) (whose : (n ≡ given) ⊎ (n ≡ room)) (w : whole < ceiling) where
-      is-most : n ≡ most
-      is-most = ⊎_elim (λ (e : n ≡ given). omega arith) (λ (e : n ≡ room). omega arith) whose
-
+    module _ (n : ℕ) (is-most : n ≡ most) (w : whole < ceiling) where
       -- a place after n bytes that is before the ceiling
       before : (whole' begun' : ℕ) → whole' < ceiling → whole' * plane + begun' ≡ at + n → begun' < plane
           → Goes (record { taken = n; written = n; whole = whole'; begun = begun' })

@@ -1,4 +1,4 @@
--- A stretch of a body in each format.
+-- A stretch of a body that is inverted.
 use Prim.Native.Nat.{ℕ, ◌+◌}
 use mathlib.Core.Path.{◌≡◌, sym, ap, ◌∙◌}
 use mathlib.Core.List.{List, ◌++◌, append-nil}
@@ -10,13 +10,12 @@ use lib.Seq.{drop-length, ext_get_or}
 use Rattle.error.specs.Answer.{Answer, gives}
 use Rattle.error.specs.Emits.{Emits}
 use Rattle.laws.proofs.Tests.{if-true}
-use Rattle.image.specs.Geometry.{row_bytes}
-use Rattle.image.specs.Rows.{invert, convert_format}
-use Rattle.image.specs.declared.PixelFormat.TheVariants.{MonoBlack, MonoWhite}
+use Rattle.image.specs.Rows.{invert}
+use Rattle.image.specs.declared.PixelFormat.TheVariants.{MonoWhite}
 use Rattle.image.proofs.InvertedBytes.{invert-length, invert-at}
 use Rattle.body_pieces.specs.InFormat.{padded, body_from}
 use Rattle.body_pieces.specs.Internal.Body.{Cleared}
-use Rattle.body_pieces.proofs.BodyBytes.{body-length, body_at, body-black}
+use Rattle.body_pieces.proofs.BodyBytes.{body-length, body_at}
 
 -- bytes that fill their output
 filled : (bytes old new : List ℕ) (r : Answer ℕ) → length bytes ≡ length old → Emits (gives bytes) r old new → new ≡ bytes
@@ -39,9 +38,3 @@ white-is w at xs old mid new r l i c =
     ∙ ap (λ (l : List ℕ). padded w (at + j) (get_or l j 0)) e
     ∙ ap (padded w (at + j)) (invert-at xs j (omega arith))
     ∙ sym (body_at MonoWhite w xs at j (omega arith)))
-
--- bytes that are only copied
-pub black-is : (w at : ℕ) (xs old new : List ℕ) (r : Answer ℕ) → length xs ≡ length old
-    → Emits (gives (convert_format MonoBlack MonoBlack w 0 (row_bytes w) xs)) r old new → new ≡ body_from MonoBlack w at xs
-unfolding convert_format
-black-is w at xs old new r n e = filled xs old new r n e ∙ body-black w xs at

@@ -14,11 +14,8 @@ fn clear_ends(bytes: &mut [u8], width: u32, at: usize)
     }
     let layout = PlaneLayout::new(width, 1);
     let row = layout.stride;
-    let mask = layout.last_byte_pad_mask;
-    let mut last = row - 1 - at % row;
-    while last < bytes.len() {
-        bytes[last] = bytes[last] & mask;
-        last += row;
+    for last in (row - 1 - at % row..bytes.len()).step_by(row) {
+        bytes[last] &= layout.last_byte_pad_mask;
     }
 }
 
@@ -28,12 +25,9 @@ pub(crate) fn convert(format: PixelFormat, width: u32, at: usize, bytes: &[u8], 
     ensures { out.new ≡ body_from format width at bytes.now }
 {
     match format {
-        PixelFormat::MonoBlack => {
-            let native = PixelFormat::MonoBlack;
-            image::into_format(bytes, width, 0, native, native, out);
-        }
+        PixelFormat::MonoBlack => out.copy_from_slice(bytes),
         PixelFormat::MonoWhite => {
-            image::invert_into(bytes, out);
+            let _ = image::invert_into(bytes, out);
             clear_ends(out, width, at);
         }
     }

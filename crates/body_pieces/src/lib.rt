@@ -6,7 +6,6 @@ ghost use Rattle.body_pieces.specs.Internal.Body.{advanced, Bodies};
 
 use crate::convert::convert;
 use image::{PixelFormat, PlaneLayout};
-use laws::least;
 
 mod convert;
 
@@ -19,6 +18,7 @@ pub struct BodyFed {
     pub begun: usize,
 }
 
+// A literal of it takes six lines, and `advance` has five.
 fn fed(taken: usize, written: usize, whole: usize, begun: usize) -> BodyFed
     ensures { result ≡ record { taken = taken; written = written; whole = whole; begun = begun } }
 {
@@ -47,7 +47,7 @@ fn advance(
     if ceiling <= whole {
         return fed(given, 0, whole, begun);
     }
-    let most = least(given, room);
+    let most = given.min(room);
     let left = plane - begun;
     if most < left {
         return fed(most, most, whole, begun + most);
@@ -81,11 +81,16 @@ pub fn feed_body(
     ensures { Bodies format place.width place.height ceiling place.whole place.begun piece.now
         out.old result out.new }
 {
-    let begun = place.begun;
-    let layout = PlaneLayout::new(place.width, place.height);
-    let plane = layout.total_bytes;
-    let next = advance(ceiling, plane, place.whole, begun, piece.len(), out.len());
+    let plane = PlaneLayout::new(place.width, place.height).total_bytes;
+    let next = advance(
+        ceiling,
+        plane,
+        place.whole,
+        place.begun,
+        piece.len(),
+        out.len(),
+    );
     let n = next.written;
-    convert(format, place.width, begun, &piece[..n], &mut out[..n]);
+    convert(format, place.width, place.begun, &piece[..n], &mut out[..n]);
     next
 }

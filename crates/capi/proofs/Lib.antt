@@ -1,6 +1,4 @@
 pub mod HeaderPlaces
 pub mod RefusalPlaces
-pub mod SettingsKnown
-pub mod LentNumbers
 pub mod RoomEnough
 pub mod Unpacked

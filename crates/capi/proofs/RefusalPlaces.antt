@@ -3,17 +3,18 @@ use Prim.Native.Nat.{ℕ, ◌-◌, ◌*◌, ◌<◌}
 use mathlib.Core.Bool.{Bool}
 use mathlib.Core.List.{List}
 use native.Mathlib.Omega.{arith}
-use lib.Dec.{ltb, leb}
+use lib.Dec.{ltb, leb, eqb}
 use lib.ListN.{length}
 use Rattle.error.specs.Choice.{if}
 use Rattle.error.specs.Answer.{Answer, gives, refuses, bind, map}
 use Rattle.laws.proofs.Tests.{if-elim}
 use Rattle.header.specs.Read.{Outline}
-use Rattle.options.specs.Limits.{lenient, Decoding, admits, settled, check_limits}
+use Rattle.options.specs.Limits.{lenient, Decoding, admits, settled, check_limits, ceiling_of}
 use Rattle.decoder.specs.Body.{plane_of, frames_in}
 use Rattle.decoder.specs.Image.{image_settings, header_of, test_body, read_image}
 use Rattle.decoder.specs.Frames.{decoded, decoded_by}
 use Rattle.api.specs.Info.{info_of, read_info}
+use Rattle.capi.specs.Asked.{format_of, strict_of, settings_of, read_asked}
 use Rattle.capi.proofs.HeaderPlaces.{Told, told, Placed, header-placed}
 
 -- of an answer: what it refuses
@@ -21,11 +22,11 @@ abbrev pub Numbered : {A : Type 0} → Answer A → Type 0
 Numbered (gives a) = Unit {0}
 Numbered (refuses code offset) = Told code offset
 
-pub numbered-bind : {A B : Type 0} (x : Answer A) (k : A → Answer B) → Numbered x → ((a : A) → Numbered (k a)) → Numbered (bind x k)
+numbered-bind : {A B : Type 0} (x : Answer A) (k : A → Answer B) → Numbered x → ((a : A) → Numbered (k a)) → Numbered (bind x k)
 numbered-bind (gives a) k p q = q a
 numbered-bind (refuses code offset) k p q = p
 
-pub pick : {A : Type 0} (t : Bool) (x y : Answer A) → Numbered x → Numbered y → Numbered (if t x y)
+pick : {A : Type 0} (t : Bool) (x y : Answer A) → Numbered x → Numbered y → Numbered (if t x y)
 pick {A} t x y p q = if-elim (λ (a : Answer A). Numbered a) t x y (λ _. p) (λ _. q)
 
 limits-numbered : (d : Decoding) (w h n at : ℕ) → at < 8192 → Numbered (check_limits d w h n at)
@@ -64,7 +65,7 @@ settled-numbered : (d : Decoding) → Numbered (settled d)
 unfolding settled
 settled-numbered d = tt
 
-pub read-numbered : (ceiling : ℕ) (d : Decoding) (bytes : List ℕ) (room : ℕ) → Numbered (decoded_by ceiling d bytes room)
+read-numbered : (ceiling : ℕ) (d : Decoding) (bytes : List ℕ) (room : ℕ) → Numbered (decoded_by ceiling d bytes room)
 read-numbered ceiling d bytes room =
     numbered-bind (settled d) _ (settled-numbered d) (λ s. decoded-numbered ceiling s bytes room)
 
@@ -75,3 +76,15 @@ info-numbered bytes = go (header_of lenient bytes) (header-placed (image_setting
     go : (x : Answer Outline) → Placed x → Numbered (map (info_of (length bytes)) x)
     go (gives h) p = tt
     go (refuses code offset) p = p
+
+pub asked-numbered : (format strict width height pixels bytes : ℕ) (s : List ℕ) (room : ℕ)
+    → Numbered (read_asked (settings_of format strict width height pixels bytes) s room)
+unfolding settings_of
+asked-numbered format strict width height pixels bytes s room =
+    numbered-bind (settings_of format strict width height pixels bytes) _
+    (numbered-bind (format_of format) _ (pick (eqb format 0) _ _ tt (pick (eqb format 1) _ _ tt unknown))
+    (λ f. numbered-bind (strict_of strict) _ (pick (eqb strict 0) _ _ tt (pick (eqb strict 1) _ _ tt unknown)) (λ b. tt)))
+    (λ d. read-numbered (ceiling_of d) d s room)
+  where
+    unknown : Told 29 0
+    unknown = told (omega arith) (omega arith) (omega arith)

@@ -3,14 +3,11 @@ use Prim.Native.Nat.{ℕ, ◌/◌, ◌%◌, ◌<◌}
 use mathlib.Core.Path.{◌≡◌, refl}
 use mathlib.Core.List.{List}
 use native.Mathlib.Omega.{arith}
-use lib.Dec.{eqb}
 use Rattle.error.specs.Answer.{Answer, gives, refuses}
-use Rattle.options.specs.Limits.{ceiling_of}
 use Rattle.api.specs.Info.{read_info}
 use Rattle.capi.specs.Returned.{packed}
-use Rattle.capi.specs.Asked.{format_of, strict_of, settings_of, read_asked}
-use Rattle.capi.proofs.HeaderPlaces.{Told, told}
-use Rattle.capi.proofs.RefusalPlaces.{Numbered, numbered-bind, pick, read-numbered, info-numbered}
+use Rattle.capi.specs.Asked.{settings_of, read_asked}
+use Rattle.capi.proofs.RefusalPlaces.{Numbered, asked-numbered, info-numbered}
 
 pub record Unpacked (code offset r : ℕ) : Type 0 where
   pub refused : 0 < r
@@ -33,13 +30,6 @@ info-returned bytes = returned (read_info bytes) (info-numbered bytes)
 pub read-returned : (format strict width height pixels bytes : ℕ) (s : List ℕ) (room : ℕ)
     → let a = read_asked (settings_of format strict width height pixels bytes) s room in
     Returned a (packed a)
-unfolding settings_of
 read-returned format strict width height pixels bytes s room =
     returned (read_asked (settings_of format strict width height pixels bytes) s room)
-    (numbered-bind (settings_of format strict width height pixels bytes) _
-    (numbered-bind (format_of format) _ (pick (eqb format 0) _ _ tt (pick (eqb format 1) _ _ tt unknown))
-    (λ f. numbered-bind (strict_of strict) _ (pick (eqb strict 0) _ _ tt (pick (eqb strict 1) _ _ tt unknown)) (λ b. tt)))
-    (λ d. read-numbered (ceiling_of d) d s room))
-  where
-    unknown : Told 29 0
-    unknown = told (omega arith) (omega arith) (omega arith)
+    (asked-numbered format strict width height pixels bytes s room)

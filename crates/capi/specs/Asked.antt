@@ -1,14 +1,14 @@
 -- Reading as C asks for it (document 01, "C side").
-use Rattle.std.specs.Prelude.{ℕ, ◌-◌, ◌^◌, List, eqb}
+use Rattle.std.specs.Prelude.{ℕ, ◌-◌, ◌^◌, List, eqb, Result}
+use Rattle.error.specs.declared.WbmpError.{WbmpError}
+use Rattle.options.specs.declared.DecodeOptions.{DecodeOptions}
 use Rattle.error.specs.Choice.{if}
-use Rattle.error.specs.Answer.{Answer, gives, refuses, bind}
+use Rattle.error.specs.Answer.{Answer, gives, refuses, bind, map, answered}
 use Rattle.error.specs.Emits.{output}
 use Rattle.image.specs.declared.PixelFormat.{PixelFormat}
 use Rattle.image.specs.declared.PixelFormat.TheVariants.{MonoBlack, MonoWhite}
 use Rattle.options.specs.Limits.{Bound, absent, at_most, Mode, lenient, strict, Decoding, ceiling_of, decoding}
 use Rattle.decoder.specs.Frames.{Image, decoded_by, shown_by}
-use Rattle.capi.specs.declared.asked.DecodeSettings.{DecodeSettings}
-use Rattle.capi.specs.declared.asked.DecodeSettings.TheVariants.{Unknown}
 
 -- "Format is 0 (MonoBlack) or 1 (MonoWhite), strict 0 or 1; others are 29"
 abbrev pub format_of : ℕ → Answer PixelFormat
@@ -44,6 +44,5 @@ abbrev pub output_asked : Answer Decoding → List ℕ → List ℕ → List ℕ
 output_asked settings bytes old = output (bind settings (λ d. shown_by (ceiling_of d) d bytes)) old
 
 -- what the code's values mean
-abbrev pub meaning : DecodeSettings → Answer Decoding
-meaning (DecodeSettings.Known o) = gives (decoding o)
-meaning Unknown = refuses 29 0
+abbrev pub meaning : Result DecodeOptions WbmpError → Answer Decoding
+meaning r = map decoding (answered r)

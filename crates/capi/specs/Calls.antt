@@ -2,6 +2,7 @@
 use Rattle.std.specs.Prelude.{ℕ, ◌≡◌, List, length}
 use Rattle.error.specs.Answer.{Answer}
 use Rattle.options.specs.Limits.{Decoding}
+use Rattle.decoder.specs.Frames.{Image}
 use Rattle.api.specs.Info.{read_info}
 use Rattle.capi.specs.Returned.{packed, held}
 use Rattle.capi.specs.Lent.{fields_kind, fields_start, fields_length, fields_pairs}
@@ -23,6 +24,11 @@ pub record Informs (bytes : List ℕ) (r : ℕ) (width height frames body fix ki
   pub start_is : LentHolds (read_info bytes) (λ i. fields_start i.fields) start
   pub len_is : LentHolds (read_info bytes) (λ i. fields_length i.fields) len
   pub pairs_is : LentHolds (read_info bytes) (λ i. fields_pairs i.fields) pairs
+
+-- whole reading with the settings that are asked for: its answer, and the lent output before and after it
+pub record ReadsAsked (settings : Answer Decoding) (bytes : List ℕ) (r : Answer Image) (old new : List ℕ) : Type 0 where
+  pub answer : r ≡ read_asked settings bytes (length old)
+  pub output_is : new ≡ output_asked settings bytes old
 
 -- `wbmp_read`: `old` and `new` are the lent output before and after the call
 pub record Reads (settings : Answer Decoding) (bytes : List ℕ) (r : ℕ) (old new : List ℕ)

@@ -1,71 +1,65 @@
 // The settings that C asks for by numbers.
-ghost use Rattle.std.specs.Prelude.{◌≡◌, ◌≤◌};
-ghost use Rattle.error.specs.Answer.{gives};
+ghost use Rattle.std.specs.Prelude.{◌≡◌};
+ghost use Rattle.error.specs.Answer.{answered, map};
 ghost use Rattle.options.specs.Limits.{bound_of, mode_of};
 ghost use Rattle.capi.specs.Asked.{format_of, strict_of, limit_of, settings_of, meaning};
 
+use error::{Refusal, Result, WbmpError};
 use image::PixelFormat;
 use options::{DecodeMode, DecodeOptions, Limit};
 
+// What C asks for, in its order.
 #[derive(Drop)]
-pub(crate) enum DecodeSettings {
-    Known(DecodeOptions),
-    Unknown,
+pub(crate) struct Asked {
+    pub format: u32,
+    pub strict: u32,
+    pub max_width: u32,
+    pub max_height: u32,
+    pub max_pixels: u64,
+    pub max_bytes: u64,
 }
 
 fn limit(most: u64, largest: u64) -> Limit
     ensures { bound_of result ≡ limit_of largest most }
 {
-    if most == largest {
-        return Limit::absent();
-    }
-    Limit::at_most(most)
+    (most != largest).then_some(most)
 }
 
-fn pixel_format(format: u32) -> PixelFormat
-    requires { format ≤ 1 }
-    ensures { format_of format ≡ gives result }
+// This and the next are no `TryFrom<u32>`: Rust has such an impl only in the crate of the type.
+fn pixel_format(format: u32) -> Result<PixelFormat>
+    ensures { answered result ≡ format_of format }
 {
-    if format == 0 {
-        return PixelFormat::MonoBlack;
+    match format {
+        0 => Ok(PixelFormat::MonoBlack),
+        1 => Ok(PixelFormat::MonoWhite),
+        _ => Err(WbmpError::new(Refusal::UnknownSetting, 0)),
     }
-    PixelFormat::MonoWhite
 }
 
-fn decode_mode(strict: u32) -> DecodeMode
-    requires { strict ≤ 1 }
-    ensures { strict_of strict ≡ gives (mode_of result) }
+fn decode_mode(strict: u32) -> Result<DecodeMode>
+    ensures { map mode_of (answered result) ≡ strict_of strict }
 {
-    if strict == 0 {
-        return DecodeMode::Lenient;
+    match strict {
+        0 => Ok(DecodeMode::Lenient),
+        1 => Ok(DecodeMode::Strict),
+        _ => Err(WbmpError::new(Refusal::UnknownSetting, 0)),
     }
-    DecodeMode::Strict
 }
 
-pub(crate) fn asked(
-    format: u32,
-    strict: u32,
-    max_width: u32,
-    max_height: u32,
-    max_pixels: u64,
-    max_bytes: u64,
-) -> DecodeSettings
-    ensures { meaning result ≡ settings_of format strict max_width max_height max_pixels max_bytes }
-{
-    if format > 1 {
-        return DecodeSettings::Unknown;
+impl TryFrom<Asked> for DecodeOptions {
+    type Error = WbmpError;
+
+    ghost try_from_gives = { λ a r. meaning r
+        ≡ settings_of a.format a.strict a.max_width a.max_height a.max_pixels a.max_bytes };
+
+    fn try_from(asked: Asked) -> Result<DecodeOptions> {
+        Ok(DecodeOptions {
+            format: pixel_format(asked.format)?,
+            mode: decode_mode(asked.strict)?,
+            max_width: limit(u64::from(asked.max_width), u64::from(u32::MAX)),
+            max_height: limit(u64::from(asked.max_height), u64::from(u32::MAX)),
+            max_pixels: limit(asked.max_pixels, u64::MAX),
+            max_bytes: limit(asked.max_bytes, u64::MAX),
+        })
     }
-    if strict > 1 {
-        return DecodeSettings::Unknown;
-    }
-    let pixels = pixel_format(format);
-    let mode = decode_mode(strict);
-    DecodeSettings::Known(DecodeOptions {
-        max_width: limit(max_width as u64, u32::MAX as u64),
-        max_height: limit(max_height as u64, u32::MAX as u64),
-        max_pixels: limit(max_pixels, u64::MAX),
-        max_bytes: limit(max_bytes, u64::MAX),
-        mode,
-        format: pixels,
-    })
 }

@@ -3,23 +3,20 @@ ghost use Rattle.std.specs.Prelude.{◌≡◌};
 ghost use Rattle.api.specs.Sniff.{sniffed};
 ghost use Rattle.capi.specs.Returned.{sniff_number};
 ghost use Rattle.capi.specs.Asked.{settings_of};
-ghost use Rattle.capi.specs.Calls.{Informs, Reads};
+ghost use Rattle.capi.specs.Calls.{Informs, ReadsAsked, Reads};
+ghost use Rattle.decoder.specs.Frames.{meaning};
 
-use crate::asked::{DecodeSettings, asked};
-use crate::numbers::{field_numbers, pack};
-use api::{InfoRead, Sniffed};
-use decoder::Decoded;
-use error::UNKNOWN_SETTING;
+use crate::asked::Asked;
+use crate::numbers::{FieldNumbers, pack};
+use decoder::DecodedImage;
+use error::Result;
+use options::DecodeOptions;
 
 // 0: neither; 1: a whole file; 2: the front of one.
 pub fn wbmp_sniff(bytes: &[u8]) -> u8
     ensures { result ≡ sniff_number (sniffed bytes.now) }
 {
-    match api::sniff(bytes) {
-        Sniffed::Neither => 0,
-        Sniffed::Exact => 1,
-        Sniffed::Truncated => 2,
-    }
+    api::sniff(bytes) as u8
 }
 
 // Size, frames and fields of a file, to the lent numbers; a refusal writes none of them.
@@ -42,9 +39,8 @@ pub fn wbmp_info(
         (pairs.old, pairs.new) }
 {
     match api::info(bytes) {
-        InfoRead::Info(told) => {
-            let ext_fields = told.ext_fields;
-            let fields = field_numbers(ext_fields);
+        Ok(told) => {
+            let fields = FieldNumbers::from(told.ext_fields);
             *width = told.width;
             *height = told.height;
             *frames = told.frames;
@@ -56,8 +52,17 @@ pub fn wbmp_info(
             *pairs = fields.pairs;
             0
         }
-        InfoRead::Refused(e) => pack(e),
+        Err(e) => pack(e),
     }
+}
+
+// Whole reading with the settings that are asked for.
+fn read(bytes: &[u8], asked: Asked, out: &mut [u8]) -> Result<DecodedImage>
+    ensures { ReadsAsked (settings_of asked.format asked.strict asked.max_width asked.max_height asked.max_pixels asked.max_bytes)
+        bytes.now (meaning result) out.old out.new }
+{
+    let options = DecodeOptions::try_from(asked)?;
+    decoder::decode_frames(bytes, options, out)
 }
 
 // Whole reading: the planes of all frames, end to end, at the front of the lent output; a refusal writes nothing that is lent.
@@ -79,17 +84,22 @@ pub fn wbmp_read(
         out.old out.new (width.old, width.new) (height.old, height.new)
         (frames.old, frames.new) (written.old, written.new) }
 {
-    match asked(format, strict, max_width, max_height, max_pixels, max_bytes) {
-        DecodeSettings::Known(options) => match decoder::decode_frames(bytes, options, out) {
-            Decoded::Image(read) => {
-                *width = read.width;
-                *height = read.height;
-                *frames = read.frames;
-                *written = read.bytes;
-                0
-            }
-            Decoded::Refused(e) => pack(e),
-        },
-        DecodeSettings::Unknown => UNKNOWN_SETTING as u64,
+    let asked = Asked {
+        format,
+        strict,
+        max_width,
+        max_height,
+        max_pixels,
+        max_bytes,
+    };
+    match read(bytes, asked, out) {
+        Ok(read) => {
+            *width = read.width;
+            *height = read.height;
+            *frames = read.frames;
+            *written = read.bytes;
+            0
+        }
+        Err(e) => pack(e),
     }
 }

@@ -3,8 +3,7 @@
 
 ghost use Rattle.std.specs.Prelude.{◌≤◌, length};
 
-use api::{ImageInfo, InfoRead};
-use error::WbmpError;
+use api::ImageInfo;
 use std::io;
 use std::io::Read;
 
@@ -23,15 +22,15 @@ fn main(rt: HostRuntime) -> io::Result<()> {
 }
 
 // Reads until `buf` is full or the input ends, and says how many bytes it read. A read that fails midway looks like the end.
+// A turn takes as many as come, so no iterator fits.
 fn read_full(input: &mut impl Read, buf: &mut [u8]) -> usize
     ensures { result ≤ length buf.new }
 {
     let mut done = 0;
     while done < buf.len() {
         match input.read(&mut buf[done..]) {
-            Ok(0) => break,
+            Ok(0) | Err(_) => break,
             Ok(n) => done += n,
-            Err(_) => break,
         }
     }
     done
@@ -39,8 +38,7 @@ fn read_full(input: &mut impl Read, buf: &mut [u8]) -> usize
 
 // Says on standard error that bytes are left behind the 65,536 that are read.
 fn warn_if_longer(rt: &impl Eprint, input: &mut impl Read) -> io::Result<()> {
-    let mut next = [0u8; 1];
-    if read_full(input, &mut next) > 0 {
+    if read_full(input, &mut [0]) > 0 {
         eprintln!(rt; "cardinfo: bytes past 65,536 are not read")?;
     }
     Ok(())
@@ -48,23 +46,15 @@ fn warn_if_longer(rt: &impl Eprint, input: &mut impl Read) -> io::Result<()> {
 
 fn print_card(rt: &impl Print, card: &[u8]) -> io::Result<()> {
     match api::info(card) {
-        InfoRead::Info(i) => print_info(rt, i),
-        InfoRead::Refused(e) => print_refusal(rt, e),
+        Ok(i) => print_info(rt, i),
+        Err(e) => println!(rt; "refused {e}"),
     }
 }
 
 fn print_info(rt: &impl Print, i: ImageInfo) -> io::Result<()> {
-    let width = i.width;
-    let height = i.height;
-    let frames = i.frames;
-    let body = i.data_offset;
-    let fix_header = i.fix_header;
     println!(rt; "width height frames body fixheader")?;
-    println!(rt; "{width} {height} {frames} {body} {fix_header}")
-}
-
-fn print_refusal(rt: &impl Print, e: WbmpError) -> io::Result<()> {
-    let code = e.code;
-    let offset = e.offset;
-    println!(rt; "refused {code} {offset}")
+    println!(rt;
+        "{} {} {} {} {}",
+        i.width, i.height, i.frames, i.data_offset, i.fix_header
+    )
 }

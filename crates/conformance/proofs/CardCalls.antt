@@ -1,4 +1,6 @@
 -- Lists of calls that code makes.
+use Rattle.std.proofs.Common.{Option, Result, Ok, Err}
+use Rattle.header.specs.declared.ParsedHeader.{ParsedHeader}
 use Prim.Native.Nat.{ℕ, ◌%◌, ◌^◌, ◌<◌}
 use mathlib.Core.Path.{◌≡◌, refl, sym, ap, ◌∙◌, subst}
 use mathlib.Core.List.{List, [], ◌++◌}
@@ -8,6 +10,8 @@ use lib.IntN.{ℤ, pos, sub_ℕ}
 use lib.ListN.{length, take, drop}
 use lib.Seq.{take-append_seam}
 use Rattle.error.specs.Answer.{Answer, gives, written}
+use Rattle.error.specs.declared.Fed.{Fed}
+use Rattle.error.specs.declared.WbmpError.{WbmpError}
 use Rattle.error.specs.Emits.{Emits}
 use Rattle.laws.proofs.Emitted.{emitted-is}
 use Rattle.mbi.specs.Read.{read_rest, read_byte}
@@ -25,15 +29,12 @@ use Rattle.decode_session.specs.Trace as ReadingTrace
 use Rattle.decode_session.specs.declared.DecodeOpened.{DecodeOpened}
 use Rattle.decode_session.specs.declared.DecodeFed.{DecodeFed}
 use Rattle.decode_session.specs.declared.DecodeClosed.{DecodeClosed}
-use Rattle.decode_session.specs.declared.HeaderSeen.{HeaderSeen}
 use Rattle.encode_session.specs.Model as Making
 use Rattle.encode_session.specs.Session as MakingSession
 use Rattle.encode_session.specs.Trace as MakingTrace
 use Rattle.encode_session.specs.declared.EncodeSession.{EncodeSession}
 use Rattle.encode_session.specs.declared.EncodeOpened.{EncodeOpened}
 use Rattle.encode_session.specs.declared.EncodeFed.{EncodeFed}
-use Rattle.encode_session.specs.declared.EncodeFeed.{EncodeFeed}
-use Rattle.encode_session.specs.declared.EncodeFeed.TheVariants.{Took}
 use Rattle.encode_session.specs.declared.EncodeClosed.{EncodeClosed}
 use Rattle.conformance.specs.Lists.{MakingList}
 use Rattle.conformance.specs.Calls.{KeepsWork, MakesCard, ReadsCard}
@@ -45,7 +46,7 @@ none_seen lenient = refl
 none_seen strict = refl
 
 -- the calls of a decode session
-pub reads-card : (d : Decoding) (piece out ext out' ext' : List ℕ) (o : DecodeOpened) (f : DecodeFed) (c : DecodeClosed) (seen : HeaderSeen)
+pub reads-card : (d : Decoding) (piece out ext out' ext' : List ℕ) (o : DecodeOpened) (f : DecodeFed) (c : DecodeClosed) (seen : Option ParsedHeader)
     → ReadingSession.Opens (Reading.opening d (length ext)) o (Reading.opened d)
     → ReadingSession.Feeds o.session piece out ext f out' ext'
     → ReadingSession.Closes f.session c → ReadingSession.Sees c.session seen
@@ -117,7 +118,7 @@ module _ (a : Making.Opening) (samples out out' : List ℕ) (work work' : List �
       let b : s.quantizer.place.begun < 1 = subst (λ (k : ℕ). s.quantizer.place.begun < 2 ^ (k % 8)) e engine.begun_small in
       omega arith
 
-  ran : (n b : ℕ) → f.answer ≡ Took n b → KeepsWork a samples n work work'
+  ran : (n b : ℕ) → f.answer ≡ Ok (record { taken = n; written = b }) → KeepsWork a samples n work work'
   ran n b e =
       let R = q.runs n b e in
       let S = Making.setting_of a in
@@ -137,9 +138,9 @@ module _ (a : Making.Opening) (samples out out' : List ℕ) (work work' : List �
   unfolding carried
   idle e = record { corner = pos 0; kept = e; spared = λ _. e; beyond = ap (drop a.width) e }
 
-  by_answer : (y : EncodeFeed) → f.answer ≡ y → KeepsWork a samples (MakingTrace.took_of (MakingSession.fed_meaning y)) work work'
-  by_answer (Took n b) e = ran n b e
-  by_answer (EncodeFeed.Refused x) e = idle (q.refused _ _ (ap MakingSession.fed_meaning e)).1.1
+  by_answer : (y : Result Fed WbmpError) → f.answer ≡ y → KeepsWork a samples (MakingTrace.took_of (MakingSession.fed_meaning y)) work work'
+  by_answer (Ok y) e = ran y.taken y.written e
+  by_answer (Err x) e = idle (q.refused _ _ (ap MakingSession.fed_meaning e)).1.1
 
   keeps-work : KeepsWork a samples (MakingTrace.took_of (MakingSession.fed_meaning f.answer)) work work'
   keeps-work = by_answer f.answer refl

@@ -1,4 +1,6 @@
 -- A card that was made, read under a cut: what is shown.
+use Rattle.std.proofs.Common.{Option}
+use Rattle.header.specs.declared.ParsedHeader.{ParsedHeader}
 use Prim.Native.Nat.{ℕ, ◌+◌, ◌*◌, ◌≤◌, ◌<◌, min}
 use mathlib.Core.Path.{◌≡◌, refl, sym, ap, ◌∙◌, subst}
 use mathlib.Core.Bool.{Bool, true, false}
@@ -34,7 +36,6 @@ use Rattle.decode_session.specs.Model.{nothing, Call, Told, frames, Reply, openi
 use Rattle.decode_session.specs.Session.{Stands, Sees, seen, seen_of, seen_meaning}
 use Rattle.decode_session.specs.Trace.{Cut, joined}
 use Rattle.decode_session.specs.declared.DecodeSession.{DecodeSession}
-use Rattle.decode_session.specs.declared.HeaderSeen.{HeaderSeen}
 use Rattle.decode_session.specs.Sequence.{sequence}
 use Rattle.decode_session.proofs.Lists.{lists}
 use Rattle.decode_session.proofs.Cuts.{midway, unmet, whole}
@@ -79,7 +80,7 @@ module _ (d : Decoding) (bytes : List ℕ) (h : Outline) (read : read_image d by
     ended : K 0 l.lent → Ended d bytes h read K more last extension
     ended k = buffers d bytes h read K more (omega arith) refl (begun l) k l.trace cut
 
-  header_is : header_of d.mode bytes ≡ gives h → (r : HeaderSeen) → Sees last r → seen_meaning r ≡ seen h
+  header_is : header_of d.mode bytes ≡ gives h → (r : Option ParsedHeader) → Sees last r → seen_meaning r ≡ seen h
   header_is e r s =
       s.does (shut (midway d bytes (length bytes) nothing)) (ended (λ at ext. Unit {0}) (λ at n ext b k. tt) tt).stands
       ∙ ap (λ (b : List ℕ). seen_of (header_of d.mode b) nothing) (take-length bytes)

@@ -1,4 +1,6 @@
 -- What a file that is written or made consists of.
+use Rattle.std.proofs.Common.{Option, Some, None}
+use Rattle.ext.specs.declared.ExtFieldType.{ExtFieldType}
 use Prim.Native.Nat.{ℕ, ◌+◌, ◌<◌}
 use mathlib.Core.Path.{◌≡◌, refl, sym, ap, ◌∙◌, subst}
 use mathlib.Core.Bool.{Bool, true, false, ◌||◌}
@@ -21,8 +23,6 @@ use Rattle.ext.specs.declared.ExtFieldType.TheVariants.{Bitfield00, Reserved01, 
 use Rattle.header.specs.Settings.{Settings}
 use Rattle.header.specs.Read.{Header, read_header}
 use Rattle.header.specs.Write.{fix_byte, size_bytes, header_bytes, fields_header, presented, ext_header}
-use Rattle.header.specs.declared.ExtPresence.{ExtPresence}
-use Rattle.header.specs.declared.ExtPresence.TheVariants.{Absent, Present}
 use Rattle.header.proofs.RoundTrip.{shown, Fitting, header-back}
 use Rattle.options.specs.Limits.{Mode, lenient, strict}
 use Rattle.options.specs.declared.EncodeOptions.{EncodeOptions}
@@ -88,23 +88,23 @@ module _ (strict : Bool) (width height : ℕ) (fields : Fields) (body bytes : Li
       ∙ ap (λ (n : ℕ). n + length body) (header-length (fix_byte fields) f.field_bytes width height)
 
 -- a single octet that is lent is of kind 01 or 10
-single : (presence : ExtPresence) (text lengths : List ℕ) (kind octet : ℕ) → presented presence text lengths ≡ gives (reserved kind octet)
+single : (presence : Option ExtFieldType) (text lengths : List ℕ) (kind octet : ℕ) → presented presence text lengths ≡ gives (reserved kind octet)
     → (kind ≡ 1) ⊎ (kind ≡ 2)
 unfolding lent_fields
-single Absent text lengths kind octet e = zero_one (cc)
-single (Present Bitfield00) text lengths kind octet e = zero_one (cc)
-single (Present Reserved01) [] lengths kind octet e = zero_one (cc)
-single (Present Reserved01) (b ∷ text) lengths kind octet e = inl (cc)
-single (Present Reserved10) [] lengths kind octet e = zero_one (cc)
-single (Present Reserved10) (b ∷ text) lengths kind octet e = inr (cc)
-single (Present ParameterPairs11) text lengths kind octet e = go (eqb (sum lengths) (length text)) e
+single None text lengths kind octet e = zero_one (cc)
+single (Some Bitfield00) text lengths kind octet e = zero_one (cc)
+single (Some Reserved01) [] lengths kind octet e = zero_one (cc)
+single (Some Reserved01) (b ∷ text) lengths kind octet e = inl (cc)
+single (Some Reserved10) [] lengths kind octet e = zero_one (cc)
+single (Some Reserved10) (b ∷ text) lengths kind octet e = inr (cc)
+single (Some ParameterPairs11) text lengths kind octet e = go (eqb (sum lengths) (length text)) e
   where
     go : {X : Type 0} (t : Bool) → if t (gives (pairs (cut_pairs lengths text))) (refuses 31 0) ≡ gives (reserved kind octet) → X
     go true e = zero_one (cc)
     go false e = zero_one (cc)
 
 -- a reading that takes lent fields reads them back
-pub fitting : (mode : Mode) (written : Bool) (presence : ExtPresence) (text lengths : List ℕ) (fields : Fields)
+pub fitting : (mode : Mode) (written : Bool) (presence : Option ExtFieldType) (text lengths : List ℕ) (fields : Fields)
     → presented presence text lengths ≡ gives fields
     → Taken mode written fields → Fitting (image_settings mode) written fields
 fitting strict written presence text lengths fields e t = subst (Fitting (image_settings strict) written) (sym t) tt

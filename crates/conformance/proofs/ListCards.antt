@@ -1,5 +1,6 @@
 -- Examples of the plain machines, which make a card in two calls and read it in three, and of cuts: no session stands here. Lists on the
 -- sessions themselves are those of the functions in src/lib.rt.
+use Rattle.std.proofs.Common.{Some}
 use Prim.Native.Nat.{ℕ}
 use mathlib.Core.Path.{◌≡◌, refl}
 use mathlib.Core.Bool.{true, false}
@@ -14,7 +15,6 @@ use Rattle.ext.specs.Read.{read_fields, read_pairs, read_pair}
 use Rattle.ext_write.specs.Write.{fields_bytes, pairs_bytes, check_pair, lent_fields, cut_pairs, sum}
 use Rattle.ext.specs.declared.ExtFieldType.TheVariants.{ParameterPairs11}
 use Rattle.header.specs.Read.{read_header}
-use Rattle.header.specs.declared.ExtPresence.TheVariants.{Present}
 use Rattle.image.specs.declared.PixelFormat.TheVariants.{MonoWhite}
 use Rattle.options.specs.Limits.{Decoding, absent, ceiling_of, check_limits}
 use Rattle.options.specs.Limits as limits
@@ -39,7 +39,7 @@ use Rattle.conformance.specs.Lists.{samples_of, was_closed}
 abbrev card : Making.Opening
 card =
     record {
-      options = record { quantize = Dither; ext = Present ParameterPairs11; strict = true };
+      options = record { quantize = Dither; ext = Some ParameterPairs11; strict = true };
       width = 2;
       height = 1;
       text = 0x6B ∷ 0x31 ∷ 0x32 ∷ [];

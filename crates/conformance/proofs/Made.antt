@@ -1,4 +1,6 @@
 -- What is made is read back, and sniffing says exact of it without fields and with sizes up to 16,384.
+use Rattle.std.proofs.Common.{Option, None}
+use Rattle.ext.specs.declared.ExtFieldType.{ExtFieldType}
 use Prim.Native.Nat.{ℕ, ◌*◌, ◌≤◌, ◌<◌}
 use mathlib.Core.Path.{◌≡◌, ap, ◌∙◌}
 use mathlib.Core.Bool.{true}
@@ -11,8 +13,6 @@ use Rattle.laws.proofs.Answers.{bind-gives}
 use Rattle.laws.proofs.Products.{up_to}
 use Rattle.ext.specs.Kinds.{Fields, none}
 use Rattle.header.specs.Write.{presented, ext_header}
-use Rattle.header.specs.declared.ExtPresence.{ExtPresence}
-use Rattle.header.specs.declared.ExtPresence.TheVariants.{Absent}
 use Rattle.image.specs.Dots.{is_white}
 use Rattle.image.specs.Geometry.{row_bytes, plane_bytes}
 use Rattle.image.specs.declared.PixelFormat.TheVariants.{MonoBlack}
@@ -116,23 +116,23 @@ made-back ceiling most d o width height count gray text lengths work bytes field
 -- What has no fields is read back strictly too.
 pub made_plain : (ceiling most : ℕ) (d : Decoding) (o : EncodeOptions) (width height count : ℕ) (gray text lengths : List ℕ) (work : ℕ)
     (bytes : List ℕ)
-    → width < 4294967296 → height < 4294967296 → 1 ≤ most → o.ext ≡ Absent → Admitted d width height
+    → width < 4294967296 → height < 4294967296 → 1 ≤ most → o.ext ≡ None → Admitted d width height
     → file_of_scans ceiling o width height count gray text lengths work ≡ gives bytes
     → ReadsBack most d bytes width height none count
     (λ k. finished (setting (rule_given (rule_asked o)) width height 1) (lent_scan width height gray k))
     (λ k. scan_white (rule_given (rule_asked o)) width height (lent_scan width height gray k))
 made_plain ceiling most d o width height count gray text lengths work bytes wb hb r e a w =
     made-back ceiling most d o width height count gray text lengths work bytes none wb hb r
-    (ap (λ (p : ExtPresence). presented p text lengths) e) (plain d.mode o.strict) a w
+    (ap (λ (p : Option ExtFieldType). presented p text lengths) e) (plain d.mode o.strict) a w
 
 pub made-exact : (o : EncodeOptions) (width height count : ℕ) (gray text lengths : List ℕ) (work : ℕ) (bytes : List ℕ)
-    → o.ext ≡ Absent → width ≤ 16384 → height ≤ 16384 → file_of_scans 16 o width height count gray text lengths work ≡ gives bytes
+    → o.ext ≡ None → width ≤ 16384 → height ≤ 16384 → file_of_scans 16 o width height count gray text lengths work ≡ gives bytes
     → sniffed bytes ≡ Exact
 made-exact o width height count gray text lengths work bytes e wb hb w =
     let p = passed 16 o width height count gray text lengths work bytes w in
     let rule = rule_given (rule_asked o) in
     let body = scan_bytes rule width height gray count in
-    let f = filed o width height text lengths body bytes none (ap (λ (p : ExtPresence). presented p text lengths) e) p.file in
+    let f = filed o width height text lengths body bytes none (ap (λ (p : Option ExtFieldType). presented p text lengths) e) p.file in
     file-exact o.strict width height count body bytes f p.tests.sized wb hb
     (body-size rule width height gray f.wide f.high count p.tests.enough count (omega arith))
     (body-clear rule width height gray f.wide f.high count p.tests.enough)

@@ -1,4 +1,6 @@
 -- Cards that are made and read back: two dithered scans of two by one, one sample more, and the octet 5 of kind 00 or no fields.
+use Rattle.std.proofs.Common.{Option, Some, None}
+use Rattle.ext.specs.declared.ExtFieldType.{ExtFieldType}
 use Prim.Native.Nat.{ℕ}
 use mathlib.Core.Path.{◌≡◌, refl}
 use mathlib.Core.Bool.{Bool, true, false}
@@ -9,8 +11,6 @@ use Rattle.mbi.specs.Bytes.{mbi_bytes, groups}
 use Rattle.ext.specs.Kinds.{none, bitfield}
 use Rattle.ext_write.specs.Write.{fields_bytes, octets_bytes, lent_fields}
 use Rattle.ext.specs.declared.ExtFieldType.TheVariants.{Bitfield00}
-use Rattle.header.specs.declared.ExtPresence.{ExtPresence}
-use Rattle.header.specs.declared.ExtPresence.TheVariants.{Absent, Present}
 use Rattle.options.specs.Defaults.{defaults, with_strict}
 use Rattle.options.specs.declared.EncodeOptions.{EncodeOptions}
 use Rattle.options.specs.declared.Quantize.TheVariants.{Dither}
@@ -28,7 +28,7 @@ use Rattle.conformance.proofs.Made.{made-is, made-back, made_plain, made-exact}
 abbrev scans : List ℕ
 scans = 127 ∷ 128 ∷ 128 ∷ 128 ∷ 255 ∷ []
 
-abbrev maker : ExtPresence → EncodeOptions
+abbrev maker : (Option ExtFieldType) → EncodeOptions
 maker ext = record { quantize = Dither; ext = ext; strict = false }
 
 abbrev fielded : List ℕ
@@ -37,18 +37,18 @@ fielded = 0x00 ∷ 0x80 ∷ 0x05 ∷ 0x02 ∷ 0x01 ∷ 0x40 ∷ 0x80 ∷ []
 abbrev bare : List ℕ
 bare = 0x00 ∷ 0x00 ∷ 0x02 ∷ 0x01 ∷ 0x40 ∷ 0x80 ∷ []
 
-fielded-made : file_of_scans 16 (maker (Present Bitfield00)) 2 1 2 scans (5 ∷ []) [] 4 ≡ gives fielded
+fielded-made : file_of_scans 16 (maker (Some Bitfield00)) 2 1 2 scans (5 ∷ []) [] 4 ≡ gives fielded
 unfolding file_of_scans check_scans lent_fields fields_bytes octets_bytes mbi_bytes groups part value white residual value_from handed row_value
     above value_at dot begun_bytes count frame dot_of padded_bit byte_at
     finished upto appended
 fielded-made = refl
 
-by_parts : file_of_scans 16 (maker Absent) 2 1 2 scans [] [] 4
+by_parts : file_of_scans 16 (maker None) 2 1 2 scans [] [] 4
     ≡ gives ((0x00 ∷ 0x00 ∷ 0x02 ∷ 0x01 ∷ []) ++ finished (setting dither 2 1 2) (127 ∷ 128 ∷ 128 ∷ 128 ∷ []))
 unfolding check_scans fields_bytes mbi_bytes groups
-by_parts = made-is 16 (maker Absent) 2 1 2 scans [] [] 4 (0x00 ∷ 0x00 ∷ 0x02 ∷ 0x01 ∷ []) refl refl
+by_parts = made-is 16 (maker None) 2 1 2 scans [] [] 4 (0x00 ∷ 0x00 ∷ 0x02 ∷ 0x01 ∷ []) refl refl
 
-bare-made : file_of_scans 16 (maker Absent) 2 1 2 scans [] [] 4 ≡ gives bare
+bare-made : file_of_scans 16 (maker None) 2 1 2 scans [] [] 4 ≡ gives bare
 unfolding file_of_scans check_scans fields_bytes mbi_bytes groups part value white residual value_from handed row_value above value_at dot
     begun_bytes count frame dot_of padded_bit byte_at finished upto appended
 bare-made = refl
@@ -60,22 +60,22 @@ lenient : ReadsBack 16 defaults fielded 2 1 (bitfield (5 ∷ [])) 2 (λ k. finis
     (λ k. scan_white dither 2 1 (lent_scan 2 1 scans k))
 unfolding lent_fields
 lenient =
-    made-back 16 16 defaults (maker (Present Bitfield00)) 2 1 2 scans (5 ∷ []) [] 4 fielded (bitfield (5 ∷ [])) (omega arith) (omega arith)
+    made-back 16 16 defaults (maker (Some Bitfield00)) 2 1 2 scans (5 ∷ []) [] 4 fielded (bitfield (5 ∷ [])) (omega arith) (omega arith)
     (omega arith) refl (omega arith)
     (admitted false) fielded-made
 
 strict : ReadsBack 16 (with_strict true defaults) bare 2 1 none 2 (λ k. finished (setting dither 2 1 1) (lent_scan 2 1 scans k))
     (λ k. scan_white dither 2 1 (lent_scan 2 1 scans k))
 strict =
-    made_plain 16 16 (with_strict true defaults) (maker Absent) 2 1 2 scans [] [] 4 bare (omega arith) (omega arith) (omega arith) refl
+    made_plain 16 16 (with_strict true defaults) (maker None) 2 1 2 scans [] [] 4 bare (omega arith) (omega arith) (omega arith) refl
     (admitted true) bare-made
 
 -- the first frame alone
 first : ReadsBack 1 defaults bare 2 1 none 2 (λ k. finished (setting dither 2 1 1) (lent_scan 2 1 scans k))
     (λ k. scan_white dither 2 1 (lent_scan 2 1 scans k))
 first =
-    made_plain 16 1 defaults (maker Absent) 2 1 2 scans [] [] 4 bare (omega arith) (omega arith) (omega arith) refl (admitted false)
+    made_plain 16 1 defaults (maker None) 2 1 2 scans [] [] 4 bare (omega arith) (omega arith) (omega arith) refl (admitted false)
     bare-made
 
 exact : sniffed bare ≡ Exact
-exact = made-exact (maker Absent) 2 1 2 scans [] [] 4 bare refl (omega arith) (omega arith) bare-made
+exact = made-exact (maker None) 2 1 2 scans [] [] 4 bare refl (omega arith) (omega arith) bare-made

@@ -1,4 +1,6 @@
 -- Sniffing says exact of what is written without fields and with sizes up to 16,384.
+use Rattle.std.proofs.Common.{Option, None}
+use Rattle.ext.specs.declared.ExtFieldType.{ExtFieldType}
 use Prim.Native.Nat.{ℕ, zero, suc, ◌+◌, ◌-◌, ◌*◌, ◌/◌, ◌^◌, ◌≤◌, ◌<◌}
 use mathlib.Core.Path.{◌≡◌, refl, sym, ap, ◌∙◌}
 use mathlib.Core.Bool.{Bool, true}
@@ -13,8 +15,6 @@ use Rattle.laws.proofs.Products.{one_of}
 use Rattle.ext.specs.Kinds.{none}
 use Rattle.header.specs.Settings.{inner}
 use Rattle.header.specs.Read.{Header, outline}
-use Rattle.header.specs.declared.ExtPresence.{ExtPresence}
-use Rattle.header.specs.declared.ExtPresence.TheVariants.{Absent}
 use Rattle.header.specs.Write.{presented}
 use Rattle.image.specs.Geometry.{row_bytes, plane_bytes, padding_bits}
 use Rattle.image.specs.Rows.{clear_low, source_row, to_native}
@@ -107,17 +107,17 @@ wired-clear format w h s planes count k y wide i l =
     ∙ ap (λ (n : ℕ). clear_low n (get_or (to_native format (source_row (row_bytes w) s plane y)) last 0)) b)
 
 pub written-exact : (o : EncodeOptions) (format : PixelFormat) (width height count stride : ℕ) (planes text lengths bytes : List ℕ)
-    → o.ext ≡ Absent → width ≤ 16384 → height ≤ 16384
+    → o.ext ≡ None → width ≤ 16384 → height ≤ 16384
     → file_of_planes 16 o format width height count stride planes text lengths ≡ gives bytes
     → sniffed bytes ≡ Exact
 written-exact o format width height count stride planes text lengths bytes e wb hb w =
     let p = passed 16 o format width height count stride planes text lengths bytes w in
     let body = wire_planes format width height stride planes count in
-    let f = filed o width height text lengths body bytes none (ap (λ (p : ExtPresence). presented p text lengths) e) p.file in
+    let f = filed o width height text lengths body bytes none (ap (λ (p : Option ExtFieldType). presented p text lengths) e) p.file in
     file-exact o.strict width height count body bytes f p.tests.frames wb hb (planes-length format width height stride planes count)
     (by-planes (λ r. is_clear width body r ≡ true) count height f.high
     (λ k y. wired-clear format width height stride planes count k y f.wide))
 
 -- two frames of nine by two, whose padding was dirty
 example : sniffed bare ≡ Exact
-example = written-exact (writer Absent) MonoWhite 9 2 2 3 nine_by_two [] [] bare refl (omega arith) (omega arith) bare-written
+example = written-exact (writer None) MonoWhite 9 2 2 3 nine_by_two [] [] bare refl (omega arith) (omega arith) bare-written

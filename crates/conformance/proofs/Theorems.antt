@@ -1,5 +1,6 @@
 -- The theorems beyond the contracts, each under the sentence of document 01, or of its tender, that it renders; each cites its law.
 -- Assumes nothing.
+use Rattle.std.proofs.Common.{None}
 use Prim.Native.Nat.{ℕ, suc, ◌+◌, ◌*◌, ◌≤◌, ◌<◌}
 use mathlib.Core.Path.{◌≡◌}
 use mathlib.Core.Bool.{Bool, true, false}
@@ -31,7 +32,6 @@ use Rattle.header.specs.Read.{Outline, outline, read_header}
 use Rattle.header_reader.specs.Internal.Represents.{Represents}
 use Rattle.header.specs.Settings.{Settings}
 use Rattle.header.specs.Write.{fix_byte, header_bytes, ext_header, presented}
-use Rattle.header.specs.declared.ExtPresence.TheVariants.{Absent}
 use Rattle.header_reader.specs.declared.reader.HeaderReader.{HeaderReader}
 use Rattle.header_pieces.proofs.Pieces.{pieces, two-cuts}
 use Rattle.header.proofs.Prefix as HeaderPrefix
@@ -245,7 +245,7 @@ written-shown : (ceiling most : ℕ) (d : Decoding) (o : EncodeOptions) (f : Pix
 written-shown = written_back
 
 written-shown-plain : (ceiling most : ℕ) (d : Decoding) (o : EncodeOptions) (f : PixelFormat) (w h n stride : ℕ)
-    (planes text lengths bytes : List ℕ) → w < 4294967296 → h < 4294967296 → 1 ≤ most → Octets planes → o.ext ≡ Absent → Admitted d w h
+    (planes text lengths bytes : List ℕ) → w < 4294967296 → h < 4294967296 → 1 ≤ most → Octets planes → o.ext ≡ None → Admitted d w h
     → file_of_planes ceiling o f w h n stride planes text lengths ≡ gives bytes
     → ReadsBack most d bytes w h none n (λ k. wire_bits f w h stride (lent_plane w h stride planes k))
     (λ k. is_white f w h stride (lent_plane w h stride planes k))
@@ -261,18 +261,18 @@ made-shown = made-back
 
 made-shown-plain : (ceiling most : ℕ) (d : Decoding) (o : EncodeOptions) (w h n : ℕ) (gray text lengths : List ℕ) (work : ℕ)
     (bytes : List ℕ)
-    → w < 4294967296 → h < 4294967296 → 1 ≤ most → o.ext ≡ Absent → Admitted d w h
+    → w < 4294967296 → h < 4294967296 → 1 ≤ most → o.ext ≡ None → Admitted d w h
     → file_of_scans ceiling o w h n gray text lengths work ≡ gives bytes
     → ReadsBack most d bytes w h none n (λ k. finished (setting (rule_given (rule_asked o)) w h 1) (lent_scan w h gray k))
     (λ k. scan_white (rule_given (rule_asked o)) w h (lent_scan w h gray k))
 made-shown-plain = made_plain
 
 -- "exact for 1-16 frames and no rest": so every file is sniffed that is written or made without fields and with sizes up to 16,384.
-written-sniffed : (o : EncodeOptions) (f : PixelFormat) (w h n stride : ℕ) (planes text lengths bytes : List ℕ) → o.ext ≡ Absent
+written-sniffed : (o : EncodeOptions) (f : PixelFormat) (w h n stride : ℕ) (planes text lengths bytes : List ℕ) → o.ext ≡ None
     → w ≤ 16384 → h ≤ 16384 → file_of_planes 16 o f w h n stride planes text lengths ≡ gives bytes → sniffed bytes ≡ Exact
 written-sniffed = written-exact
 
-made-sniffed : (o : EncodeOptions) (w h n : ℕ) (gray text lengths : List ℕ) (work : ℕ) (bytes : List ℕ) → o.ext ≡ Absent → w ≤ 16384
+made-sniffed : (o : EncodeOptions) (w h n : ℕ) (gray text lengths : List ℕ) (work : ℕ) (bytes : List ℕ) → o.ext ≡ None → w ≤ 16384
     → h ≤ 16384 → file_of_scans 16 o w h n gray text lengths work ≡ gives bytes → sniffed bytes ≡ Exact
 made-sniffed = made-exact
 

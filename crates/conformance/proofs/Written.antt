@@ -1,4 +1,6 @@
 -- What is written is read back.
+use Rattle.std.proofs.Common.{Option, None}
+use Rattle.ext.specs.declared.ExtFieldType.{ExtFieldType}
 use Prim.Native.Nat.{ℕ, zero, suc, ◌+◌, ◌-◌, ◌*◌, ◌^◌, ◌≤◌, ◌<◌}
 use mathlib.Core.Path.{◌≡◌, refl, ap, ◌∙◌, subst}
 use mathlib.Core.List.{List, ◌++◌}
@@ -12,8 +14,6 @@ use Rattle.laws.proofs.Octets.{Octets, octets-nil, octets-set, octets-append}
 use Rattle.laws.proofs.Products.{up_to}
 use Rattle.ext.specs.Kinds.{Fields, none}
 use Rattle.header.specs.Write.{presented}
-use Rattle.header.specs.declared.ExtPresence.{ExtPresence}
-use Rattle.header.specs.declared.ExtPresence.TheVariants.{Absent}
 use Rattle.image.specs.Dots.{is_white}
 use Rattle.image.specs.Geometry.{row_bytes, plane_bytes, needed_bytes, padding_bits, check_geometry}
 use Rattle.image.specs.Rows.{clear_low, clear_padding, source_row, to_native, wire_row, wire_bits}
@@ -126,11 +126,11 @@ written_back ceiling most d o format width height count stride planes text lengt
 
 -- What has no fields is read back strictly too.
 pub written-plain : (ceiling most : ℕ) (d : Decoding) (o : EncodeOptions) (format : PixelFormat) (width height count stride : ℕ)
-    (planes text lengths bytes : List ℕ) → width < 4294967296 → height < 4294967296 → 1 ≤ most → Octets planes → o.ext ≡ Absent
+    (planes text lengths bytes : List ℕ) → width < 4294967296 → height < 4294967296 → 1 ≤ most → Octets planes → o.ext ≡ None
     → Admitted d width height
     → file_of_planes ceiling o format width height count stride planes text lengths ≡ gives bytes
     → ReadsBack most d bytes width height none count (λ k. wire_bits format width height stride (lent_plane width height stride planes k))
     (λ k. is_white format width height stride (lent_plane width height stride planes k))
 written-plain ceiling most d o format width height count stride planes text lengths bytes wb hb r b e a w =
     written_back ceiling most d o format width height count stride planes text lengths bytes none wb hb r b
-    (ap (λ (p : ExtPresence). presented p text lengths) e) (plain d.mode o.strict) a w
+    (ap (λ (p : Option ExtFieldType). presented p text lengths) e) (plain d.mode o.strict) a w

@@ -1,6 +1,7 @@
 -- Condition 3 of the tender, as document 01 tells it ("Lists (condition 3)"): one claim about lists of calls on a session that makes a card
 -- and on one that reads it.
-use Rattle.std.specs.Prelude.{ℕ, ◌*◌, ◌^◌, ◌≤◌, ◌<◌, ◌≡◌, Bool, true, false, ◌||◌, List, [], ◌∷◌, ◌++◌, ℤ, length, take, drop}
+use Rattle.std.specs.Prelude.{ℕ, ◌*◌, ◌^◌, ◌≤◌, ◌<◌, ◌≡◌, Bool, true, false, ◌||◌, List, [], ◌∷◌, ◌++◌, ℤ, length, take, drop, Option}
+use Rattle.header.specs.declared.ParsedHeader.{ParsedHeader}
 use Rattle.error.specs.Answer.{Answer, gives, refuses, map, written, checked}
 use Rattle.ext.specs.Kinds.{Fields, none, Span, absent, span}
 use Rattle.ext.specs.Read.{read_fields}
@@ -23,7 +24,6 @@ use Rattle.decode_session.specs.Session as ReadingSession
 use Rattle.decode_session.specs.Trace as ReadingTrace
 use Rattle.decode_session.specs.declared.DecodeSession.{DecodeSession}
 use Rattle.decode_session.specs.declared.DecodeOpened.{DecodeOpened}
-use Rattle.decode_session.specs.declared.HeaderSeen.{HeaderSeen}
 use Rattle.conformance.specs.ReadBack.{Taken, Admitted, plane_in, lent_scan, scan_white}
 
 -- A list on an opened card maker: an accepted opening, which wrote the header, then calls and what they replied.
@@ -82,7 +82,7 @@ pub record Shows (d : Decoding) (a : Making.Opening) (fields : Fields) (k : ℕ)
     (extension joined : List ℕ)
     (closing : Answer Reading.Told) : Type 0 where
   pub header : Outline
-  pub seen : (r : HeaderSeen) → ReadingSession.Sees last r → ReadingSession.seen_meaning r ≡ ReadingSession.seen header
+  pub seen : (r : Option ParsedHeader) → ReadingSession.Sees last r → ReadingSession.seen_meaning r ≡ ReadingSession.seen header
   pub width : header.width ≡ a.width
   pub height : header.height ≡ a.height
   pub fields_are : fields_shown header.fields extension ≡ gives fields

@@ -8,17 +8,18 @@ ghost use Rattle.options.specs.Limits.{decoding};
 ghost use Rattle.encode_session.specs.Model.{opening};
 ghost use Rattle.conformance.specs.Calls.{MakesCard, ReadsCard};
 
-use decode_session::{DecodeClose, DecodeFeed, DecodeSession, HeaderSeen};
-use encode_session::{EncodeFeed, EncodeSession};
-use error::{Checked, Written};
+use decode_session::DecodeSession;
+use encode_session::EncodeSession;
+use error::{Fed, Result};
+use header::ParsedHeader;
 use options::{DecodeOptions, EncodeOptions};
 
 // What the calls on an encode session answer.
 #[derive(Drop)]
 struct CardMade {
-    header: Written,
-    feeding: EncodeFeed,
-    closing: Checked,
+    header: Result<usize>,
+    feeding: Result<Fed>,
+    closing: Result<()>,
 }
 
 // Opens a session for a card without text, feeds it and closes it.
@@ -34,37 +35,24 @@ fn make_card(
     ensures { MakesCard (opening options width height [] []) samples.now work.old head.old
         out.old result work.new head.new out.new }
 {
-    let lengths = [0usize; 0];
-    let opened = EncodeSession::open_lengths(
-        width,
-        height,
-        options,
-        b"",
-        &lengths,
-        &work[..],
-        head,
-    );
-    let header = opened.answer;
-    let begun = opened.session;
-    let fed = begun.feed(samples, work, out);
-    let feeding = fed.answer;
-    let last = fed.session;
-    let end = last.close();
-    let closing = end.answer;
+    let none: &[usize] = &[];
+    let opened = EncodeSession::open(width, height, options, b"", none, work, head);
+    let fed = opened.session.feed(samples, work, out);
+    let closed = fed.session.close();
     CardMade {
-        header,
-        feeding,
-        closing,
+        header: opened.answer,
+        feeding: fed.answer,
+        closing: closed.answer,
     }
 }
 
 // What the calls on a decode session answer.
 #[derive(Drop)]
 struct CardRead {
-    opening: Checked,
-    feeding: DecodeFeed,
-    closing: DecodeClose,
-    seen: HeaderSeen,
+    opening: Result<()>,
+    feeding: Result<Fed>,
+    closing: Result<u32>,
+    seen: Option<ParsedHeader>,
 }
 
 // Opens a session, feeds it, closes it and asks for the header.
@@ -72,20 +60,13 @@ fn read_card(options: DecodeOptions, piece: &[u8], out: &mut [u8], ext: &mut [u8
     ensures { ReadsCard (decoding options) piece.now out.old ext.old result out.new
         ext.new }
 {
-    let opened = DecodeSession::open(options, &ext[..]);
-    let opening = opened.answer;
-    let begun = opened.session;
-    let fed = begun.feed(piece, out, ext);
-    let feeding = fed.answer;
-    let read = fed.session;
-    let end = read.close();
-    let closing = end.answer;
-    let last = end.session;
-    let seen = last.header();
+    let opened = DecodeSession::open(options, ext);
+    let fed = opened.session.feed(piece, out, ext);
+    let ended = fed.session.close();
     CardRead {
-        opening,
-        feeding,
-        closing,
-        seen,
+        opening: opened.answer,
+        feeding: fed.answer,
+        closing: ended.answer,
+        seen: ended.session.header(),
     }
 }

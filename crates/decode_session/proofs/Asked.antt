@@ -1,7 +1,8 @@
 -- What a session tells of itself in each stage.
+use Rattle.std.proofs.Common.{min}
 use Prim.Native.Nat.{ℕ, zero, suc, ◌+◌, ◌-◌, ◌*◌, ◌/◌, ◌≤◌, ◌<◌}
 use mathlib.Core.Path.{◌≡◌, refl, sym, ap, ◌∙◌}
-use mathlib.Core.Bool.{Bool, true, false, not}
+use mathlib.Core.Bool.{Bool, true, false}
 use mathlib.Core.Logic.{◌⊎◌, inl, inr, ⊎_elim}
 use native.Mathlib.Nat.{div-eq_of_lt-le, le-div_iff_mul-le}
 use native.Mathlib.Omega.{arith}
@@ -11,7 +12,6 @@ use lib.ListN.{length}
 use Rattle.error.specs.Choice.{if}
 use Rattle.error.specs.Answer.{gives, refuses}
 use Rattle.error.specs.declared.WbmpError.{WbmpError}
-use Rattle.laws.proofs.Tests.{zero_one}
 use Rattle.header.specs.Read.{Outline, parsed}
 use Rattle.header_reader.specs.declared.FieldsSeen.{FieldsSeen}
 use Rattle.header.specs.declared.ParsedHeader.{ParsedHeader}
@@ -24,7 +24,7 @@ use Rattle.decoder.specs.Image.{image_settings}
 use Rattle.decoder.proofs.Headed.{image-by}
 use Rattle.header_pieces.specs.Internal.Head.{HasRead, TellsFields}
 use Rattle.decode_session.specs.Model.{Model, frames, closing}
-use Rattle.decode_session.specs.Session.{whole_in, frames_done, InBody, BeforeHeader, StageOf, Stands, TellsClosed, TellsFrames}
+use Rattle.decode_session.specs.Session.{whole_in, frames_done, InBody, BeforeHeader, StageOf, Stands, TellsFrames}
 use Rattle.decode_session.specs.Session.{SeesFields}
 use Rattle.decode_session.specs.declared.Stage.{Stage}
 use Rattle.decode_session.specs.declared.DecodeSession.{DecodeSession}
@@ -75,26 +75,18 @@ module _ {m : Model} {h : Outline} {whole begun : ℕ} (b : InBody m h whole beg
           capped (size / plane_of h) (ceiling_of m.options) whole (omega (arith, v.0)) (inr (v.0, l))
 
 module _ (s : DecodeSession) where
-  pub closed_is : TellsClosed s (not s.live)
-  closed_is = record { is = refl; does = λ m st. ap not st.live }
-
   module _ (r : HeadReading) (g : s.stage ≡ Stage.Header r) where
     pub header-frames : TellsFrames s 0
     header-frames = record { does = λ m st. sym (none_done m r (staged m g st.stage).1) }
 
-    pub header-fields : (f : FieldsSeen) → TellsFields r f → SeesFields s f
-    header-fields f k = record { does = λ m st. (unread-so m r f (staged m g st.stage).1 k).fields }
-
   module _ (p : ParsedHeader) (whole begun : ℕ) (g : s.stage ≡ Stage.Body p whole begun) where
-    pub body-frames : (n : ℕ) → (n ≡ whole) ⊎ (n ≡ 16) → n ≤ whole → TellsFrames s n
-    body-frames n i l =
+    pub body-frames : (n : ℕ) → n ≡ min whole 16 → TellsFrames s n
+    body-frames n i =
         record {
           does =
               λ m st.
               let b = in-body m g st.stage in
-              let k = at_most b st.tested in
-              let e : n ≡ whole = ⊎_elim (λ (q : n ≡ whole). q) (λ (q : n ≡ 16). omega arith) i in
-              e ∙ sym (done-in b);
+              omega (arith, at_most b st.tested, done-in b);
         }
 
     pub body-fields : SeesFields s (FieldsSeen.Seen p.ext_fields)
@@ -111,15 +103,12 @@ module _ (s : DecodeSession) where
     pub refused-frames : TellsFrames s 0
     refused-frames = record { does = λ m st. sym (unread m st).none }
 
-    pub refused-fields : SeesFields s f
-    refused-fields = record { does = λ m st. (unread m st).fields }
-
 -- closing counts the frames that are done
 pub counted : (s : DecodeSession) (m : Model) (n : ℕ) → Stands s m → closing m m.met ≡ gives (frames n) → frames_done m ≡ n
 counted s m n st e = go s.stage st.stage
   where
     body : (p : ParsedHeader) (whole begun : ℕ) → InBody m (parsed p) whole begun → frames_done m ≡ n
-    body p zero begun b = let q = none-whole b st.tested refl in zero_one (cc)
+    body p zero begun b = let q = none-whole b st.tested refl in cc
     body p (suc k) begun b =
         let q = all_whole b st.tested (omega arith) in
         let same : suc k ≡ n = cc in
@@ -129,6 +118,6 @@ counted s m n st e = go s.stage st.stage
     go (Stage.Header r) u =
         let h = unread-end (image_settings m.options.mode) m.bytes u.1.state u.1.reached in
         let q = closes_by m (refuses (end_code u.1.state) (end_offset u.1.state)) u.0 (image-by m.options m.bytes _ h) in
-        zero_one (cc)
+        cc
     go (Stage.Body p whole begun) b = body p whole begun b
-    go (Stage.Refused x f) u = let q = ap (closing m) u.0 in zero_one (cc)
+    go (Stage.Refused x f) u = let q = ap (closing m) u.0 in cc

@@ -1,13 +1,12 @@
 -- A header that ends in a piece: the limits, and the body from there on.
+use Rattle.std.proofs.Common.{Result, Ok, Err}
 use Prim.Native.Nat.{ℕ, ◌+◌, ◌<◌}
 use mathlib.Core.Path.{◌≡◌, refl, sym, ap, subst, ◌∙◌}
 use mathlib.Core.List.{List, ◌++◌}
 use mathlib.Core.Logic.{inl}
 use native.Mathlib.Omega.{arith}
 use lib.ListN.{length, take, drop}
-use Rattle.error.specs.Answer.{gives, checked}
-use Rattle.error.specs.declared.Checked.{Checked}
-use Rattle.error.specs.declared.Checked.TheVariants.{Accepted}
+use Rattle.error.specs.Answer.{gives, checked, number}
 use Rattle.error.specs.declared.WbmpError.{WbmpError}
 use Rattle.laws.proofs.Lists.{length-append-take, append-take-drop}
 use Rattle.header.specs.Read.{Outline, parsed}
@@ -21,15 +20,16 @@ use Rattle.decoder.specs.Image.{image_settings, header_of}
 use Rattle.decoder.proofs.Shaped.{outline-shape}
 use Rattle.decode_session.specs.Model.{Met, met_at, Model, meets, stored, fed_by}
 use Rattle.decode_session.specs.Session.{BeforeHeader, Settled}
-use Rattle.decode_session.specs.Internal.Stages.{met_in, FedAs, Enters, FeedsPlanes, Ended, Begins}
-use Rattle.decode_session.specs.declared.DecodeFed.{DecodeFed}
+use Rattle.decode_session.specs.Internal.Stages.{taken_in, met_in, FedAs, Enters, FeedsPlanes, Ended, Begins}
+use Rattle.decode_session.specs.declared.Stage.{Stage}
+use Rattle.error.specs.declared.Fed.{Fed}
 use Rattle.decode_session.proofs.Headers.{header-later}
 use Rattle.decode_session.proofs.StageFacts.{ceiling-some}
 use Rattle.decode_session.proofs.RefusalsMet.{limit-over, admitted}
 
 -- the session that met a refusal agrees
 pub refused-agrees : (o : DecodeOptions) (m : Model) (piece out ext : List ℕ) (e : WbmpError) (f : FieldsSeen)
-    → Settled m.options → decoding o ≡ m.options → BeforeHeader m f → meets m piece ≡ met_at e.code e.offset
+    → Settled m.options → decoding o ≡ m.options → BeforeHeader m f → meets m piece ≡ met_at (number e.kind) e.offset
     → FedAs (met_in o e f) out (stored m (m.bytes ++ piece) ext) (fed_by m piece out ext (meets m piece))
 refused-agrees o m piece out ext e f c q u met =
     subst
@@ -70,7 +70,7 @@ module _ (m : Model) (piece : List ℕ) (from : ℕ) (h : Outline) (e : Ended m 
         earlier = e.none ∙ omega arith;
       }
 
-module _ (o : DecodeOptions) (f : FieldsSeen) (p : ParsedHeader) (from : ℕ) (piece out : List ℕ) (d : DecodeFed) (r x : Checked) (n : ℕ)
+module _ (o : DecodeOptions) (p : ParsedHeader) (from : ℕ) (piece out : List ℕ) (r x : Result (Unit {0}) WbmpError) (n : ℕ)
     (tested : checked r ≡ check_limits (decoding o) p.width p.height n p.data_offset) (is : r ≡ x)
     (plane : n ≡ plane_of (parsed p)) where
   limits : (m : Model) → decoding o ≡ m.options
@@ -81,24 +81,22 @@ module _ (o : DecodeOptions) (f : FieldsSeen) (p : ParsedHeader) (from : ℕ) (p
       ∙ ap (λ (k : ℕ). check_limits (decoding o) p.width p.height k p.data_offset) plane
       ∙ ap (λ (d : Decoding). check_limits d p.width p.height (plane_of (parsed p)) p.data_offset) q)
 
-  pub begins : (out' : List ℕ) → x ≡ Accepted → FeedsPlanes o p 0 0 from piece out d out' → Begins o f p from piece out d out'
-  begins out' a t =
+  pub begins : (out' : List ℕ) (t : Stage × Fed) → x ≡ Ok tt → FeedsPlanes o p 0 0 from piece out (taken_in o t.0 t.1) out'
+      → Begins o p from piece out (Ok t) out'
+  begins out' t a b =
       record {
         does =
-            λ m ext c q u e.
+            λ f m ext c q u e.
             let l = limits m q ∙ ap checked a in
-            subst (λ (x : Met). FedAs d out' (stored m (m.bytes ++ piece) ext) (fed_by m piece out ext x))
+            subst (λ (x : Met). FedAs (taken_in o t.0 t.1) out' (stored m (m.bytes ++ piece) ext) (fed_by m piece out ext x))
             (sym (admitted m piece (parsed p) (header-all m piece from (parsed p) e) l))
-            (t.does m ext c q (enters m piece from (parsed p) e c l));
+            (b.does m ext c q (enters m piece from (parsed p) e c l));
       }
 
-  pub over : (e : WbmpError) → x ≡ Checked.Refused e → d ≡ met_in o e f
-      → Begins o f p from piece out d out
-  over e a s =
+  pub over : (e : WbmpError) → x ≡ Err e → Begins o p from piece out (Err e) out
+  over e a =
       record {
         does =
-            λ m ext c q u g.
-            subst (λ (d : DecodeFed). FedAs d out (stored m (m.bytes ++ piece) ext) (fed_by m piece out ext (meets m piece))) (sym s)
-            (refused-agrees o m piece out ext e f c q u
-            (limit-over m piece (parsed p) (header-all m piece from (parsed p) g) e.code e.offset (limits m q ∙ ap checked a)));
+            λ f m ext c q u g. refused-agrees o m piece out ext e f c q u
+            (limit-over m piece (parsed p) (header-all m piece from (parsed p) g) (number e.kind) e.offset (limits m q ∙ ap checked a));
       }

@@ -1,18 +1,19 @@
 -- What closing answers in each stage.
+use Rattle.std.proofs.Common.{Ok, Err, min}
 use Prim.Native.Nat.{ℕ, ◌+◌, ◌-◌, ◌*◌, ◌/◌, ◌≤◌, ◌<◌}
 use mathlib.Core.Path.{◌≡◌, sym, ap, ◌∙◌}
-use mathlib.Core.Logic.{◌⊎◌, ⊎_elim}
+use mathlib.Core.Logic.{⊎_elim}
 use native.Mathlib.Nat.{pos_of_ne-zero, div-eq_of_lt-le, le-div_iff_mul-le}
 use native.Mathlib.Omega.{arith}
 use borrow.Author.Tests.{lt-ltb, le-ltb}
 use lib.Dec.{ltb}
 use lib.ListN.{length}
 use Rattle.error.specs.Choice.{if}
-use Rattle.error.specs.Answer.{Answer, gives, refuses, map}
+use Rattle.error.specs.Answer.{Answer, gives, refuses, map, refusal}
+use Rattle.error.specs.declared.Refusal.TheVariants.{PlaneTooShort}
 use Rattle.error.specs.declared.WbmpError.{WbmpError}
 use Rattle.laws.proofs.Tests.{if-true, if-false}
 use Rattle.header.specs.Read.{Outline}
-use Rattle.header_reader.specs.declared.FieldsSeen.{FieldsSeen}
 use Rattle.header.specs.declared.ParsedHeader.{ParsedHeader}
 use Rattle.header_pieces.specs.declared.HeadReading.{HeadReading}
 use Rattle.options.specs.Limits.{ceiling_of}
@@ -25,7 +26,6 @@ use Rattle.decode_session.specs.Model.{nothing, Model, Told, frames, closing}
 use Rattle.decode_session.specs.Session.{InBody, Settled}
 use Rattle.decode_session.specs.Internal.Stages.{Finishes}
 use Rattle.decode_session.specs.declared.Stage.{Stage}
-use Rattle.decode_session.specs.declared.DecodeClose.{DecodeClose}
 use Rattle.decode_session.proofs.StageFacts.{staged, in-body, ceiling-some, ceiling-few}
 
 -- closing by the image's answer
@@ -93,32 +93,26 @@ module _ {m : Model} {h : Outline} {whole begun : ℕ} (b : InBody m h whole beg
 
 module _ (s : Stage) where
   pub finish-header : (r : HeadReading) (e : WbmpError) → s ≡ Stage.Header r → TellsEnd r e
-      → Finishes s (DecodeClose.Refused e)
+      → Finishes s (Err e)
   finish-header r e g d =
       record {
         does =
             λ m c st.
             let u = staged m g st in
             let o = image_settings m.options.mode in
-            sym (closes_by m (refuses e.code e.offset) u.0
-            (image-by m.options m.bytes (refuses e.code e.offset)
-            (sym (d o m.bytes u.1))));
+            sym (closes_by m (refusal e) u.0 (image-by m.options m.bytes (refusal e) (sym (d o m.bytes u.1))));
       }
 
   module _ (p : ParsedHeader) (whole begun : ℕ) (g : s ≡ Stage.Body p whole begun) where
-    pub finish-short : whole ≡ 0 → Finishes s (DecodeClose.Refused (record { code = 20; offset = p.data_offset }))
-    finish-short z = record { does = λ m c st. sym (none-whole (in-body m g st) c z) }
+    pub finish-short : (e : WbmpError) → whole ≡ 0 → e ≡ record { kind = PlaneTooShort; offset = p.data_offset } → Finishes s (Err e)
+    finish-short e z f = record { does = λ m c st. ap refusal f ∙ sym (none-whole (in-body m g st) c z) }
 
-    pub finish-body : (n : ℕ) → (whole ≡ 0 → ⊥) → (n ≡ whole) ⊎ (n ≡ 16) → n ≤ whole → Finishes s (DecodeClose.Frames n)
-    finish-body n z i l =
+    pub finish-body : (n : ℕ) → (whole ≡ 0 → ⊥) → n ≡ min whole 16 → Finishes s (Ok n)
+    finish-body n z i =
         record {
           does =
               λ m c st.
               let b = in-body m g st in
-              let k = at_most b c in
-              let e : n ≡ whole = ⊎_elim (λ (q : n ≡ whole). q) (λ (q : n ≡ 16). omega arith) i in
+              let e : n ≡ whole = omega (arith, at_most b c) in
               ap (λ (k : ℕ). gives (frames k)) e ∙ sym (all_whole b c (pos_of_ne-zero z));
         }
-
-  pub finish-refused : (e : WbmpError) (f : FieldsSeen) → s ≡ Stage.Refused e f → Finishes s (DecodeClose.Refused e)
-  finish-refused e f g = record { does = λ m c st. sym (ap (closing m) (staged m g st).0) }

@@ -1,15 +1,17 @@
 -- A call of `close`.
+use Rattle.std.proofs.Common.{Result, Err}
 use mathlib.Core.Path.{◌≡◌, refl, sym, ap, subst, ◌∙◌}
 use mathlib.Core.Bool.{true, false}
 use mathlib.Core.List.{[]}
-use Rattle.error.specs.Answer.{refuses}
+use Prim.Native.Nat.{ℕ}
+use Rattle.error.specs.Answer.{refusal}
+use Rattle.error.specs.declared.Refusal.TheVariants.{SessionClosed}
 use Rattle.error.specs.declared.WbmpError.{WbmpError}
 use Rattle.laws.proofs.Tests.{if-true, if-false}
 use Rattle.decode_session.specs.Model.{Model, close, Outcome, closing, shut, unaltered, outcome}
 use Rattle.decode_session.specs.Session.{closed_meaning, StageOf, Stands, Closes}
 use Rattle.decode_session.specs.Internal.Stages.{Finishes}
 use Rattle.decode_session.specs.declared.Stage.{Stage}
-use Rattle.decode_session.specs.declared.DecodeClose.{DecodeClose}
 use Rattle.decode_session.specs.declared.DecodeSession.{DecodeSession}
 use Rattle.decode_session.specs.declared.DecodeClosed.{DecodeClosed}
 use Rattle.decode_session.proofs.Replies.{replied}
@@ -24,15 +26,15 @@ module _ (s : DecodeSession) where
       subst (λ (y : Outcome). (y.reply ≡ record { answer = closed_meaning d.answer; output = []; extension = [] })
       × Stands d.session y.next) (sym e) (r, st)
 
-  pub close-shut : (e : WbmpError) → s.live ≡ false → e ≡ record { code = 30; offset = 0 }
-      → Closes s (record { session = s; answer = DecodeClose.Refused e })
+  pub close-shut : (e : WbmpError) → s.live ≡ false → e ≡ record { kind = SessionClosed; offset = 0 }
+      → Closes s (record { session = s; answer = Err e })
   unfolding outcome
   close-shut e l n =
       record {
         does =
-            λ m st. closes m (record { session = s; answer = DecodeClose.Refused e }) (unaltered m 30 0 [] [])
+            λ m st. closes m (record { session = s; answer = Err e }) (unaltered m 30 0 [] [])
             (if-false m.live _ _ (sym st.live ∙ l))
-            (replied (ap (λ (e : WbmpError). refuses e.code e.offset) (sym n)) refl refl) st;
+            (replied (sym (ap refusal n)) refl refl) st;
       }
 
   -- closed, a session stands for the same bytes
@@ -49,7 +51,7 @@ module _ (s : DecodeSession) where
       }
   still (Stage.Refused e f) m h = (h.0, record { none = h.1.none; fields = h.1.fields })
 
-  pub close_open : (a : DecodeClose) → s.live ≡ true → Finishes s.stage a
+  pub close_open : (a : Result ℕ WbmpError) → s.live ≡ true → Finishes s.stage a
       → Closes s (record { session = record { options = s.options; stage = s.stage; live = false }; answer = a })
   unfolding outcome
   close_open a l f =

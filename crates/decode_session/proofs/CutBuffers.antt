@@ -6,7 +6,6 @@ use mathlib.Core.List.{List}
 use native.Mathlib.Omega.{arith}
 use lib.ListN.{length, take, drop}
 use Rattle.error.specs.Answer.{Answer, gives}
-use Rattle.laws.proofs.Tests.{zero_one}
 use Rattle.header.specs.Read.{Outline}
 use Rattle.options.specs.Limits.{Decoding}
 use Rattle.decoder.specs.Image.{read_image}
@@ -76,4 +75,4 @@ module _ (d : Decoding) (file : List ℕ) (h : Outline) (accepted : read_image d
       let z : at ≡ at + took_of (fed_meaning r.answer) = omega (arith, ap took_of q) in
       buffers n.there (rw e n.unmet) n.stands (subst (λ (n : ℕ). K n ext) z k) t c
   buffers {s} {ext = ext} l e st k (Traces.shut {r = r} f Traces.none) (taken {at = at} j) = ended at s ext r l j st k f
-  buffers l e st k (Traces.shut f t) Traces.after_refusal = zero_one (cc)
+  buffers l e st k (Traces.shut f t) Traces.after_refusal = cc

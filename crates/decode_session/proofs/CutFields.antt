@@ -12,7 +12,6 @@ use lib.Seq.{length-take-le}
 use Rattle.error.specs.Choice.{if}
 use Rattle.error.specs.Answer.{Answer, gives, refuses, is_end}
 use Rattle.laws.proofs.Lists.{take-length-take}
-use Rattle.laws.proofs.Tests.{zero_one}
 use Rattle.mbi.specs.Bytes.{mbi_bytes, groups}
 use Rattle.mbi.specs.Read.{read_mbi, read_rest}
 use Rattle.mbi.proofs.RoundTrip.{read-written}
@@ -102,7 +101,7 @@ module _ (o : Settings) (fix : ℕ) (fields τ : List ℕ) (f : Fields) (passed 
         go false q =
             let w = fields-prefix o.classes true (kind_bits fix) part (drop n fields ++ []) 2 (ap decided e ∙ ap not q) in
             let r = whole-read in
-            zero_one (cc)
+            cc
 
     kept-part : field_bytes o part ≡ take n fields
     kept-part = kept-behind (take n fields) ∙ by_answer (fields_in part) refl

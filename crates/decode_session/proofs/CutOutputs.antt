@@ -7,7 +7,6 @@ use native.Mathlib.Omega.{arith}
 use lib.ListN.{length, take, drop, take-append-drop}
 use lib.Seq.{take_all, take-append_seam, drop-length, take-add, sets}
 use Rattle.error.specs.Answer.{Answer, gives, refuses, map}
-use Rattle.laws.proofs.Tests.{zero_one}
 use Rattle.header.specs.Read.{Outline}
 use Rattle.options.specs.Limits.{Decoding, ceiling_of}
 use Rattle.decoder.specs.Image.{image_settings, read_image}
@@ -87,7 +86,7 @@ module _ (d : Decoding) (file : List ℕ) (h : Outline) (accepted : read_image d
           unmet = refl;
           there = n.1;
         })
-        (λ code place e f. let m = met-whole d file at size code place f e in zero_one (cc))
+        (λ code place e f. let m = met-whole d file at size code place f e in cc)
 
   closing-sends : (a : Answer ℕ) → bytes_of (map frames a) [] ≡ []
   closing-sends (gives n) = refl
@@ -110,4 +109,4 @@ module _ (d : Decoding) (file : List ℕ) (h : Outline) (accepted : read_image d
       ∙ ap (λ (l : List ℕ). l ++ []) (closing-sends (frames_of ceiling d (take at file)))
       ∙ sym (drop-length (sent at))
       ∙ ap (λ (l : List ℕ). drop (length (sent at)) (sequence ceiling d l)) (take_all at file k)
-  outputs {at} l f Traces.after_refusal e = zero_one (cc)
+  outputs {at} l f Traces.after_refusal e = cc

@@ -11,7 +11,6 @@ use lib.Seq.{slice, take-append-le}
 use Rattle.error.specs.Choice.{if}
 use Rattle.error.specs.Answer.{Answer, gives, refuses, bind, map}
 use Rattle.laws.proofs.Answers.{bind-gives, map_gives}
-use Rattle.laws.proofs.Tests.{zero_one}
 use Rattle.mbi.specs.Read.{read_mbi}
 use Rattle.mbi.proofs.IntegerBounds.{mbi-within}
 use Rattle.ext.specs.Kinds.{Fields, fields_follow, kind_bits}
@@ -57,7 +56,7 @@ module _ (o : Settings) (s ρ : List ℕ) where
       go : (t : Bool) → leb (length s) at ≡ t
           → if t (refuses 6 at) (if (o.fix_zero && ltb 0 (get_or s at 0)) (refuses 7 at) (read_after_fix o s (get_or s at 0) (at + 1))) ≡ gives g
           → field_bytes_at o (s ++ ρ) at ≡ if t [] (rest s (get_or s at 0))
-      go true p q = zero_one (cc)
+      go true p q = cc
       go false p q =
           let h = leb-false (length s) at p in
           let l = lt-leb (length (s ++ ρ)) at (rw length-append (omega arith)) in

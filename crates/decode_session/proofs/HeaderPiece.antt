@@ -1,4 +1,6 @@
 -- A piece for a session in the header.
+use Rattle.std.proofs.Common.{Result, Ok, Err}
+use Rattle.error.specs.Answer.{number}
 use Prim.Native.Nat.{ℕ, ◌≤◌}
 use mathlib.Core.Path.{◌≡◌, refl, sym, ap, subst, ◌∙◌}
 use mathlib.Core.Bool.{true}
@@ -10,7 +12,6 @@ use Rattle.error.specs.declared.WbmpError.{WbmpError}
 use Rattle.laws.proofs.Lists.{length-append-take, append-take-drop}
 use Rattle.header.specs.Settings.{Settings}
 use Rattle.header.specs.Read.{parsed}
-use Rattle.header_reader.specs.declared.FieldsSeen.{FieldsSeen}
 use Rattle.header.specs.declared.ParsedHeader.{ParsedHeader}
 use Rattle.header_reader.proofs.EndRefusal.{end_code, end_offset, end-code}
 use Rattle.options.specs.declared.DecodeOptions.{DecodeOptions}
@@ -19,12 +20,12 @@ use Rattle.decoder.specs.Image.{image_settings, header_of}
 use Rattle.decode_session.specs.Sequence.{sequence_of, sequence}
 use Rattle.header_pieces.specs.Extension.{field_bytes}
 use Rattle.decode_session.specs.Model.{Met, nothing, Model, meets, takes, grown, written, stored, fed_by}
-use Rattle.header_pieces.specs.Internal.Head.{HasRead, TellsFields, Ends, Heads}
-use Rattle.decode_session.specs.Session.{Stands, Feeds}
-use Rattle.decode_session.specs.Internal.Stages.{taken_in, met_in, FedAs, Ended, Begins}
+use Rattle.header_pieces.specs.Internal.Head.{HasRead, Ends, Heads}
+use Rattle.decode_session.specs.Session.{Stands}
+use Rattle.decode_session.specs.Internal.Stages.{taken_in, FedAs, Ended, Begins, FeedsHead}
 use Rattle.decode_session.specs.declared.Stage.{Stage}
 use Rattle.decode_session.specs.declared.DecodeSession.{DecodeSession}
-use Rattle.decode_session.specs.declared.DecodeFed.{DecodeFed}
+use Rattle.error.specs.declared.Fed.{Fed}
 use Rattle.header_pieces.specs.declared.HeadReading.{HeadReading}
 use Rattle.header_pieces.specs.declared.HeadFed.{HeadFed}
 use Rattle.decode_session.proofs.Headers.{header-cut, unread-end}
@@ -42,7 +43,7 @@ nothing-shown m s r h =
     ap (sequence_of (ceiling_of m.options) m.options.format s)
     (unread-end (image_settings m.options.mode) s h.state h.reached)
 
-module _ (o : DecodeOptions) (head : HeadReading) (piece out ext ext' : List ℕ) (f : HeadFed)
+module _ (o : DecodeOptions) (head : HeadReading) (piece out ext ext' : List ℕ) (f : Result HeadFed WbmpError)
     (heads : Heads head piece ext f ext') (long : 4118 ≤ length ext) where
   abbrev session : DecodeSession
   session = record { options = o; stage = Stage.Header head; live = true }
@@ -57,7 +58,7 @@ module _ (o : DecodeOptions) (head : HeadReading) (piece out ext ext' : List ℕ
     reached : HasRead settings m.bytes head
     reached = st.stage.1
 
-    ends : (x : HeadFed) → f ≡ x → Ends settings m.bytes piece x
+    ends : (x : Result HeadFed WbmpError) → f ≡ x → Ends settings m.bytes piece x
     ends x e = subst (Ends settings m.bytes piece) e (heads.does long settings m.bytes reached)
 
     stored_is : stored m file ext ≡ ext'
@@ -67,9 +68,9 @@ module _ (o : DecodeOptions) (head : HeadReading) (piece out ext ext' : List ℕ
         ∙ ap (λ (k : ℕ). sets ext k (drop k (field_bytes settings file))) reached.kept_is)
 
     -- all of the piece is the header's
-    module _ (next : HeadReading) (e : f ≡ HeadFed.More next) where
+    module _ (next : HeadReading) (e : f ≡ Ok (HeadFed.More next)) where
       later : HasRead settings file next
-      later = ends (HeadFed.More next) e
+      later = ends (Ok (HeadFed.More next)) e
 
       unmet : meets m piece ≡ nothing
       unmet =
@@ -100,13 +101,13 @@ module _ (o : DecodeOptions) (head : HeadReading) (piece out ext ext' : List ℕ
           ∙ ap (drop (length (sequence (ceiling_of m.options) m.options m.bytes))) none
           ∙ drop-nil (length (sequence (ceiling_of m.options) m.options m.bytes))
 
-      goes_on : FedAs (taken_in o (Stage.Header next) (length piece) 0) out ext' (fed_by m piece out ext (meets m piece))
+      goes_on : FedAs (taken_in o (Stage.Header next) (record { taken = length piece; written = 0 })) out ext' (fed_by m piece out ext (meets m piece))
       goes_on =
           let count = takes_all in
           let w = writes-none in
           let size = ap length w in
           subst
-          (λ (x : Met). FedAs (taken_in o (Stage.Header next) (length piece) 0) out ext' (fed_by m piece out ext x))
+          (λ (x : Met). FedAs (taken_in o (Stage.Header next) (record { taken = length piece; written = 0 })) out ext' (fed_by m piece out ext x))
           (sym unmet)
           (record {
             reply =
@@ -122,9 +123,9 @@ module _ (o : DecodeOptions) (head : HeadReading) (piece out ext ext' : List ℕ
           })
 
     -- the header ends in the piece
-    ended : (h : ParsedHeader) (from : ℕ) → f ≡ HeadFed.Done h from → Ended m piece from (parsed h)
+    ended : (h : ParsedHeader) (from : ℕ) → f ≡ Ok (HeadFed.Done h from) → Ended m piece from (parsed h)
     ended h from e =
-        let d = ends (HeadFed.Done h from) e in
+        let d = ends (Ok (HeadFed.Done h from)) e in
         let n = length-append-take m.bytes piece from (heads.within h from e) in
         record {
           within = heads.within h from e;
@@ -135,33 +136,40 @@ module _ (o : DecodeOptions) (head : HeadReading) (piece out ext ext' : List ℕ
           none = ap length (nothing-shown m m.bytes head reached);
         }
 
-  pub more : (next : HeadReading) (d : DecodeFed) → f ≡ HeadFed.More next → d ≡ taken_in o (Stage.Header next) (length piece) 0
-      → Feeds session piece out ext d out ext'
-  more next d e s =
+  pub more : (next : HeadReading) → f ≡ Ok (HeadFed.More next)
+      → FeedsHead o head piece out ext (Ok (Stage.Header next, record { taken = length piece; written = 0 })) out ext'
+  more next e =
       record {
         does =
-            λ m st. agreed m piece out ext d out ext' ext' _ (reading m piece out ext (sym st.live) st.stage.0 long) refl
-            (subst (λ (d : DecodeFed). FedAs d out ext' (fed_by m piece out ext (meets m piece))) (sym s) (goes_on m st next e));
+            λ k u. record {
+              does =
+                  λ m st. agreed m piece out ext _ out ext' ext' _ (reading m piece out ext (sym st.live) st.stage.0 long) refl
+                  (goes_on m st next e);
+            };
       }
 
-  pub whole : (k : FieldsSeen) (h : ParsedHeader) (from : ℕ) (d : DecodeFed) (out' : List ℕ) → TellsFields head k
-      → f ≡ HeadFed.Done h from → Begins o k h from piece out d out' → Feeds session piece out ext d out' ext'
-  whole k h from d out' u e b =
+  pub whole : (h : ParsedHeader) (from : ℕ) (r : Result (Stage × Fed) WbmpError) (out' : List ℕ) → f ≡ Ok (HeadFed.Done h from)
+      → Begins o h from piece out r out' → FeedsHead o head piece out ext r out' ext'
+  whole h from r out' e b =
       record {
         does =
-            λ m st. agreed m piece out ext d out' ext' _ _ (reading m piece out ext (sym st.live) st.stage.0 long) (stored_is m st)
-            (b.does m ext st.tested st.options (unread-so m head k st.stage.1 u) (ended m st h from e));
+            λ k u. record {
+              does =
+                  λ m st. agreed m piece out ext _ out' ext' _ _ (reading m piece out ext (sym st.live) st.stage.0 long) (stored_is m st)
+                  (b.does k m ext st.tested st.options (unread-so m head k st.stage.1 u) (ended m st h from e));
+            };
       }
 
-  pub refused : (k : FieldsSeen) (e : WbmpError) (d : DecodeFed) → TellsFields head k → f ≡ HeadFed.Refused e → d ≡ met_in o e k
-      → Feeds session piece out ext d out ext'
-  refused k e d u q s =
+  pub refused : (e : WbmpError) → f ≡ Err e → FeedsHead o head piece out ext (Err e) out ext'
+  refused e q =
       record {
         does =
-            λ m st.
-            let r = ends m st (HeadFed.Refused e) q in
-            agreed m piece out ext d out ext' _ _ (reading m piece out ext (sym st.live) st.stage.0 long) (stored_is m st)
-            (subst (λ (d : DecodeFed). FedAs d out (stored m (m.bytes ++ piece) ext) (fed_by m piece out ext (meets m piece))) (sym s)
-            (refused-agrees o m piece out ext e k st.tested st.options (unread-so m head k st.stage.1 u)
-            (header_refused m piece e.code e.offset r.0 r.1)));
+            λ k u. record {
+              does =
+                  λ m st.
+                  let r = ends m st (Err e) q in
+                  agreed m piece out ext _ out ext' _ _ (reading m piece out ext (sym st.live) st.stage.0 long) (stored_is m st)
+                  (refused-agrees o m piece out ext e k st.tested st.options (unread-so m head k st.stage.1 u)
+                  (header_refused m piece (number e.kind) e.offset r.0 r.1));
+            };
       }

@@ -1,23 +1,21 @@
 -- The header that a session shows.
-use Prim.Native.Nat.{ℕ}
+use Rattle.std.proofs.Common.{None}
 use mathlib.Core.Path.{◌≡◌, refl, sym, ap, ◌∙◌}
-use Rattle.error.specs.Answer.{Answer, gives, refuses}
+use Rattle.error.specs.Answer.{Answer, gives, refuses, number}
 use Rattle.error.specs.declared.WbmpError.{WbmpError}
 use Rattle.header.specs.Read.{Outline}
 use Rattle.header_reader.specs.declared.FieldsSeen.{FieldsSeen}
-use Rattle.header.specs.declared.ParsedHeader.{ParsedHeader}
 use Rattle.header_pieces.specs.declared.HeadReading.{HeadReading}
 use Rattle.decoder.specs.Image.{image_settings, header_of}
 use Rattle.decode_session.specs.Model.{Met, nothing, met_at}
 use Rattle.decode_session.specs.Session.{unread, seen_of, Sees}
 use Rattle.decode_session.specs.declared.Stage.{Stage}
 use Rattle.decode_session.specs.declared.DecodeSession.{DecodeSession}
-use Rattle.decode_session.specs.declared.HeaderSeen.{HeaderSeen}
 use Rattle.decode_session.proofs.Headers.{unread-end}
-use Rattle.decode_session.proofs.StageFacts.{staged, in-body}
+use Rattle.decode_session.proofs.StageFacts.{staged}
 
 module _ (s : DecodeSession) where
-  pub sees-none : (r : HeadReading) → s.stage ≡ Stage.Header r → Sees s HeaderSeen.Unread
+  pub sees-none : (r : HeadReading) → s.stage ≡ Stage.Header r → Sees s None
   sees-none r g =
       record {
         does =
@@ -28,17 +26,7 @@ module _ (s : DecodeSession) where
             ∙ ap (λ (a : Answer Outline). seen_of a nothing) e);
       }
 
-  pub sees-it : (p : ParsedHeader) (whole begun : ℕ) → s.stage ≡ Stage.Body p whole begun → Sees s (HeaderSeen.Header p)
-  sees-it p whole begun g =
-      record {
-        does =
-            λ m st.
-            let b = in-body m g st.stage in
-            sym (ap (λ (x : Met). seen_of (header_of m.options.mode m.bytes) x) b.nothing_met
-            ∙ ap (λ (a : Answer Outline). seen_of a nothing) b.header_is);
-      }
-
-  pub sees-refused : (e : WbmpError) (f : FieldsSeen) → s.stage ≡ Stage.Refused e f → Sees s HeaderSeen.Unread
+  pub sees-refused : (e : WbmpError) (f : FieldsSeen) → s.stage ≡ Stage.Refused e f → Sees s None
   sees-refused e f g =
       record {
         does =
@@ -47,6 +35,6 @@ module _ (s : DecodeSession) where
             ∙ hidden (header_of m.options.mode m.bytes));
       }
     where
-      hidden : (a : Answer Outline) → seen_of a (met_at e.code e.offset) ≡ unread
+      hidden : (a : Answer Outline) → seen_of a (met_at (number e.kind) e.offset) ≡ unread
       hidden (gives h) = refl
       hidden (refuses code place) = refl

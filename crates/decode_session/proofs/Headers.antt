@@ -5,7 +5,6 @@ use mathlib.Core.List.{List, [], ◌∷◌, ◌++◌}
 use native.Mathlib.Omega.{arith}
 use lib.ListN.{length}
 use Rattle.error.specs.Answer.{gives, refuses, map}
-use Rattle.laws.proofs.Tests.{zero_one}
 use Rattle.header.specs.Settings.{Settings}
 use Rattle.header.specs.Read.{Outline, outline, read_header}
 use Rattle.header_reader.specs.Internal.Machine.{State, Step, more, done, refused, start, steps, step_of, after}
@@ -21,14 +20,14 @@ module _ (o : Settings) where
   -- a header that is done has its body behind the bytes taken before
   done-past : (σ : List ℕ) (st : State) (h : Outline) → steps o st σ ≡ done h → taken st < h.body
   unfolding steps
-  done-past [] st h e = zero_one (cc)
+  done-past [] st h e = cc
   done-past (b ∷ σ) st h e = go (step_of o st b) (moves-step o st b) (λ s. done-past σ s h) (sym (steps-cons o st b σ) ∙ e)
     where
       go : (x : Step) → Moves (taken st) x → ((s : State) → steps o s σ ≡ done h → taken s < h.body) → onward o x σ ≡ done h
           → taken st < h.body
       go (more s) m ih q = omega (arith, m, ih s q)
       go (done g) m ih q = let e : g ≡ h = cc in omega (arith, m, ap (λ (g : Outline). g.body) e)
-      go (refused code offset) m ih q = zero_one (cc)
+      go (refused code offset) m ih q = cc
 
   module _ (s : List ℕ) where
     -- bytes behind a header change nothing of it

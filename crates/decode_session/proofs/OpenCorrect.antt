@@ -1,16 +1,15 @@
 -- Opening a session.
-use Prim.Native.Nat.{ℕ, ◌≤◌, ◌<◌}
+use Rattle.std.proofs.Common.{Result, Ok, Err, is_ok}
+use Prim.Native.Nat.{ℕ}
 use mathlib.Core.Path.{◌≡◌, refl, sym, ap, subst, ◌∙◌}
-use mathlib.Core.Bool.{true, false}
+use mathlib.Core.Bool.{Bool}
 use mathlib.Core.List.{[]}
 use borrow.Author.Tests.{le-leb, lt-leb}
 use lib.Dec.{leb}
 use Rattle.error.specs.Choice.{if}
-use Rattle.error.specs.Answer.{Answer, gives, refuses, bind}
-use Rattle.error.specs.declared.Checked.{Checked}
-use Rattle.error.specs.declared.Checked.TheVariants.{Accepted}
+use Rattle.error.specs.Answer.{Answer, gives, refuses, refusal, bind}
 use Rattle.error.specs.declared.WbmpError.{WbmpError}
-use Rattle.laws.proofs.Tests.{if-true, if-false, zero_one}
+use Rattle.laws.proofs.Tests.{if-true, if-false}
 use Rattle.header.specs.Settings.{Settings}
 use Rattle.header_pieces.specs.declared.HeadReading.{HeadReading}
 use Rattle.options.specs.Limits.{Decoding, mode_of, decoding}
@@ -20,6 +19,7 @@ use Rattle.decoder.specs.Image.{image_settings}
 use Rattle.decode_session.specs.Model.{opened, opening}
 use Rattle.header_pieces.specs.Internal.Head.{HasRead}
 use Rattle.decode_session.specs.Session.{StageOf, Opens}
+use Rattle.decode_session.specs.Internal.Stages.{ChecksBuffer}
 use Rattle.decode_session.specs.declared.Stage.{Stage}
 
 -- the settings pass their test, so the buffer's decides
@@ -32,31 +32,20 @@ module _ (o : DecodeOptions) (r : HeadReading) (n : ℕ) (s : Settings) (p : Has
   begun : StageOf (Stage.Header r) (opened (decoding o))
   begun = (refl, subst (λ (s : Settings). HasRead s [] r) q p)
 
-  pub opens : 4118 ≤ n
+  pub opens : (a : Result (Unit {0}) WbmpError) (live : Bool) → ChecksBuffer n a → live ≡ is_ok a
       → Opens (opening (decoding o) n)
-      (record { session = record { options = o; stage = Stage.Header r; live = true }; answer = Accepted }) (opened (decoding o))
-  opens h =
+      (record { session = record { options = o; stage = Stage.Header r; live = live }; answer = a }) (opened (decoding o))
+  opens (Ok u) live h l =
       let e = opening-is (decoding o) n ∙ if-true (leb 4118 n) (gives tt) (refuses 28 0) (le-leb 4118 n h) in
       record {
         answer = sym e;
-        stands =
-            λ _. record {
-              tested = passes (decoding o);
-              options = refl;
-              live = refl;
-              stage = begun;
-            };
-        refused = λ code place w. let z = sym e ∙ w in zero_one (cc);
+        stands = λ _. record { tested = passes (decoding o); options = refl; live = l; stage = begun };
+        refused = λ code place w. let z = sym e ∙ w in cc;
       }
-
-  pub opens_not : n < 4118 → (e : WbmpError) → e ≡ record { code = 28; offset = 0 }
-      → Opens (opening (decoding o) n)
-      (record { session = record { options = o; stage = Stage.Header r; live = false }; answer = Checked.Refused e })
-      (opened (decoding o))
-  opens_not h e z =
-      let k = opening-is (decoding o) n ∙ if-false (leb 4118 n) (gives tt) (refuses 28 0) (lt-leb 4118 n h) in
+  opens (Err x) live h l =
+      let k = opening-is (decoding o) n ∙ if-false (leb 4118 n) (gives tt) (refuses 28 0) (lt-leb 4118 n h.0) in
       record {
-        answer = ap (λ (e : WbmpError). refuses e.code e.offset) z ∙ sym k;
-        stands = λ w. let z = sym k ∙ w in zero_one (cc);
-        refused = λ code place w. record { tested = passes (decoding o); options = refl; live = refl; stage = begun };
+        answer = ap refusal h.1 ∙ sym k;
+        stands = λ w. let z = sym k ∙ w in cc;
+        refused = λ code place w. record { tested = passes (decoding o); options = refl; live = l; stage = begun };
       }

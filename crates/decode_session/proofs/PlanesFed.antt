@@ -20,7 +20,6 @@ use Rattle.decode_session.specs.Model.{Model, nothing, grown, written, stored, f
 use Rattle.decode_session.specs.Session.{InBody, Settled}
 use Rattle.decode_session.specs.Internal.Stages.{taken_in, FedAs, having, Enters, FeedsPlanes}
 use Rattle.decode_session.specs.declared.Stage.{Stage}
-use Rattle.decode_session.specs.declared.DecodeFed.{DecodeFed}
 use Rattle.body_pieces.specs.declared.BodyFed.{BodyFed}
 use Rattle.body_pieces.proofs.BodyCounts.{Advanced, Placed, from_place}
 use Rattle.decode_session.proofs.Headers.{header-later}
@@ -88,7 +87,7 @@ module _ (o : DecodeOptions) (p : ParsedHeader) (most whole begun from : ℕ) (p
         }
 
     pub planed : (ext : List ℕ)
-        → FedAs (taken_in o (Stage.Body p r.whole r.begun) (from + r.taken) r.written)
+        → FedAs (taken_in o (Stage.Body p r.whole r.begun) (record { taken = from + r.taken; written = r.written }))
         out' (stored m (m.bytes ++ piece) ext) (fed_by m piece out ext nothing)
     planed ext =
         let count = takes-is full within en advances in
@@ -117,17 +116,20 @@ module _ (o : DecodeOptions) (p : ParsedHeader) (most whole begun from : ℕ) (p
               };
         }
 
--- as the code has it: the part of the piece that is lent, and the session that is built
-pub planes : (o : DecodeOptions) (p : ParsedHeader) (most whole begun from : ℕ) (piece out out' part : List ℕ) (r : BodyFed) (d : DecodeFed)
+-- as the code has it: the part of the piece that is lent, and the header that is built anew
+pub planes : (o : DecodeOptions) (p k : ParsedHeader) (most whole begun from : ℕ) (piece out out' part : List ℕ) (r : BodyFed)
     → most ≡ ceiling_of (decoding o) → from ≤ length piece → part ≡ drop from piece
-    → Bodies o.format p.width p.height most whole begun part out r out'
-    → d ≡ taken_in o (Stage.Body p r.whole r.begun) (from + r.taken) r.written
-    → FeedsPlanes o p whole begun from piece out d out'
-planes o p most whole begun from piece out out' part r d n within same b e =
+    → Bodies o.format p.width p.height most whole begun part out r out' → k ≡ p
+    → FeedsPlanes o p whole begun from piece out
+    (taken_in o (Stage.Body k r.whole r.begun) (record { taken = from + r.taken; written = r.written })) out'
+planes o p k most whole begun from piece out out' part r n within same b e =
     let b' = subst (λ (l : List ℕ). Bodies o.format p.width p.height most whole begun l out r out') same b in
     record {
       does =
-          λ m ext c q en. subst (λ (d : DecodeFed). FedAs d out' (stored m (m.bytes ++ piece) ext) (fed_by m piece out ext nothing))
-          (sym e)
+          λ m ext c q en.
+          subst
+          (λ (k : ParsedHeader). FedAs
+          (taken_in o (Stage.Body k r.whole r.begun) (record { taken = from + r.taken; written = r.written })) out'
+          (stored m (m.bytes ++ piece) ext) (fed_by m piece out ext nothing)) (sym e)
           (planed o p most whole begun from piece out out' within r b' m c (sym (n ∙ ap ceiling_of q)) q en ext);
     }

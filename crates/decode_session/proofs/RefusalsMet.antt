@@ -7,7 +7,6 @@ use lib.Dec.{ltb}
 use lib.ListN.{length}
 use Rattle.error.specs.Choice.{if}
 use Rattle.error.specs.Answer.{Answer, gives, refuses, bind, is_end}
-use Rattle.laws.proofs.Tests.{zero_one}
 use Rattle.header.specs.Read.{Outline}
 use Rattle.options.specs.Limits.{Decoding, admits, check_limits}
 use Rattle.decoder.specs.Body.{plane_of}
@@ -28,7 +27,7 @@ limit-code d w h bytes start code place =
         → ◌≡◌ {A = Answer (Unit {0})} (if a (if b (if c (if e (gives tt) (refuses 19 start)) (refuses 18 start)) (refuses 17 start))
         (refuses 16 start)) (refuses code place)
         → is_end code ≡ false
-    go true true true true q = zero_one (cc)
+    go true true true true q = cc
     go true true true false q = is 19 refl q
     go true true false e q = is 18 refl q
     go true false c e q = is 17 refl q

@@ -1,7 +1,9 @@
 -- What a session stands for, and what its calls promise.
-use Rattle.std.specs.Prelude.{ℕ, ◌+◌, ◌-◌, ◌*◌, ◌/◌, ◌≤◌, ◌<◌, ◌≡◌, Bool, not, List, [], ◌⊎◌, leb, length}
+use Rattle.std.specs.Prelude.{ℕ, ◌+◌, ◌-◌, ◌*◌, ◌/◌, ◌≤◌, ◌<◌, ◌≡◌, Bool, not, List, [], ◌⊎◌, leb, length, Option, Some, None, Result, Ok, Err}
+use Rattle.header.specs.declared.ParsedHeader.{ParsedHeader}
+use Rattle.error.specs.declared.WbmpError.{WbmpError}
 use Rattle.error.specs.Choice.{if}
-use Rattle.error.specs.Answer.{Answer, gives, refuses, checked}
+use Rattle.error.specs.Answer.{Answer, gives, refuses, checked, number}
 use Rattle.error.specs.Answer as Answers
 use Rattle.header.specs.Read.{Outline, parsed}
 use Rattle.header_reader.specs.Known.{Known, fields_known, known_meaning}
@@ -14,31 +16,27 @@ use Rattle.decode_session.specs.Model.{Met, nothing, met_at, Model, feed, close,
 use Rattle.decode_session.specs.declared.Stage.{Stage}
 use Rattle.decode_session.specs.declared.DecodeSession.{DecodeSession}
 use Rattle.decode_session.specs.declared.DecodeOpened.{DecodeOpened}
-use Rattle.decode_session.specs.declared.DecodeFeed.{DecodeFeed}
-use Rattle.decode_session.specs.declared.DecodeFeed.TheVariants.{Took}
+use Rattle.error.specs.declared.Fed.{Fed}
 use Rattle.decode_session.specs.declared.DecodeFed.{DecodeFed}
-use Rattle.decode_session.specs.declared.DecodeClose.{DecodeClose}
-use Rattle.decode_session.specs.declared.DecodeClose.TheVariants.{Frames}
 use Rattle.decode_session.specs.declared.DecodeClosed.{DecodeClosed}
-use Rattle.decode_session.specs.declared.HeaderSeen.{HeaderSeen}
 
 -- what the code's answers mean
-abbrev pub fed_meaning : DecodeFeed → Answer Told
-fed_meaning (Took n b) = gives (took n b)
-fed_meaning (DecodeFeed.Refused e) = Answers.refusal e
+abbrev pub fed_meaning : Result Fed WbmpError → Answer Told
+fed_meaning (Ok f) = gives (took f.taken f.written)
+fed_meaning (Err e) = Answers.refusal e
 
-abbrev pub closed_meaning : DecodeClose → Answer Told
-closed_meaning (Frames n) = gives (frames n)
-closed_meaning (DecodeClose.Refused e) = Answers.refusal e
+abbrev pub closed_meaning : Result ℕ WbmpError → Answer Told
+closed_meaning (Ok n) = gives (frames n)
+closed_meaning (Err e) = Answers.refusal e
 
 -- the header of the file so far
 pub data Seen : Type 0 where
   unread : Seen
   seen : Outline → Seen
 
-abbrev pub seen_meaning : HeaderSeen → Seen
-seen_meaning HeaderSeen.Unread = unread
-seen_meaning (HeaderSeen.Header h) = seen (parsed h)
+abbrev pub seen_meaning : Option ParsedHeader → Seen
+seen_meaning None = unread
+seen_meaning (Some h) = seen (parsed h)
 
 abbrev pub seen_of : Answer Outline → Met → Seen
 seen_of (gives h) nothing = seen h
@@ -78,7 +76,7 @@ pub record BeforeHeader (m : Model) (f : FieldsSeen) : Type 0 where
 abbrev pub StageOf : Stage → Model → Type 0
 StageOf (Stage.Header h) m = (m.met ≡ nothing) × HasRead (image_settings m.options.mode) m.bytes h
 StageOf (Stage.Body h whole begun) m = InBody m (parsed h) whole begun
-StageOf (Stage.Refused e f) m = (m.met ≡ met_at e.code e.offset) × BeforeHeader m f
+StageOf (Stage.Refused e f) m = (m.met ≡ met_at (number e.kind) e.offset) × BeforeHeader m f
 
 -- the settings passed their test
 abbrev pub Settled : Decoding → Type 0
@@ -111,7 +109,7 @@ pub record Closes (s : DecodeSession) (r : DecodeClosed) : Type 0 where
 -- ---- what can be asked of a session, open or closed, refused or not
 
 -- its header, with its fields by their span in the file
-pub record Sees (s : DecodeSession) (r : HeaderSeen) : Type 0 where
+pub record Sees (s : DecodeSession) (r : Option ParsedHeader) : Type 0 where
   pub does : (m : Model) → Stands s m → seen_meaning r ≡ header_seen m
 
 -- whether it is closed; told of every session, also of one that stands for no machine

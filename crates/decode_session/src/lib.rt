@@ -1,14 +1,15 @@
 // A reading session: a file comes in pieces, and the dots of its frames go out in pieces.
 #![tactic(auto)]
 
-ghost use Rattle.std.specs.Prelude.{◌≡◌, length};
+ghost use Rattle.std.specs.Prelude.{length};
 ghost use Rattle.options.specs.Limits.{decoding};
 ghost use Rattle.decode_session.specs.Model.{opened, opening};
-ghost use Rattle.decode_session.specs.Session.{Opens, Feeds, Closes, Sees};
+ghost use Rattle.decode_session.specs.Session.{Opens, Feeds, Closes};
+ghost use Rattle.decode_session.specs.Internal.Stages.{ChecksBuffer};
 
 use crate::closing::finish;
 use crate::feeding::{feed_head, feed_planes};
-use error::{BUFFER_TOO_SHORT, Checked, SESSION_CLOSED, WbmpError};
+use error::{Fed, Refusal, Result, WbmpError};
 use header::ParsedHeader;
 use header_pieces::HeadReading;
 use header_reader::FieldsSeen;
@@ -27,9 +28,16 @@ pub enum Stage {
     // In the header.
     Header(HeadReading),
     // In the body: whole frames, and bytes of the begun one.
-    Body(ParsedHeader, usize, usize),
+    Body {
+        header: ParsedHeader,
+        whole: usize,
+        begun: usize,
+    },
     // A refusal that a call has met, and the fields that were known before it.
-    Refused(WbmpError, FieldsSeen),
+    Refused {
+        refusal: WbmpError,
+        known: FieldsSeen,
+    },
 }
 
 // An opened session; only `open` makes one.
@@ -37,6 +45,7 @@ pub enum Stage {
 pub struct DecodeSession {
     options: DecodeOptions,
     stage: Stage,
+    // Open or closed. A closed stage would be no plainer: a closed session still tells its header, fields and frames.
     live: bool,
 }
 
@@ -44,132 +53,115 @@ pub struct DecodeSession {
 #[derive(Clone, Copy)]
 pub struct DecodeOpened {
     pub session: DecodeSession,
-    pub answer: Checked,
+    pub answer: Result<()>,
 }
 
-// What feeding answers: how many bytes were taken from the piece and written to the output.
-#[derive(Clone, Copy)]
-pub enum DecodeFeed {
-    Took { taken: usize, written: usize },
-    Refused(WbmpError),
-}
-
+// What feeding answers.
 #[derive(Clone, Copy)]
 pub struct DecodeFed {
     pub session: DecodeSession,
-    pub answer: DecodeFeed,
+    pub answer: Result<Fed>,
 }
 
 // What closing answers: the frame count.
 #[derive(Clone, Copy)]
-pub enum DecodeClose {
-    Frames(u32),
-    Refused(WbmpError),
-}
-
-#[derive(Clone, Copy)]
 pub struct DecodeClosed {
     pub session: DecodeSession,
-    pub answer: DecodeClose,
+    pub answer: Result<u32>,
 }
 
-// The header of the file so far, once its last size byte was taken and nothing was refused.
-#[derive(Clone, Copy)]
-pub enum HeaderSeen {
-    Unread,
-    Header(ParsedHeader),
-}
-
-// A call that is refused and alters nothing.
-fn unaltered(session: DecodeSession, e: WbmpError) -> DecodeFed
-    ensures { result ≡ record { session = session; answer = DecodeFeed.Refused e } }
+// An extension buffer that is lent has room for any fields.
+fn check_buffer(ext: &[u8]) -> Result<()>
+    ensures { ChecksBuffer (length ext.now) result }
 {
-    let answer = DecodeFeed::Refused(e);
-    DecodeFed { session, answer }
+    if ext.len() < EXTENSION_BYTES {
+        return Err(WbmpError::new(Refusal::BufferTooShort, 0));
+    }
+    Ok(())
 }
 
 impl DecodeSession {
     pub fn open(options: DecodeOptions, ext: &[u8]) -> DecodeOpened
         ensures { Opens (opening (decoding options) (length ext.now)) result (opened (decoding options)) }
     {
-        let mode = options.mode;
-        let reading = HeadReading::new(decoder::image_mode(mode));
-        let stage = Stage::Header(reading);
-        if ext.len() < EXTENSION_BYTES {
-            let session = DecodeSession {
+        let reading = HeadReading::new(decoder::image_mode(options.mode));
+        let answer = check_buffer(ext);
+        DecodeOpened {
+            session: DecodeSession {
                 options,
-                stage,
-                live: false,
-            };
-            let answer = Checked::Refused(WbmpError::new(BUFFER_TOO_SHORT, 0));
-            return DecodeOpened { session, answer };
+                stage: Stage::Header(reading),
+                live: answer.is_ok(),
+            },
+            answer,
         }
-        let session = DecodeSession {
-            options,
-            stage,
-            live: true,
-        };
-        let answer = Checked::Accepted;
-        DecodeOpened { session, answer }
     }
 
     // A piece of the file. Extension bytes go to the lent extension buffer, plane bytes to the lent output.
-    pub fn feed(self, piece: &[u8], out: &mut [u8], ext: &mut [u8]) -> DecodeFed
+    pub fn feed(mut self, piece: &[u8], out: &mut [u8], ext: &mut [u8]) -> DecodeFed
         ensures { Feeds self piece.now out.old ext.old result out.new ext.new }
     {
-        let options = self.options;
-        let stage = self.stage;
-        if !self.live {
-            return unaltered(self, WbmpError::new(SESSION_CLOSED, 0));
+        let answer = self.take(piece, out, ext);
+        DecodeFed {
+            session: self,
+            answer,
         }
-        match stage {
+    }
+
+    // The same. A refusal of the file is kept; a call that is refused for another reason leaves the session as it was.
+    fn take(&mut self, piece: &[u8], out: &mut [u8], ext: &mut [u8]) -> Result<Fed>
+        ensures { Feeds self.old piece.now out.old ext.old (record { session = self.new; answer = result })
+            out.new ext.new }
+    {
+        if !self.live {
+            return Err(WbmpError::new(Refusal::SessionClosed, 0));
+        }
+        match self.stage {
+            Stage::Refused { refusal, .. } => Err(refusal),
             Stage::Header(reading) => {
-                if ext.len() < EXTENSION_BYTES {
-                    return unaltered(self, WbmpError::new(BUFFER_TOO_SHORT, 0));
+                check_buffer(ext)?;
+                let known = reading.fields();
+                match feed_head(self.options, reading, piece, out, ext) {
+                    Ok(next) => {
+                        self.stage = next.0;
+                        Ok(next.1)
+                    }
+                    Err(refusal) => {
+                        self.stage = Stage::Refused { refusal, known };
+                        Err(refusal)
+                    }
                 }
-                feed_head(options, reading, piece, out, ext)
             }
-            Stage::Body(h, whole, begun) => {
-                if ext.len() < EXTENSION_BYTES {
-                    return unaltered(self, WbmpError::new(BUFFER_TOO_SHORT, 0));
-                }
-                feed_planes(options, h, whole, begun, 0, piece, out)
+            Stage::Body {
+                header,
+                whole,
+                begun,
+            } => {
+                check_buffer(ext)?;
+                let (stage, fed) = feed_planes(self.options, header, whole, begun, 0, piece, out);
+                self.stage = stage;
+                Ok(fed)
             }
-            Stage::Refused(e, _) => unaltered(self, e),
         }
     }
 
     // The frame count, or the refusal of a file that ends here. Whatever the answer, the session is closed.
-    pub fn close(self) -> DecodeClosed
+    pub fn close(mut self) -> DecodeClosed
         ensures { Closes self result }
     {
-        if !self.live {
-            let answer = DecodeClose::Refused(WbmpError::new(SESSION_CLOSED, 0));
-            return DecodeClosed {
-                session: self,
-                answer,
-            };
+        let answer = self.end();
+        DecodeClosed {
+            session: self,
+            answer,
         }
-        let options = self.options;
-        let stage = self.stage;
-        let answer = finish(stage);
-        let session = DecodeSession {
-            options,
-            stage,
-            live: false,
-        };
-        DecodeClosed { session, answer }
     }
 
-    // The header, with its fields by their span in the file.
-    pub fn header(self) -> HeaderSeen
-        ensures { Sees self result }
+    fn end(&mut self) -> Result<u32>
+        ensures { Closes self.old (record { session = self.new; answer = result }) }
     {
-        let stage = self.stage;
-        match stage {
-            Stage::Header(_) => HeaderSeen::Unread,
-            Stage::Body(h, _, _) => HeaderSeen::Header(h),
-            Stage::Refused(_, _) => HeaderSeen::Unread,
+        if !self.live {
+            return Err(WbmpError::new(Refusal::SessionClosed, 0));
         }
+        self.live = false;
+        finish(self.stage)
     }
 }

@@ -1,10 +1,10 @@
 // What a caller can ask of a session, open or closed.
-ghost use Rattle.decode_session.specs.Session.{TellsClosed, TellsFrames, SeesFields};
+ghost use Rattle.decode_session.specs.Session.{Sees, TellsClosed, TellsFrames, SeesFields};
 
 use crate::{DecodeSession, Stage};
 use decoder::MAX_READ_FRAMES;
+use header::ParsedHeader;
 use header_reader::FieldsSeen;
-use laws::least;
 
 impl DecodeSession {
     pub fn is_closed(self) -> bool
@@ -13,15 +13,23 @@ impl DecodeSession {
         !self.live
     }
 
+    // The header, with its fields by their span in the file, once its last size byte was taken and nothing was refused.
+    pub fn header(self) -> Option<ParsedHeader>
+        ensures { Sees self result }
+    {
+        match self.stage {
+            Stage::Body { header, .. } => Some(header),
+            Stage::Header(_) | Stage::Refused { .. } => None,
+        }
+    }
+
     // How many frames are done.
     pub fn frames(self) -> u32
         ensures { TellsFrames self result }
     {
-        let stage = self.stage;
-        match stage {
-            Stage::Header(_) => 0,
-            Stage::Body(_, whole, _) => least(whole, MAX_READ_FRAMES) as u32,
-            Stage::Refused(_, _) => 0,
+        match self.stage {
+            Stage::Body { whole, .. } => whole.min(MAX_READ_FRAMES) as u32,
+            Stage::Header(_) | Stage::Refused { .. } => 0,
         }
     }
 
@@ -29,14 +37,10 @@ impl DecodeSession {
     pub fn fields(self) -> FieldsSeen
         ensures { SeesFields self result }
     {
-        let stage = self.stage;
-        match stage {
+        match self.stage {
             Stage::Header(reading) => reading.fields(),
-            Stage::Body(h, _, _) => {
-                let fields = h.ext_fields;
-                FieldsSeen::Seen(fields)
-            }
-            Stage::Refused(_, known) => known,
+            Stage::Body { header, .. } => FieldsSeen::Seen(header.ext_fields),
+            Stage::Refused { known, .. } => known,
         }
     }
 }

@@ -10,7 +10,7 @@ use Rattle.error.specs.Choice.{if}
 use Rattle.laws.proofs.Tests.{if-true}
 use Rattle.header.specs.Read.{parsed}
 use Rattle.header.specs.declared.ParsedHeader.{ParsedHeader}
-use Rattle.image.specs.Geometry.{layout_of}
+use Rattle.image.specs.Layout.{layout_of}
 use Rattle.image.specs.declared.PlaneLayout.{PlaneLayout}
 use Rattle.decoder.specs.Body.{extra_frames, plane_of, frames_in}
 

@@ -1,4 +1,6 @@
 -- From what the header's reader and the test of the limits answered to what reading an image answers.
+use Rattle.std.proofs.Common.{Result}
+use Rattle.error.specs.declared.WbmpError.{WbmpError}
 use Prim.Native.Nat.{ℕ, ◌-◌, ◌≤◌, ◌<◌}
 use mathlib.Core.Path.{◌≡◌, sym, ap, ◌∙◌, subst}
 use mathlib.Core.List.{List}
@@ -7,13 +9,11 @@ use lib.Dec.{ltb}
 use lib.ListN.{length}
 use Rattle.error.specs.Choice.{if}
 use Rattle.error.specs.Answer.{Answer, gives, refuses, bind, map, checked}
-use Rattle.error.specs.declared.Checked.{Checked}
 use Rattle.laws.proofs.Tests.{if-true, if-false}
 use Rattle.header.specs.Settings.{Settings}
 use Rattle.header.specs.Read.{Outline, outline, read_header, parsed, meaning}
 use Rattle.header.specs.declared.ParsedHeader.{ParsedHeader}
-use Rattle.header.specs.declared.HeaderRead.{HeaderRead}
-use Rattle.image.specs.Geometry.{layout_of}
+use Rattle.image.specs.Layout.{layout_of}
 use Rattle.image.specs.declared.PlaneLayout.{PlaneLayout}
 use Rattle.options.specs.Limits.{Decoding, check_limits}
 use Rattle.decoder.specs.Body.{plane_of}
@@ -28,9 +28,9 @@ tested d bytes = ap (λ (a : Answer Decoding). bind a (λ s. read_image s bytes)
 abbrev pub after_limits : ℕ → Outline → Answer Outline
 after_limits size h = if (ltb (size - h.body) (plane_of h)) (refuses 20 h.body) (gives h)
 
-module _ (d : Decoding) (size : ℕ) (p : ParsedHeader) (l : PlaneLayout) (r : Checked) where
+module _ (d : Decoding) (size : ℕ) (p : ParsedHeader) (l : PlaneLayout) (r : Result (Unit {0}) WbmpError) where
   pub on-limits : l ≡ layout_of p.width p.height
-      → checked r ≡ check_limits d p.width p.height l.total_bytes p.data_offset → (x : Checked) → r ≡ x
+      → checked r ≡ check_limits d p.width p.height l.total_bytes p.data_offset → (x : Result (Unit {0}) WbmpError) → r ≡ x
       → test_body d size (parsed p) ≡ bind (checked x) (λ _. after_limits size (parsed p))
   unfolding test_body
   on-limits laid q x e =
@@ -65,6 +65,6 @@ unfolding test_body
 image-limited d s h x e l =
     image-by d s (gives h) e ∙ ap (λ (a : Answer (Unit {0})). bind a (λ _. after_limits (length s) h)) l
 
-pub on-header : (d : Decoding) (s : List ℕ) (o : Settings) (r x : HeaderRead) → o ≡ image_settings d.mode
+pub on-header : (d : Decoding) (s : List ℕ) (o : Settings) (r x : Result ParsedHeader WbmpError) → o ≡ image_settings d.mode
     → meaning r ≡ map outline (read_header o s) → r ≡ x → read_image d s ≡ bind (meaning x) (test_body d (length s))
 on-header d s o r x p q e = image-by d s (meaning x) (sym (sym (ap meaning e) ∙ q ∙ ap (λ (o : Settings). map outline (read_header o s)) p))

@@ -1,16 +1,16 @@
 -- Whole reading (document 01, decoder.rs): what a file shows, up to a ceiling of frames.
-use Rattle.std.specs.Prelude.{ℕ, ◌*◌, ◌≡◌, List, leb, length}
+use Rattle.std.specs.Prelude.{ℕ, ◌*◌, ◌≡◌, List, leb, length, Result}
+use Rattle.error.specs.declared.WbmpError.{WbmpError}
 use Rattle.error.specs.Choice.{if}
-use Rattle.error.specs.Answer.{Answer, gives, refuses, bind, map, refusal}
+use Rattle.error.specs.Answer.{Answer, gives, refuses, bind, map, answered}
 use Rattle.error.specs.Emits.{output}
-use Rattle.ext.specs.Kinds.{Span}
-use Rattle.header.specs.Read.{Outline, ext_span}
+use Rattle.ext.specs.Kinds.{Span, ext_span}
+use Rattle.header.specs.Read.{Outline}
 use Rattle.image.specs.declared.PixelFormat.{PixelFormat}
 use Rattle.options.specs.Limits.{Decoding, settled}
 use Rattle.decoder.specs.Body.{plane_of, frames_in, planes}
 use Rattle.decoder.specs.Image.{read_image}
 use Rattle.decoder.specs.declared.DecodedImage.{DecodedImage}
-use Rattle.decoder.specs.declared.Decoded.{Decoded}
 
 -- the planes of a file in the asked format, end to end
 unfoldable pub shown : ℕ → Decoding → List ℕ → Answer (List ℕ)
@@ -85,6 +85,5 @@ image i =
       body = i.data_offset;
     }
 
-abbrev pub meaning : Decoded → Answer Image
-meaning (Decoded.Image i) = gives (image i)
-meaning (Decoded.Refused e) = refusal e
+abbrev pub meaning : Result DecodedImage WbmpError → Answer Image
+meaning r = map image (answered r)

@@ -5,12 +5,11 @@ ghost use Rattle.options.specs.Limits.{decoding};
 ghost use Rattle.decoder.specs.Body.{extra_frames, plane_of};
 ghost use Rattle.decoder.specs.Frames.{Imaged, Framed, meaning};
 
+use crate::DecodedImage;
 use crate::image_header::read_image;
 use crate::planes::write_planes;
-use crate::saturating::saturating_sub;
-use crate::{Decoded, DecodedImage};
-use error::{OUTPUT_TOO_SHORT, WbmpError};
-use header::{HeaderRead, ParsedHeader};
+use error::{Refusal, Result, WbmpError};
+use header::ParsedHeader;
 use image::{PixelFormat, PlaneLayout};
 use options::DecodeOptions;
 
@@ -26,12 +25,9 @@ pub fn animated_frame_count(
     if total_bytes == 0 {
         return 0;
     }
-    let body = saturating_sub(input_len, data_offset);
-    let extra = saturating_sub(body, total_bytes) / total_bytes;
-    if extra <= most {
-        return extra;
-    }
-    most
+    let body = input_len.saturating_sub(data_offset);
+    let extra = body.saturating_sub(total_bytes) / total_bytes;
+    extra.min(most)
 }
 
 // The first plane and up to `most` behind it, of a file that has the first.
@@ -41,7 +37,7 @@ fn write_frames(
     format: PixelFormat,
     most: usize,
     out: &mut [u8],
-) -> Decoded
+) -> Result<DecodedImage>
     requires { (most < 16) × (h.data_offset + plane_of (parsed h) ≤ length bytes.now) }
     ensures { Framed (1 + most) format bytes.now (parsed h) (meaning result) out.old out.new }
 {
@@ -51,30 +47,29 @@ fn write_frames(
     let frames = 1 + animated_frame_count(bytes.len(), start, plane, most);
     let need = frames * plane;
     if out.len() < need {
-        return Decoded::Refused(WbmpError::new(OUTPUT_TOO_SHORT, 0));
+        return Err(WbmpError::new(Refusal::OutputTooShort, 0));
     }
     write_planes(bytes, h, frames, format, out);
-    let ext_fields = h.ext_fields;
-    Decoded::Image(DecodedImage {
+    Ok(DecodedImage {
         width: h.width,
         height: h.height,
         frames: frames as u32,
         bytes: need,
         fix_header: h.fix_header,
-        ext_fields,
+        ext_fields: h.ext_fields,
         data_offset: start,
     })
 }
 
-pub(crate) fn decode(bytes: &[u8], options: DecodeOptions, most: usize, out: &mut [u8]) -> Decoded
+pub(crate) fn decode(
+    bytes: &[u8],
+    options: DecodeOptions,
+    most: usize,
+    out: &mut [u8],
+) -> Result<DecodedImage>
     requires { most < 16 }
     ensures { Imaged (1 + most) (decoding options) bytes.now (meaning result) out.old out.new }
 {
-    match read_image(bytes, options) {
-        HeaderRead::Header(h) => {
-            let format = options.format;
-            write_frames(bytes, h, format, most, out)
-        }
-        HeaderRead::Refused(e) => Decoded::Refused(e),
-    }
+    let h = read_image(bytes, options)?;
+    write_frames(bytes, h, options.format, most, out)
 }

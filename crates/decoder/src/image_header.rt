@@ -5,9 +5,8 @@ ghost use Rattle.header.specs.Settings.{settings};
 ghost use Rattle.options.specs.Limits.{mode_of, decoding};
 ghost use Rattle.decoder.specs.Image.{image_settings, test_body, image_read};
 
-use crate::saturating::saturating_sub;
-use error::{Checked, PLANE_TOO_SHORT, WbmpError};
-use header::{HeaderMode, HeaderRead, ParsedHeader};
+use error::{Refusal, Result, WbmpError};
+use header::{HeaderMode, ParsedHeader};
 use image::PlaneLayout;
 use options::{DecodeMode, DecodeOptions};
 
@@ -22,31 +21,23 @@ pub fn image_mode(mode: DecodeMode) -> HeaderMode
 }
 
 // Whether an image is within the limits and a file of so many bytes has its first plane.
-fn test_body(size: usize, h: ParsedHeader, options: DecodeOptions) -> HeaderRead
+fn test_body(size: usize, h: ParsedHeader, options: DecodeOptions) -> Result<ParsedHeader>
     ensures { meaning result ≡ test_body (decoding options) size (parsed h) }
 {
     let start = h.data_offset;
     let layout = PlaneLayout::new(h.width, h.height);
     let plane = layout.total_bytes;
-    match options.check(h.width, h.height, plane as u64, start) {
-        Checked::Accepted => {}
-        Checked::Refused(e) => {
-            return HeaderRead::Refused(e);
-        }
+    options.check(h.width, h.height, plane as u64, start)?;
+    if size.saturating_sub(start) < plane {
+        return Err(WbmpError::new(Refusal::PlaneTooShort, start));
     }
-    if saturating_sub(size, start) < plane {
-        return HeaderRead::Refused(WbmpError::new(PLANE_TOO_SHORT, start));
-    }
-    HeaderRead::Header(h)
+    Ok(h)
 }
 
 // The header of an image that is within the limits and whose first plane is there.
-pub fn read_image(bytes: &[u8], options: DecodeOptions) -> HeaderRead
+pub fn read_image(bytes: &[u8], options: DecodeOptions) -> Result<ParsedHeader>
     ensures { meaning result ≡ image_read (decoding options) bytes.now }
 {
-    let mode = options.mode;
-    match header::parse_header_mode(bytes, image_mode(mode)) {
-        HeaderRead::Header(h) => test_body(bytes.len(), h, options),
-        HeaderRead::Refused(e) => HeaderRead::Refused(e),
-    }
+    let h = header::parse_header_mode(bytes, image_mode(options.mode))?;
+    test_body(bytes.len(), h, options)
 }

@@ -4,14 +4,13 @@
 ghost use Rattle.options.specs.Limits.{ceiling_of, decoding};
 ghost use Rattle.decoder.specs.Frames.{Decodes, meaning};
 
-use error::WbmpError;
-use header::HeaderFields;
+use error::Result;
+use ext::ExtFields;
 use options::DecodeOptions;
 
 mod frames;
 mod image_header;
 mod planes;
-mod saturating;
 
 pub use frames::animated_frame_count;
 pub use image_header::{image_mode, read_image};
@@ -30,26 +29,19 @@ pub struct DecodedImage {
     // Bytes written at the front of the lent output.
     pub bytes: usize,
     pub fix_header: u8,
-    pub ext_fields: HeaderFields,
+    pub ext_fields: Option<ExtFields>,
     pub data_offset: usize,
 }
 
-#[derive(Clone, Copy)]
-pub enum Decoded {
-    Image(DecodedImage),
-    // Nothing is written.
-    Refused(WbmpError),
-}
-
-// The main image: one plane.
-pub fn decode_image(bytes: &[u8], options: DecodeOptions, out: &mut [u8]) -> Decoded
+// The main image: one plane. A refusal writes nothing.
+pub fn decode_image(bytes: &[u8], options: DecodeOptions, out: &mut [u8]) -> Result<DecodedImage>
     ensures { Decodes 1 (decoding options) bytes.now (meaning result) out.old out.new }
 {
     frames::decode(bytes, options, 0, out)
 }
 
 // The main image and the images that follow it, up to 16 frames.
-pub fn decode_frames(bytes: &[u8], options: DecodeOptions, out: &mut [u8]) -> Decoded
+pub fn decode_frames(bytes: &[u8], options: DecodeOptions, out: &mut [u8]) -> Result<DecodedImage>
     ensures { Decodes (ceiling_of (decoding options)) (decoding options) bytes.now (meaning result) out.old
         out.new }
 {

@@ -15,7 +15,7 @@ fn write_plane(plane: &[u8], width: u32, height: u32, format: PixelFormat, out: 
         ≡ convert_format PixelFormat.MonoBlack format width height (row_bytes width) plane.now ++ drop
         (length plane.now) out.old }
 {
-    image::into_format(plane, width, height, PixelFormat::MonoBlack, format, out);
+    let _ = image::into_format(plane, width, height, PixelFormat::MonoBlack, format, out);
 }
 
 // The first `frames` planes, each in its own stretch of the lent output.
@@ -34,12 +34,15 @@ pub(crate) fn write_planes(
     let start = h.data_offset;
     let layout = PlaneLayout::new(h.width, h.height);
     let plane = layout.total_bytes;
-    let mut k: usize = 0;
-    while k < frames {
+    for k in 0..frames {
         let to = k * plane;
         let from = start + to;
-        let end = from + plane;
-        write_plane(&bytes[from..end], h.width, h.height, format, &mut out[to..]);
-        k += 1;
+        write_plane(
+            &bytes[from..from + plane],
+            h.width,
+            h.height,
+            format,
+            &mut out[to..],
+        );
     }
 }

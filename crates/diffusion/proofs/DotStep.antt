@@ -1,16 +1,12 @@
 -- One dot's step, from the tables.
 -- Assumes nothing.
-use Prim.Native.Nat.{ℕ, ◌+◌, ◌*◌, ◌/◌, ◌≤◌, ◌<◌}
+use Prim.Native.Nat.{ℕ, ◌+◌, ◌*◌, ◌/◌, ◌<◌}
 use mathlib.Core.Path.{◌≡◌, refl, sym, ap, ◌∙◌, subst, subst⁻¹}
 use mathlib.Core.List.{List}
 use native.Mathlib.Omega.{arith}
 use lib.Bits.{bit_or, bit_xor, and_le_l, and_le_r, or_add_and, xor_add_and}
-use lib.Dec.{T}
-use lib.IntN.{ℤ, pos, nat_abs}
+use lib.IntN.{ℤ, nat_abs}
 use lib.ListN.{get_or}
-use lib.Signed.{non_neg}
-use mir.Syntax.{w16}
-use mir.Val.{Fits}
 use Rattle.diffusion.specs.declared.row.Flow.{Flow}
 use Rattle.diffusion.specs.Internal.Sums.{rest_of}
 use Rattle.diffusion.specs.Internal.Rows.{RightTable, DownTable}
@@ -23,10 +19,6 @@ or-none a b e = let s = or_add_and a b in let l = and_le_l a b in let r = and_le
 
 pub xor-none : (a b : ℕ) → bit_xor a b ≡ 0 → a ≡ b
 xor-none a b e = let s = xor_add_and a b in let l = and_le_l a b in let r = and_le_r a b in omega arith
-
--- a sum of the work buffer is read as it is held
-pub sum_fits : (z sum : ℤ) → z ≡ sum → sum ≡ pos (nat_abs sum) → nat_abs sum ≤ 144 → T (non_neg z) × Fits w16 (nat_abs z)
-sum_fits z sum e p h = subst⁻¹ (λ (i : ℤ). T (non_neg i) × Fits w16 (nat_abs i)) (e ∙ p) (tt, record { fits = omega arith })
 
 pub parts-lt : (v : ℕ) → v < 512 → parts_of (rest_of v) < 1069105
 parts-lt v h =

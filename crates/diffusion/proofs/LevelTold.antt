@@ -13,7 +13,7 @@ use Rattle.rules.specs.Bits.{upto, bit, appended}
 use Rattle.rules.specs.Packed.{byte_at}
 use Rattle.rules.specs.Internal.Kernels.{threshold_bit, threshold_from}
 use Rattle.rules.specs.Internal.Planes.{PlainRow}
-use Rattle.rules.proofs.DigitsAppended.{bit_le, appended-lt, appended-ext}
+use Rattle.rules.proofs.DigitsAppended.{appended-ext}
 use Rattle.rules.proofs.PlainRowWritten.{row_plain, row_written}
 use Rattle.rules.proofs.UptoList.{upto-at, length-upto}
 use Rattle.diffusion.specs.Internal.Flow.{LevelFrom, LevelByte}
@@ -37,11 +37,6 @@ module _ (gray : List ℕ) (x : ℕ) (out out' : List ℕ) (r : Bool) (p : Plain
       ∙ upto-at (byte_at 8 d) 0 1 0 (omega arith)
       ∙ byte-whole 8 d 0 (omega arith)
       ∙ appended-ext 0 (λ i. d (8 * 0 + i)) d 8 (λ i l. let k : 8 * 0 + i ≡ i = omega arith in ap d k)
-
-  pub told-small : get_or out' 0 0 < 256
-  told-small =
-      let l : appended 0 d 8 < 256 = appended-lt 0 d (λ i. bit_le (leb 128 (get_or part i 0))) 0 8 (omega arith) in
-      omega (arith, told, l)
 
   pub level-told : (right : ℕ) (work : List ℤ) → right ≡ 56 → LevelFrom work x 8 → LevelByte right gray x work (get_or out' 0 0)
   level-told right work h s =

@@ -1,47 +1,28 @@
 -- A plane that is written whole, or not at all.
 -- Assumes nothing.
-use Prim.Native.Nat.{ℕ, ◌*◌, ◌≤◌, ◌<◌}
+use Prim.Native.Nat.{ℕ, ◌*◌, ◌≤◌}
 use mathlib.Core.Path.{◌≡◌, refl, sym, ap, ap₂, ◌∙◌, subst}
 use mathlib.Core.Bool.{Bool, true, false, ◌&&◌}
 use mathlib.Core.List.{List, ◌++◌}
 use native.Mathlib.Nat.{mul-zero}
 use native.Mathlib.Omega.{arith}
-use borrow.Author.Tests.{le-leb, lt-leb}
-use lib.Dec.{leb}
+use borrow.Author.Tests.{le-leb}
 use lib.IntN.{ℤ}
 use lib.ListN.{length, take, drop, take-append-drop}
-use Rattle.laws.proofs.Tests.{zero_one, if-true, if-false, and-false}
+use Rattle.laws.proofs.Tests.{zero_one, if-true, if-false}
 use Rattle.image.specs.Geometry.{row_bytes}
 use Rattle.rules.specs.Bits.{upto}
 use Rattle.rules.specs.Packed.{byte_at}
 use Rattle.rules.specs.Internal.Planes.{plane, dither_bit}
 use Rattle.diffusion.specs.Internal.Rows.{served, DitherPlane}
-use Rattle.diffusion.specs.Internal.RowByRow.{PlaneLent, RowsWritten, PlainRows}
+use Rattle.diffusion.specs.Internal.RowByRow.{RowsWritten, PlainRows}
 
 module _ (w h : ℕ) (gray out : List ℕ) (work : List ℤ) where
   abbrev is : Bool
   is = served w h (length gray) (length out) (length work)
 
-  refused : served w h (length gray) (length out) (length work) ≡ false → DitherPlane w h gray out work out work
+  pub refused : served w h (length gray) (length out) (length work) ≡ false → DitherPlane w h gray out work out work
   refused e = record { written = sym (if-false is _ _ e); beyond = refl; unserved = λ f. refl }
-
-  pub gray-short : length gray < w * h → DitherPlane w h gray out work out work
-  gray-short l =
-      refused
-      (ap (λ (t : Bool). t && (leb (h * row_bytes w) (length out) && leb w (length work))) (lt-leb (w * h) (length gray) l))
-
-  pub out-short : length out < h * row_bytes w → DitherPlane w h gray out work out work
-  out-short l =
-      refused
-      (ap (λ (t : Bool). leb (w * h) (length gray) && (t && leb w (length work))) (lt-leb (h * row_bytes w) (length out) l)
-      ∙ and-false (leb (w * h) (length gray)))
-
-  pub work-short : length work < w → DitherPlane w h gray out work out work
-  work-short l =
-      refused
-      (ap (λ (t : Bool). leb (w * h) (length gray) && (leb (h * row_bytes w) (length out) && t)) (lt-leb w (length work) l)
-      ∙ ap (λ (t : Bool). leb (w * h) (length gray) && t) (and-false (leb (h * row_bytes w) (length out)))
-      ∙ and-false (leb (w * h) (length gray)))
 
   module _ (there : w * h ≤ length gray) (room : h * row_bytes w ≤ length out) (kept : w ≤ length work) where
     is-served : served w h (length gray) (length out) (length work) ≡ true
@@ -79,12 +60,6 @@ no-columns w h gray out z =
 
 -- plain rows, and then the others
 module _ {w h : ℕ} {gray out : List ℕ} {y : ℕ} {out' : List ℕ} (p : PlainRows w h gray out y out') where
-  pub rows_left : PlainRows w h gray out' y out'
-  rows_left = record { most = p.most; level = p.level; written = record { rows = p.written.rows; behind = refl; long = refl } }
-
-  pub lent_still : PlaneLent w h (length gray) (length out) → PlaneLent w h (length gray) (length out')
-  lent_still l = subst (λ (n : ℕ). PlaneLent w h (length gray) n) (sym p.written.long) l
-
   pub rows-joined : (last : List ℕ) → RowsWritten w h gray out' h last → RowsWritten w h gray out h last
   rows-joined last r =
       let a = p.written in

@@ -20,7 +20,7 @@ use Rattle.rules.proofs.UptoList.{take_more}
 use Rattle.diffusion.specs.declared.row.Flow.{Flow}
 use Rattle.diffusion.specs.Internal.Sums.{part_of, rest_by, rest_before, rest_after, handed_down, sums_of, Level}
 use Rattle.diffusion.specs.Internal.Rows.{gray_of, dot_by, row_of, RowLent, RowDithered}
-use Rattle.diffusion.specs.Internal.Flow.{owed, Still, DotsLent, DotsPassed, BytesPassed}
+use Rattle.diffusion.specs.Internal.Flow.{owed, Still, DotsPassed, BytesPassed}
 use Rattle.diffusion.proofs.RowBytes.{byte-end}
 use Rattle.diffusion.proofs.RowGrows.{digits-small, owed-le}
 use Rattle.diffusion.proofs.SumsCorrect.{part-of-128}
@@ -60,17 +60,6 @@ module _ (gray : List ℕ) (old : List ℤ) (room : ℕ) (lent : RowLent gray ol
 
   abbrev last : ℕ
   last = (length gray - 1) / 8
-
-  pub last-lent : DotsLent gray (8 * last) (length gray) f work
-  last-lent =
-      record {
-        old = old;
-        at = p.at;
-        kept = omega (arith, p.at.long, lent.kept);
-        order = omega arith;
-        one_byte = omega arith;
-        in_row = omega arith;
-      }
 
   module _ (r : Flow) (work' : List ℤ) (d : DotsPassed gray old (8 * last) (length gray) r work') where
     last-small : r.digits < 2 ^ (w - 8 * last)

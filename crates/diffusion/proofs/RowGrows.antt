@@ -229,9 +229,6 @@ module _ (gray : List ℕ) (b end : ℕ) (f₀ : Flow) (work₀ : List ℤ) wher
   pub run-start : b ≤ end → DotsRun gray b end f₀ work₀ b f₀ work₀
   run-start h = record { from = omega arith; to = h; passed = λ old p. p }
 
-  pub run_at : (x y : ℕ) (f : Flow) (work : List ℤ) → x ≡ y → DotsRun gray b end f₀ work₀ x f work → DotsRun gray b end f₀ work₀ y f work
-  run_at x y f work e run = subst (λ (n : ℕ). DotsRun gray b end f₀ work₀ n f work) e run
-
   module _ (x : ℕ) (f : Flow) (work : List ℤ) (run : DotsRun gray b end f₀ work₀ x f work) where
     -- a row in which these dots are
     module _ (old : List ℤ) (p : DotsPassed gray old b b f₀ work₀) where

@@ -1,16 +1,15 @@
 -- What is handed to a row, and what it hands down.
 -- Assumes nothing.
-use Prim.Native.Nat.{ℕ, ◌+◌, ◌/◌, ◌%◌, ◌≤◌, ◌<◌}
+use Prim.Native.Nat.{ℕ, ◌+◌, ◌/◌, ◌%◌, ◌<◌}
 use mathlib.Core.Path.{◌≡◌, refl, sym, ap, ◌∙◌, subst}
 use mathlib.Core.Bool.{Bool, true, false}
 use mathlib.Core.List.{List, ◌++◌}
-use mathlib.Core.Logic.{⊎_elim}
 use native.Mathlib.Nat.{zero-add}
 use native.Mathlib.Omega.{arith}
 use lib.IntN.{ℤ, pos, nat_abs}
-use lib.ListN.{length, get_or, drop, set, get_or-append}
-use lib.Seq.{drop_at, get_or-set_same, get_or-set_other}
-use Rattle.laws.proofs.Tests.{zero_one, lt-or-le}
+use lib.ListN.{length, get_or, drop, get_or-append}
+use lib.Seq.{drop_at}
+use Rattle.laws.proofs.Tests.{zero_one}
 use Rattle.image.specs.Geometry.{row_bytes}
 use Rattle.rules.specs.Internal.Kernels.{threshold_bit}
 use Rattle.rules.specs.Internal.Planes.{PlainRow}
@@ -25,15 +24,6 @@ use Rattle.diffusion.proofs.SumsCorrect.{down-small, value_same, down-same, leve
 -- a number that is held is its own sum
 held : (work : List ℤ) (x n : ℕ) → get_or work x (pos 0) ≡ pos n → sums_of work x ≡ n
 held work x n e = ap nat_abs e
-
--- one more sum that nothing was added to
-pub none_more : (sums : List ℤ) (i : ℕ) → i < length sums → ((x : ℕ) → x < i → get_or sums x (pos 0) ≡ pos none)
-    → (x : ℕ) → x < i + 1 → get_or (set sums i (pos none)) x (pos 0) ≡ pos none
-none_more sums i h before x l =
-    ⊎_elim
-    (λ (k : x < i). get_or-set_other sums i x (pos none) (pos 0) (λ e. omega arith) ∙ before x k)
-    (λ (k : i ≤ x). let e : x ≡ i = omega arith in rw e (get_or-set_same sums i (pos none) (pos 0) h))
-    (lt-or-le x i)
 
 module _ (gray : List ℕ) (work : List ℤ) (out' : List ℕ) where
   abbrev w : ℕ

@@ -1,15 +1,13 @@
 -- The loops over the rows of a plane.
 -- Assumes nothing.
-use Prim.Native.Nat.{ℕ, ◌+◌, ◌-◌, ◌*◌, ◌≤◌, ◌<◌}
-use mathlib.Core.Path.{◌≡◌, refl, sym, ap, ◌∙◌, subst}
+use Prim.Native.Nat.{ℕ, ◌+◌, ◌-◌, ◌≤◌, ◌<◌}
+use mathlib.Core.Path.{◌≡◌, refl, sym, ◌∙◌, subst}
 use mathlib.Core.Bool.{Bool, true, false}
 use mathlib.Core.List.{List, []}
-use native.Mathlib.Nat.{mul_comm, mul-le-mul_right}
 use native.Mathlib.Omega.{arith}
 use borrow.Rule.Slice.PartMut.{mid_of, put_mid, mid_len}
 use lib.IntN.{ℤ}
 use lib.ListN.{length, get_or, drop}
-use Rattle.laws.proofs.Tests.{zero_one}
 use Rattle.image.specs.Geometry.{row_bytes}
 use Rattle.rules.specs.Internal.Kernels.{threshold_bit}
 use Rattle.rules.specs.Internal.Planes.{PlainRow}
@@ -18,10 +16,10 @@ use Rattle.rules.proofs.ListPiece.{piece, piece-length}
 use Rattle.rules.proofs.PlainRowWritten.{row_plain, row_written}
 use Rattle.diffusion.specs.Internal.Sums.{none, Sums}
 use Rattle.diffusion.specs.Internal.Rows.{row_of}
-use Rattle.diffusion.specs.Internal.RowByRow.{handed_to, RowGiven, RowNext, PlaneLent, RowsWritten, PlainRows}
+use Rattle.diffusion.specs.Internal.RowByRow.{handed_to, RowNext, PlaneLent, RowsWritten, PlainRows}
 use Rattle.diffusion.proofs.PlaneRows.{row-alone}
 use Rattle.diffusion.proofs.RowHanded.{next-plain}
-use Rattle.diffusion.proofs.RowsLoop.{first-sums, rows-unwritten, rows_stay, RowsAt, row-lent, row_fits, row-bytes, row_next}
+use Rattle.diffusion.proofs.RowsLoop.{first-sums, rows-unwritten, rows_stay, RowsAt, rows-moved, row-lent, row_fits, row-bytes, row_next}
 
 -- ---- plain rows from the top
 
@@ -59,59 +57,14 @@ module _ {w h : ℕ} {gray out₀ out : List ℕ} {at to y : ℕ} (lent : PlaneL
 
 -- ---- all rows
 
--- where the rows from one on start
-module _ {w h samples bytes : ℕ} (lent : PlaneLent w h samples bytes) (first : ℕ) (l : first ≤ h) where
-  pub first-lent : first * w ≤ samples
-  first-lent =
-      let a : first * w ≤ h * w = mul-le-mul_right w l in
-      let b = mul_comm w h in
-      omega (arith, lent.there)
-
-  pub first_fits : first * row_bytes w ≤ bytes
-  first_fits =
-      let a : first * row_bytes w ≤ h * row_bytes w = mul-le-mul_right (row_bytes w) l in
-      omega (arith, lent.room)
-
 pub record RowsGoing (w h : ℕ) (gray out₀ : List ℕ) (work₀ work : List ℤ) (out : List ℕ) (level : Bool) (at to y : ℕ) : Type 0 where
   pub here : RowsAt w h gray out₀ (handed_to level work) out at to y
   pub sums : level ≡ false → Sums w work
   pub kept : length work ≡ length work₀
   pub beyond : drop w work ≡ drop w work₀
 
-pub going-begun : (w h : ℕ) (gray out : List ℕ) (work : List ℤ) (first at to : ℕ) → at ≡ first * w → to ≡ first * row_bytes w
-    → PlainRows w h gray out first out → RowsGoing w h gray out work work out true at to first
-going-begun w h gray out work first at to a b p =
-    record {
-      here =
-          record {
-            most = p.most;
-            at_is = a;
-            to_is = b;
-            written = p.written;
-            given = record { are = p.level; small = λ x k. omega arith };
-          };
-      sums = λ e. zero_one (cc);
-      kept = refl;
-      beyond = refl;
-    }
-
 module _ {w h : ℕ} {gray out₀ : List ℕ} {work₀ work : List ℤ} {out : List ℕ} {level : Bool} {at to y : ℕ}
     (lent : PlaneLent w h (length gray) (length out₀)) (i : RowsGoing w h gray out₀ work₀ work out level at to y) (l : y < h) where
-  pub going-given : w ≤ length work₀ → RowGiven level (piece gray at w) work (length (mid_of to (to + row_bytes w - to) out))
-  going-given k =
-      let n : length (piece gray at w) ≡ w = piece-length gray at w (row-lent lent i.here l) in
-      let a = i.kept in
-      let b = row_fits lent i.here l in
-      let m = mid_len to (to + row_bytes w) out (omega arith) in
-      let c = lent.wide in
-      let o : length (mid_of to (to + row_bytes w - to) out) ≡ row_bytes w = omega arith in
-      record {
-        some = omega arith;
-        kept = omega arith;
-        room = o ∙ ap row_bytes (sym n);
-        sums = λ e. subst (λ (j : ℕ). Sums j work) (sym n) (i.sums e);
-      }
-
   pub going_next : ((n : ℕ) → get_or gray n 0 < 256) → (r : Bool) (new : List ℕ) (work' : List ℤ) → length work' ≡ length work
       → RowNext level (piece gray at w) work r new work'
       → RowsGoing w h gray out₀ work₀ work' (put_mid to (to + row_bytes w - to) out new) r (at + w) (to + row_bytes w) (y + 1)
@@ -123,6 +76,11 @@ module _ {w h : ℕ} {gray out₀ : List ℕ} {work₀ work : List ℤ} {out : L
         kept = k ∙ i.kept;
         beyond = subst (λ (j : ℕ). drop j work' ≡ drop j work) n x.beyond ∙ i.beyond;
       }
+
+-- the same place, said otherwise
+pub going-moved : {w h : ℕ} {gray out₀ : List ℕ} {work₀ work : List ℤ} {out : List ℕ} {level : Bool} {at to y : ℕ} (at' to' : ℕ)
+    → RowsGoing w h gray out₀ work₀ work out level at to y → at ≡ at' → to ≡ to' → RowsGoing w h gray out₀ work₀ work out level at' to' y
+going-moved at' to' i e f = record { here = rows-moved at' to' i.here e f; sums = i.sums; kept = i.kept; beyond = i.beyond }
 
 pub going_end : {w h : ℕ} {gray out₀ : List ℕ} {work₀ work : List ℤ} {out : List ℕ} {level : Bool} {at to y : ℕ}
     → RowsGoing w h gray out₀ work₀ work out level at to y → h ≤ y → RowsWritten w h gray out₀ h out

@@ -179,6 +179,11 @@ pub record RowsAt (w h : ℕ) (gray out₀ : List ℕ) (sums : ℕ → ℕ) (out
   pub written : RowsWritten w h gray out₀ y out
   pub given : HandedSums w gray y sums
 
+-- the same place, said otherwise
+pub rows-moved : {w h : ℕ} {gray out₀ : List ℕ} {given : ℕ → ℕ} {out : List ℕ} {at to y : ℕ} (at' to' : ℕ)
+    → RowsAt w h gray out₀ given out at to y → at ≡ at' → to ≡ to' → RowsAt w h gray out₀ given out at' to' y
+rows-moved at' to' i e f = record { most = i.most; at_is = sym e ∙ i.at_is; to_is = sym f ∙ i.to_is; written = i.written; given = i.given }
+
 -- row y of the plane
 module _ {w h : ℕ} {gray out₀ : List ℕ} {sums : ℕ → ℕ} {out : List ℕ} {at to y : ℕ} (lent : PlaneLent w h (length gray) (length out₀))
     (i : RowsAt w h gray out₀ sums out at to y) (l : y < h) where

@@ -9,12 +9,10 @@ pub(crate) fn dither_ones(height: usize, gray: &[u8], out: &mut [u8])
     ensures { RowsWritten 1 height gray.now out.old height out.new }
 {
     let mut rest: u32 = 128;
-    let mut y: usize = 0;
-    while y < height {
+    for y in 0..height {
         let value = gray[y] as u32 + part(5, rest) + 88;
         let dot = value / 256;
         out[y] = (128 * dot) as u8;
         rest = value % 256 + dot;
-        y += 1;
     }
 }

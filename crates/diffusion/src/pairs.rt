@@ -17,16 +17,7 @@ struct PairRow {
 fn is_level(first: u8, second: u8, left: u32, right: u32) -> bool
     ensures { result ≡ true → LevelPair first second left right }
 {
-    if left != 72 {
-        return false;
-    }
-    if right != 72 {
-        return false;
-    }
-    if first % 255 != 0 {
-        return false;
-    }
-    second % 255 == 0
+    left == 72 && right == 72 && first % 255 == 0 && second % 255 == 0
 }
 
 // The row of two samples that the sums `left` and `right` are handed to. A level one waits for no row above it.
@@ -58,12 +49,10 @@ pub(crate) fn dither_pairs(height: usize, gray: &[u8], out: &mut [u8])
 {
     let mut left: u32 = 72;
     let mut right: u32 = 72;
-    let mut y: usize = 0;
-    while y < height {
+    for y in 0..height {
         let p = dither_pair(gray[2 * y], gray[2 * y + 1], left, right);
         out[y] = p.byte;
         left = p.left;
         right = p.right;
-        y += 1;
     }
 }

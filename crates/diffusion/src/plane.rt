@@ -14,16 +14,11 @@ pub fn dither_plane(width: u32, height: u32, gray: &[u8], work: &mut [i16], out:
     let columns = width as usize;
     let rows = height as usize;
     let row = (columns + 7) / 8;
-    if gray.len() < columns * rows {
-        return;
-    }
-    if out.len() < rows * row {
-        return;
-    }
-    if work.len() < columns {
-        return;
-    }
-    if columns == 0 {
+    if gray.len() < columns * rows
+        || out.len() < rows * row
+        || work.len() < columns
+        || columns == 0
+    {
         return;
     }
     if columns == 1 {

@@ -1,23 +1,11 @@
 // Rows one after the other: what a row hands down is kept in the work buffer, unless it is nothing.
 ghost use Rattle.std.specs.Prelude.{◌≡◌, ◌≤◌, length, drop};
-ghost use Rattle.diffusion.specs.Internal.Rows.{RightTable, DownTable};
 ghost use Rattle.diffusion.specs.Internal.RowByRow.{AllNone, RowGiven, RowBegun, RowNext};
 ghost use Rattle.diffusion.specs.Internal.RowByRow.{PlaneLent, RowsWritten, RowsLeft, PlainRows};
 
 use crate::row::dither_row;
-use crate::tables::{down_table, right_table};
+use crate::tables::Tables;
 use rules::plain_row;
-
-// The sums that nothing was added to.
-fn level_sums(sums: &mut [i16])
-    ensures { AllNone sums.new }
-{
-    let mut i: usize = 0;
-    while i < sums.len() {
-        sums[i] = 72;
-        i += 1;
-    }
-}
 
 // Whether nothing is handed to the row, which `level` says, and it is black and white alone: then it is written.
 // Otherwise the sums that are handed to it stand in the work buffer.
@@ -32,26 +20,19 @@ fn begin_row(level: bool, gray: &[u8], work: &mut [i16], out: &mut [u8]) -> bool
     if plain_row(width, gray, out) {
         return true;
     }
-    level_sums(&mut work[..width]);
+    work[..width].fill(72);
     false
 }
 
 // The next row. Answers whether it hands down nothing; otherwise the work buffer has what it hands down.
-fn next_row(
-    rights: &[u8; 512],
-    downs: &[u32; 512],
-    level: bool,
-    gray: &[u8],
-    work: &mut [i16],
-    out: &mut [u8],
-) -> bool
-    requires { RightTable rights.now × (DownTable downs.now × RowGiven level gray.now work.old (length out.old)) }
+fn next_row(tables: &Tables, level: bool, gray: &[u8], work: &mut [i16], out: &mut [u8]) -> bool
+    requires { RowGiven level gray.now work.old (length out.old) }
     ensures { RowNext level gray.now work.old result out.new work.new }
 {
     if begin_row(level, gray, work, out) {
         return true;
     }
-    dither_row(rights, downs, gray, work, out)
+    dither_row(tables, gray, work, out)
 }
 
 // The rows of a plane from one on that nothing is handed to. The tables are bound once.
@@ -68,27 +49,19 @@ pub(crate) fn rows_from(
     ensures rows_written { RowsWritten width height gray.now out.old height out.new }
     ensures work_unchanged { drop width work.new ≡ drop width work.old }
 {
-    let rights = right_table();
-    let downs = down_table();
+    let tables = Tables::new();
     let row = (width + 7) / 8;
     let mut level = true;
-    let mut at = first * width;
-    let mut to = first * row;
-    let mut y = first;
-    while y < height {
-        let end = at + width;
-        let stop = to + row;
+    for y in first..height {
+        let at = y * width;
+        let to = y * row;
         level = next_row(
-            &rights,
-            &downs,
+            &tables,
             level,
-            &gray[at..end],
+            &gray[at..at + width],
             work,
-            &mut out[to..stop],
+            &mut out[to..to + row],
         );
-        at = end;
-        to = stop;
-        y += 1;
     }
 }
 
@@ -98,18 +71,12 @@ pub(crate) fn plain_rows(width: usize, height: usize, gray: &[u8], out: &mut [u8
     ensures { PlainRows width height gray.now out.old result out.new }
 {
     let row = (width + 7) / 8;
-    let mut at: usize = 0;
-    let mut to: usize = 0;
-    let mut y: usize = 0;
-    while y < height {
-        let end = at + width;
-        let stop = to + row;
-        if !plain_row(width, &gray[at..end], &mut out[to..stop]) {
+    for y in 0..height {
+        let at = y * width;
+        let to = y * row;
+        if !plain_row(width, &gray[at..at + width], &mut out[to..to + row]) {
             return y;
         }
-        at = end;
-        to = stop;
-        y += 1;
     }
-    y
+    height
 }

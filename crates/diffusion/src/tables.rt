@@ -74,14 +74,20 @@ const DOWN: [u32; 512] = [
     1068591, 1068591, 1068847, 1068847, 1068848, 1069104, 1069104,
 ];
 
-pub(crate) fn right_table() -> [u8; 512]
-    ensures { RightTable result }
-{
-    RIGHT
+// By a dot's value, plus 128, what it hands on to the right and down.
+#[derive(Drop)]
+pub(crate) struct Tables {
+    pub(crate) rights: [u8; 512],
+    pub(crate) downs: [u32; 512],
+    ghost rights_are: { RightTable rights },
+    ghost downs_are: { DownTable downs },
 }
 
-pub(crate) fn down_table() -> [u32; 512]
-    ensures { DownTable result }
-{
-    DOWN
+impl Tables {
+    pub(crate) fn new() -> Tables {
+        Tables {
+            rights: RIGHT,
+            downs: DOWN,
+        }
+    }
 }

@@ -31,9 +31,6 @@ biased-clamp z r b = rw (clamp-same z (within z (record { n = r; holds = b }))) 
 pub corner-on : (corner x r : ℕ) → corner ≤ 256 → 0 < x → r ≡ corner → Biased (corner_of (sub_ℕ corner 128) x) r
 corner-on corner x r h k e = rw (corner-at (sub_ℕ corner 128) x k, e) (record { is = refl; small = h })
 
-pub corner-none : (z : ℤ) (x r : ℕ) → x ≤ 0 → r ≡ 128 → Biased (corner_of z x) r
-corner-none z x r k e = let o : x ≡ 0 = omega arith in rw (o, e) biased-zero
-
 pub dot-le : {v : ℤ} {dot rest : ℕ} → DotMade v dot rest → dot ≤ 1
 dot-le {v} s = subst (λ (n : ℕ). n ≤ 1) (sym s.dot_is) (bit_le (white v))
 

@@ -2,18 +2,16 @@
 -- Assumes nothing.
 use mathlib.Core.Path.{◌≡◌, sym, ap, ◌∙◌}
 use mathlib.Core.Bool.{true, false}
-use Prim.Native.Nat.{ℕ, suc, ◌+◌, ◌-◌, ◌≤◌}
+use Prim.Native.Nat.{suc, ◌+◌, ◌-◌}
 use native.Mathlib.Omega.{arith}
 use lib.Dec.{T}
-use lib.IntN.{ℤ, pos, negsuc, sub_ℕ, nat_abs, ◌+ℤ◌}
+use lib.IntN.{ℤ, pos, negsuc, nat_abs, ◌+ℤ◌}
 use lib.Signed.{lt_z, non_neg}
 use mir.Syntax.{w16, w32}
 use mir.Val.{Fits, SFits}
 use borrow.Author.Tests.{ltb-true, ltb-false}
 use Rattle.dither.specs.Internal.Carry.{clamp}
 use Rattle.rules.specs.Internal.Held.{Biased}
-use mathlib.Core.Logic.{⊎_elim}
-use Rattle.laws.proofs.Tests.{lt-or-le}
 use Rattle.rules.proofs.Differences.{sub-neg, sub-pos}
 use Rattle.rules.proofs.EntryTold.{never}
 
@@ -48,11 +46,3 @@ to-held-mid (negsuc n) t u =
     let h = ltb-false 127 n t in
     rw (sub-pos 128 (suc n) (omega arith))
     (record { is = sym (sub-neg (128 - suc n) 128 (omega arith) ∙ ap negsuc (omega arith)); small = omega arith })
-
--- `from_held`
-pub from-held-fits : (b : ℕ) → b ≤ 256 → SFits w16 (sub_ℕ b 128)
-from-held-fits b h =
-    ⊎_elim
-    (λ k. rw (sub-neg b 128 k) (record { sfits = omega arith }))
-    (λ k. rw (sub-pos b 128 k) (record { sfits = omega arith }))
-    (lt-or-le b 128)

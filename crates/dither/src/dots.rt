@@ -117,17 +117,15 @@ pub(crate) fn dither_dots(
     let near = reach(width, y);
     let mut above = over(work, near, column);
     let mut digits = begun;
-    let mut i: usize = 0;
-    while i < gray.len() {
+    for (i, sample) in gray.iter().enumerate() {
         let x = column + i;
         let ahead = over(work, near, x + 1);
-        let d = step(gray[i], left, above_left, above, ahead);
+        let d = step(*sample, left, above_left, above, ahead);
         left = d.rest;
         above_left = above;
         above = ahead;
         work[x] = from_held(left);
         digits = digits * 2 + d.bit;
-        i += 1;
     }
     RowDots {
         digits: digits,

@@ -14,22 +14,12 @@ use rules::packs;
 fn diffusing(width: usize, column: usize, n: usize, begun: u32, corner: u32, work: usize) -> bool
     ensures { TrueExactly (Diffusing width column n begun corner work) result }
 {
-    if n == 0 {
-        return false;
-    }
-    if !packs(begun, n) {
-        return false;
-    }
-    if width < column {
-        return false;
-    }
-    if width - column < n {
-        return false;
-    }
-    if work < width {
-        return false;
-    }
-    corner <= 256
+    n != 0
+        && packs(begun, n)
+        && column <= width
+        && n <= width - column
+        && width <= work
+        && corner <= 256
 }
 
 // Whether there are samples for so many bytes, which do not end the row, and a number of work for each column.
@@ -43,19 +33,11 @@ fn filling(
 ) -> bool
     ensures { TrueExactly (Filling width column samples count corner work) result }
 {
-    if samples / 8 < count {
-        return false;
-    }
-    if width <= column {
-        return false;
-    }
-    if (width - column - 1) / 8 < count {
-        return false;
-    }
-    if work < width {
-        return false;
-    }
-    corner <= 256
+    count <= samples / 8
+        && column < width
+        && count <= (width - column - 1) / 8
+        && width <= work
+        && corner <= 256
 }
 
 // The digits of `begun`, and then a dot for each sample, from a column of row y on. Answers `begun` and the corner where the samples do not

@@ -34,7 +34,7 @@ fn inside(work: &[i16], reach: usize, x: usize) -> u32
 }
 
 // A dot for each sample, as `dither_dots` makes them, from a column of a row on and not to its end: without the test for the end the
-// compiler unrolls the loop.
+// compiler unrolls the loop. As one loop with that test, gray rows take 1.1 to 1.3 times as long.
 fn dither_byte(
     width: usize,
     y: usize,
@@ -52,17 +52,15 @@ fn dither_byte(
     let mut left = near.left;
     let mut corner = near.corner;
     let mut above = near.above;
-    let mut i: usize = 0;
-    while i < gray.len() {
+    for (i, sample) in gray.iter().enumerate() {
         let x = column + i;
         let ahead = inside(work, reached, x + 1);
-        let d = step(gray[i], left, corner, above, ahead);
+        let d = step(*sample, left, corner, above, ahead);
         left = d.rest;
         corner = above;
         above = ahead;
         work[x] = from_held(left);
         digits = digits * 2 + d.bit;
-        i += 1;
     }
     DitheredByte {
         digits: digits,
@@ -79,16 +77,11 @@ fn plain(samples: &[u8], at: usize, n: usize) -> bool
     requires { at + n ≤ length samples.now }
     ensures { result ≡ true → Plain samples.now at n }
 {
-    let mut grays: u8 = 0;
-    let mut i: usize = 0;
-    while i < n {
-        let j = at + i;
-        if samples[j] % 255 != 0 {
-            grays = 1;
-        }
-        i += 1;
+    let mut plain = true;
+    for i in 0..n {
+        plain &= samples[at + i] % 255 == 0;
     }
-    grays == 0
+    plain
 }
 
 // Whether each of n numbers from column x on is 0.
@@ -96,16 +89,11 @@ fn clear(work: &[i16], x: usize, n: usize) -> bool
     requires { x + n ≤ length work.now }
     ensures { result ≡ true → Clear work.now x n }
 {
-    let mut others: u8 = 0;
-    let mut i: usize = 0;
-    while i < n {
-        let j = x + i;
-        if work[j] != 0 {
-            others = 1;
-        }
-        i += 1;
+    let mut clear = true;
+    for i in 0..n {
+        clear &= work[x + i] == 0;
     }
-    others == 0
+    clear
 }
 
 // Whether the first n samples, which go to row y from column x on, are black or white and nothing is handed to them: dithering alters none
@@ -121,19 +109,11 @@ fn residual_free(
     requires { (n ≤ length samples.now) × (x + n < length work.now) }
     ensures { result ≡ true → ResidualFree y x samples.now n near work.now }
 {
-    if y == 0 {
-        return false;
-    }
-    if near.left != 128 {
-        return false;
-    }
-    if near.corner != 128 {
-        return false;
-    }
-    if !clear(work, x, n + 1) {
-        return false;
-    }
-    plain(samples, 0, n)
+    y != 0
+        && near.left == 128
+        && near.corner == 128
+        && clear(work, x, n + 1)
+        && plain(samples, 0, n)
 }
 
 // As many bytes as the output has, from a column of row y on. Answers the residual above the last dot, plus 128.
@@ -163,14 +143,12 @@ pub(crate) fn dither_bytes(
         threshold_row_bytes(128, samples, out);
         return 128;
     }
-    let mut k: usize = 0;
-    while k < count {
+    for k in 0..count {
         let from = 8 * k;
         let end = from + 8;
         let d = dither_byte(width, y, column + from, &samples[from..end], near, work);
         near = d.next;
         out[k] = d.digits as u8;
-        k += 1;
     }
     near.corner
 }

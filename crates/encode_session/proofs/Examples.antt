@@ -3,8 +3,8 @@
 use mathlib.Core.Path.{◌≡◌, refl}
 use mathlib.Core.Bool.{false}
 use mathlib.Core.List.{[], ◌∷◌}
+use Rattle.std.proofs.Common.{None}
 use Rattle.error.specs.Answer.{gives, refuses}
-use Rattle.header.specs.declared.ExtPresence.TheVariants.{Absent}
 use Rattle.options.specs.declared.Quantize.TheVariants.{Dither}
 use Rattle.rules.specs.Bits.{upto, appended}
 use Rattle.rules.specs.Diffusion.{part, value, white, residual, value_from, handed, row_value, above, value_at}
@@ -15,7 +15,7 @@ use Rattle.encode_session.specs.Model.{Opening, opening, opened, feed, close, to
 
 -- a card of 2 by 1, dithered
 abbrev card : Opening
-card = opening (record { quantize = Dither; ext = Absent; strict = false }) 2 1 [] []
+card = opening (record { quantize = Dither; ext = None; strict = false }) 2 1 [] []
 
 -- "P8 dither 127,128 in one row: 40", a sample a call; closing comes too early, then in time, and then nothing is open
 in_pieces : replies (opened card)

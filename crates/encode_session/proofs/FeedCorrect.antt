@@ -1,6 +1,6 @@
 -- Feeding: what a session's own numbers say of the plain machine, and what the engine's promises make of them.
 -- Assumes nothing.
-use Prim.Native.Nat.{ℕ, ◌+◌, ◌-◌}
+use Prim.Native.Nat.{ℕ, ◌+◌}
 use mathlib.Core.Path.{◌≡◌, refl, sym, ap, ◌∙◌, subst}
 use mathlib.Core.Bool.{Bool, true, false}
 use mathlib.Core.List.{List, ◌++◌}
@@ -8,18 +8,21 @@ use native.Mathlib.Omega.{arith}
 use lib.IntN.{ℤ}
 use lib.ListN.{length, take, drop, length-append, length-drop}
 use lib.Seq.{length-take-le}
-use Rattle.error.specs.Answer.{gives, refuses}
-use Rattle.laws.proofs.Tests.{if-true, zero_one}
+use Rattle.std.proofs.Common.{Ok, Err}
+use Rattle.error.specs.Answer.{gives, number, refusal}
+use Rattle.error.specs.declared.Fed.{Fed}
+use Rattle.error.specs.declared.Refusal.{Refusal}
+use Rattle.error.specs.declared.Refusal.TheVariants.{BufferTooShort, SessionClosed}
+use Rattle.error.specs.declared.WbmpError.{WbmpError}
+use Rattle.laws.proofs.Tests.{if-true}
 use Rattle.quantize.specs.declared.engine.RunEnded.{RunEnded}
 use Rattle.quantize.specs.Internal.Engine.{room_for, Counts, Runs, QuantizerAt, QuantizerAfter}
 use Rattle.quantize.specs.Finished.{newly}
 use Rattle.quantize.proofs.FramesDone.{frames-done, room-behind}
 use Rattle.quantize.proofs.FinishedGrows.{length-finished}
 use Rattle.encode_session.specs.declared.EncodeSession.{EncodeSession}
-use Rattle.encode_session.specs.declared.EncodeFed.{EncodeFed}
-use Rattle.encode_session.specs.declared.EncodeFeed.TheVariants.{Took}
 use Rattle.encode_session.specs.Model.{setting_of, serves, Model, feed, took, taken, written, Outcome, unaltered, outcome}
-use Rattle.encode_session.specs.Session.{refused_fed, Stands, Holds, Feeds}
+use Rattle.encode_session.specs.Session.{Stands, Holds, Feeds}
 use Rattle.encode_session.proofs.OutcomeCases.{feed-shut, feed-short, feed-busy}
 
 -- the engine tests what the machine does
@@ -29,28 +32,27 @@ served-is s m work b t l tells = sym (tells ∙ room-behind s.quantizer (setting
 
 module _ (s : EncodeSession) (xs out : List ℕ) (work : List ℤ) where
   -- a call that the machine refuses too
-  idle-feed : (code : ℕ) → ((m : Model) → Stands s m → outcome m (feed xs out (length work)) ≡ unaltered m code out)
-      → Feeds s xs out work (refused_fed s code) out work
-  idle-feed code idle =
+  idle-feed : (kind : Refusal) → ((m : Model) → Stands s m → outcome m (feed xs out (length work)) ≡ unaltered m (number kind) out)
+      → (e : WbmpError) → e ≡ record { kind = kind; offset = 0 } → Feeds s xs out work (record { session = s; answer = Err e }) out work
+  idle-feed kind idle e f =
       record {
         refused = λ code place e. (refl, (refl, refl));
-        runs = λ n b e. zero_one (cc);
-        counts = λ m t. subst (λ (x : Outcome). (refuses code 0 ≡ x.reply.answer) × Stands s x.next) (sym (idle m t)) (refl, t);
+        runs = λ n b e. cc;
+        counts = λ m t.
+            subst (λ (x : Outcome). (refusal e ≡ x.reply.answer) × Stands s x.next) (sym (idle m t)) (ap refusal f, t);
         does = λ m h. subst (λ (x : Outcome). (out ≡ x.reply.output) × Holds s work x.next) (sym (idle m h.stands)) (refl, h);
       }
 
-  pub feeds-shut : (r : EncodeFed) → r ≡ refused_fed s 30 → s.live ≡ false → Feeds s xs out work r out work
-  feeds-shut r f l =
-      subst (λ (x : EncodeFed). Feeds s xs out work x out work) (sym f)
-      (idle-feed 30 (λ m t. feed-shut m xs out (length work) (sym t.live ∙ l)))
+  pub feeds-shut : (e : WbmpError) → e ≡ record { kind = SessionClosed; offset = 0 } → s.live ≡ false
+      → Feeds s xs out work (record { session = s; answer = Err e }) out work
+  feeds-shut e f l = idle-feed SessionClosed (λ m t. feed-shut m xs out (length work) (sym t.live ∙ l)) e f
 
-  pub feeds-short : (r : EncodeFed) → r ≡ refused_fed s 28 → s.live ≡ true → (b : Bool) → b ≡ room_for s.quantizer (length work)
-      → b ≡ false
-      → Feeds s xs out work r out work
-  feeds-short r f l b tells e =
-      subst (λ (x : EncodeFed). Feeds s xs out work x out work) (sym f)
-      (idle-feed 28
-      (λ m t. let o = sym t.live ∙ l in feed-short m xs out (length work) o (served-is s m (length work) b t o tells ∙ e)))
+  pub feeds-short : (e : WbmpError) → e ≡ record { kind = BufferTooShort; offset = 0 } → s.live ≡ true
+      → (b : Bool) → b ≡ room_for s.quantizer (length work) → b ≡ false
+      → Feeds s xs out work (record { session = s; answer = Err e }) out work
+  feeds-short e f l b tells h =
+      idle-feed BufferTooShort
+      (λ m t. let o = sym t.live ∙ l in feed-short m xs out (length work) o (served-is s m (length work) b t o tells ∙ h)) e f
 
 -- ---- the engine ran
 
@@ -58,7 +60,7 @@ module _ (s : EncodeSession) (xs out : List ℕ) (work : List ℤ) (l : s.live �
     (tells : b ≡ room_for s.quantizer (length work)) (e : b ≡ true)
     (r : RunEnded) (out' : List ℕ) (work' : List ℤ) (R : Runs s.quantizer xs out work r out' work') where
   abbrev next : EncodeSession
-  next = record { quantizer = r.quantizer; live = true }
+  next = record s { quantizer = r.quantizer }
 
   module _ (m : Model) (t : Stands s m) where
     abbrev n : ℕ
@@ -97,18 +99,16 @@ module _ (s : EncodeSession) (xs out : List ℕ) (work : List ℤ) (l : s.live �
     stands =
         let a : QuantizerAt r.quantizer (setting_of m.opening) (length (m.samples ++ taken m xs (length out))) =
         rw joined-long C.stands in
-        record { live = refl; left = frames-done _ _ _ _ _ a.at; place = λ _. a }
+        record { live = l; left = frames-done _ _ _ _ _ a.at; place = λ _. a }
 
-  pub feeds-ran : Feeds s xs out work (record { session = next; answer = Took r.taken r.written }) out' work'
+  pub feeds-ran : Feeds s xs out work (record { session = next; answer = Ok (record { taken = r.taken; written = r.written }) }) out' work'
   feeds-ran =
       record {
-        refused = λ code place f. zero_one (cc);
+        refused = λ code place f. cc;
         runs = λ n k f.
-            let p : r.taken ≡ n = cc in
-            let q : r.written ≡ k = cc in
-            subst (λ (i : ℕ). Runs s.quantizer xs out work (record { quantizer = r.quantizer; taken = i; written = k }) out' work') p
-            (subst (λ (i : ℕ). Runs s.quantizer xs out work (record { quantizer = r.quantizer; taken = r.taken; written = i })
-            out' work') q R);
+            let q : ◌≡◌ {A = Fed} (record { taken = r.taken; written = r.written }) (record { taken = n; written = k }) = cc in
+            subst (λ (x : Fed). Runs s.quantizer xs out work (record { quantizer = r.quantizer; taken = x.taken; written = x.written })
+            out' work') q R;
         counts = λ m t.
             subst (λ (x : Outcome). (gives (took r.taken r.written) ≡ x.reply.answer) × Stands next x.next)
             (sym (feed-busy m xs out (length work) (open_is m t) (served m t)))

@@ -1,6 +1,6 @@
 -- What holds of every machine that calls reach.
 -- Assumes nothing.
-use Prim.Native.Nat.{ℕ, zero, suc, ◌+◌, ◌*◌, ◌/◌, ◌%◌, ◌≤◌, ◌<◌}
+use Prim.Native.Nat.{ℕ, zero, suc, ◌*◌, ◌/◌, ◌%◌, ◌≤◌, ◌<◌}
 use mathlib.Core.Path.{◌≡◌, refl, sym, ap, ◌∙◌, subst}
 use mathlib.Core.Bool.{Bool, true, false, ◌&&◌}
 use mathlib.Core.List.{List, [], ◌∷◌, ◌++◌}
@@ -10,7 +10,7 @@ use borrow.Author.Tests.{ltb-true, eqb-true}
 use lib.Dec.{ltb, eqb}
 use lib.ListN.{length, length-append}
 use lib.Seq.{length-take-le}
-use Rattle.laws.proofs.Tests.{zero_one}
+use Rattle.laws.proofs.Tests.{both_true}
 use Rattle.quantize.specs.Finished.{takes}
 use Rattle.quantize.proofs.FinishedGrows.{takes-le, takes-within}
 use Rattle.encode_session.specs.Model.{Opening, setting_of, Model, opened, Call, feed, close, taken, is_whole, Outcome, outcome}
@@ -34,12 +34,12 @@ taken-few m xs room h =
 pub reached-next : (a : Opening) (m : Model) (c : Call) → Reached a m → Reached a (outcome m c).next
 reached-next a m (feed xs out work) r =
     by-feed m xs out work (λ (x : Outcome). Reached a x.next) r r
-    (record { same = r.same; few = taken-few m xs (length out) r.few; whole = λ f. zero_one (cc) })
+    (record { same = r.same; few = taken-few m xs (length out) r.few; whole = λ f. cc })
 reached-next a m close r =
     by-close m (λ (x : Outcome). Reached a x.next) r r (λ k. record { same = r.same; few = r.few; whole = λ _. k })
 
 pub reached-start : (a : Opening) → Reached a (opened a)
-reached-start a = record { same = refl; few = omega arith; whole = λ f. zero_one (cc) }
+reached-start a = record { same = refl; few = omega arith; whole = λ f. cc }
 
 pub reached : (a : Opening) (m : Model) (cs : List Call) → Reached a m → Reached a (finally m cs)
 unfolding finally
@@ -54,10 +54,6 @@ pub record Frames (a : Opening) (n : ℕ) : Type 0 where
   pub some : 1 ≤ count
   pub most : count ≤ 16
   pub all : n ≡ count * (a.width * a.height)
-
-both_true : (a b : Bool) → (a && b) ≡ true → (a ≡ true) × (b ≡ true)
-both_true true b e = (refl, e)
-both_true false b e = zero_one (cc)
 
 frames-of : (w h n : ℕ) → 0 < w * h → n ≤ 16 * h * w → (ltb 0 n && eqb (n % (w * h)) 0) ≡ true
     → (1 ≤ n / (w * h)) × (n / (w * h) ≤ 16) × (n ≡ n / (w * h) * (w * h))

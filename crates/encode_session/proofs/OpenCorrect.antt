@@ -1,5 +1,7 @@
 -- Opening: the refusals in their order, and what an accepted opening hands back.
 -- Assumes nothing.
+use Rattle.std.proofs.Common.{Result, Ok, Err, is_ok}
+use Rattle.error.specs.declared.WbmpError.{WbmpError}
 use Prim.Native.Nat.{ℕ, ◌+◌, ◌*◌, ◌/◌, ◌<◌}
 use mathlib.Core.Path.{◌≡◌, refl, sym, ap, ◌∙◌, subst}
 use mathlib.Core.Bool.{Bool, true, false, ◌||◌}
@@ -11,12 +13,11 @@ use lib.Dec.{eqb}
 use lib.IntN.{ℤ}
 use lib.ListN.{length}
 use Rattle.error.specs.Choice.{if}
-use Rattle.error.specs.Answer.{Answer, gives, refuses, written}
+use Rattle.error.specs.Answer.{Answer, gives, refuses, refusal, written}
 use Rattle.error.specs.Emits.{Emits, emitted}
-use Rattle.error.specs.declared.Written.{Written}
 use Rattle.ext_write.specs.Internal.Left.{Left, none_left}
 use Rattle.ext_write.specs.declared.PairsBegun.{PairsBegun}
-use Rattle.laws.proofs.Tests.{if-true, if-false, zero_one}
+use Rattle.laws.proofs.Tests.{if-true, if-false}
 use Rattle.header.specs.Write.{ext_header}
 use Rattle.quantize.specs.declared.engine.Quantizer.{Quantizer}
 use Rattle.rules.specs.Rule.{Rule, threshold, dither, ordered, enough_work, known_rule}
@@ -24,7 +25,7 @@ use Rattle.rules.proofs.RuleAsked.{asked-if, known-named}
 use Rattle.quantize.specs.Internal.Engine.{NewQuantizer, QuantizerAfter}
 use Rattle.encode_session.specs.declared.EncodeOpened.{EncodeOpened}
 use Rattle.encode_session.specs.Model.{Opening, setting_of, serves, header, opened}
-use Rattle.encode_session.specs.Session.{is_given, Opens}
+use Rattle.encode_session.specs.Session.{Opens}
 
 -- a work buffer that serves
 pub work-numbers-enough : (rule : Rule) (width : ℕ) → enough_work rule width (2 * width) ≡ true
@@ -35,7 +36,15 @@ work-numbers-enough (ordered side table) width = refl
 -- what is written was given
 headed-by : (n : ℕ) (old : List ℕ) (h : Answer (List ℕ)) → gives n ≡ emitted h old → (bytes : List ℕ) × (h ≡ gives bytes)
 headed-by n old (gives bytes) e = (bytes, refl)
-headed-by n old (refuses code place) e = zero_one (cc)
+headed-by n old (refuses code place) e = cc
+
+when_given : (r : Result ℕ WbmpError) (n : ℕ) → written r ≡ gives n → is_ok r ≡ true
+when_given (Ok k) n e = refl
+when_given (Err x) n e = cc
+
+when_refused : (r : Result ℕ WbmpError) (code place : ℕ) → written r ≡ refuses code place → is_ok r ≡ false
+when_refused (Ok k) code place e = cc
+when_refused (Err x) code place e = refl
 
 module _ (a : Opening) (work : ℕ) where
   -- the header of the fields, behind the tests
@@ -93,29 +102,26 @@ module _ (a : Opening) (work : ℕ) where
     where
       go : (p q r s : Bool) → eqb a.width 0 ≡ p → eqb a.height 0 ≡ q → known_rule a.options.quantize ≡ r → serves a work ≡ s
           → if (p || q) (refuses 8 0) (if r (if s fields (refuses 28 0)) (refuses 29 0)) ≡ gives bytes → Passed bytes
-      go true q r s e1 e2 e3 e4 z = zero_one (cc)
-      go false true r s e1 e2 e3 e4 z = zero_one (cc)
-      go false false false s e1 e2 e3 e4 z = zero_one (cc)
-      go false false true false e1 e2 e3 e4 z = zero_one (cc)
+      go true q r s e1 e2 e3 e4 z = cc
+      go false true r s e1 e2 e3 e4 z = cc
+      go false false false s e1 e2 e3 e4 z = cc
+      go false false true false e1 e2 e3 e4 z = cc
       go false false true true e1 e2 e3 e4 z =
           record {
             given = given;
             wide = omega (arith, eqb-false a.width 0 e1);
             high = omega (arith, eqb-false a.height 0 e2);
-            known =
-                e3;
+            known = e3;
             served = e4;
             headed = z;
           }
 
   -- a refusal by the tests leaves no pairs to put
-  pub left-no : (code : ℕ) → header a work ≡ refuses code 0 → (b : PairsBegun) (out : List ℕ)
-      → (b.to ≡ length out) × (written b.answer ≡ refuses code 0)
-      → Left a.options.strict a.text a.lengths out b (Emits (header a work) (written b.answer) out)
-  left-no code e b out f =
-      none_left f.0
-      (subst (λ (x : Answer ℕ). Emits (header a work) x out out) (sym f.1)
-      (subst (λ (x : Answer (List ℕ)). Emits x (refuses code 0) out out) (sym e) (record { answer = refl; bytes = refl })))
+  pub left-no : (e : WbmpError) → header a work ≡ refusal e → (out : List ℕ)
+      → Left a.options.strict a.text a.lengths out (record { to = length out; answer = Err e }) (Emits (header a work) (refusal e) out)
+  left-no e h out =
+      none_left refl
+      (subst (λ (x : Answer (List ℕ)). Emits x (refusal e) out out) (sym h) (record { answer = refl; bytes = refl }))
 
   -- the header's own answer
   pub left_as : header a work ≡ fields → (b : PairsBegun) (old new : List ℕ)
@@ -124,8 +130,8 @@ module _ (a : Opening) (work : ℕ) where
   left_as e b old new h =
       subst (λ (x : Answer (List ℕ)). Left a.options.strict a.text a.lengths new b (Emits x (written b.answer) old)) (sym e) h
 
-  pub opens : (q : Quantizer) (live : Bool) (r : Written) (old new : List ℕ)
-      → NewQuantizer a.options.quantize a.width a.height 16 q → live ≡ is_given (written r)
+  pub opens : (q : Quantizer) (live : Bool) (r : Result ℕ WbmpError) (old new : List ℕ)
+      → NewQuantizer a.options.quantize a.width a.height 16 q → live ≡ is_ok r
       → Emits (header a work) (written r) old new
       → Opens a work (record { session = record { quantizer = q; live = live }; answer = r }) old new
   opens q live r old new o l h =
@@ -133,12 +139,11 @@ module _ (a : Opening) (work : ℕ) where
         emits = h;
         holds = λ n e any.
             let k = held (headed-by n old (header a work) (sym e ∙ h.answer)) any in
-            record { stands = record { live = l ∙ ap is_given e; left = none_done; place = λ _. k.stands }; keeps = λ _. k };
+            record { stands = record { live = l ∙ when_given r n e; left = none_done; place = λ _. k.stands }; keeps = λ _. k };
         refused = λ code place e any.
             record {
-              stands = record { live = l ∙ ap is_given e; left = none_done; place = λ f. zero_one (cc) };
-              keeps =
-                  λ f. zero_one (cc);
+              stands = record { live = l ∙ when_refused r code place e; left = none_done; place = λ f. cc };
+              keeps = λ f. cc;
             };
       }
     where

@@ -6,7 +6,7 @@ use mathlib.Core.Bool.{Bool, true, false}
 use mathlib.Core.List.{List, []}
 use Rattle.error.specs.Choice.{if}
 use Rattle.error.specs.Answer.{refuses}
-use Rattle.laws.proofs.Tests.{if-true, if-false, zero_one}
+use Rattle.laws.proofs.Tests.{if-true, if-false}
 use Rattle.encode_session.specs.Model.{serves, Model, feed, close, is_whole, Outcome, fed_by, closed_by, unaltered, outcome}
 
 module _ (m : Model) (xs out : List ℕ) (work : ℕ) where
@@ -63,4 +63,4 @@ feed-refused m xs out work code place =
     by-feed m xs out work (λ (x : Outcome). x.reply.answer ≡ refuses code place → (x.reply.output ≡ out) × (x.next ≡ m))
     (λ e. (refl, refl))
     (λ e. (refl, refl))
-    (λ e. zero_one (cc))
+    (λ e. cc)

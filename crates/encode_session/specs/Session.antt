@@ -1,12 +1,11 @@
 -- What a session stands for, and what its calls promise.
-use Rattle.std.specs.Prelude.{ℕ, ◌+◌, ◌≡◌, Bool, true, false, not, List, ℤ, length}
-use Rattle.error.specs.Answer.{Answer, gives, refuses, refusal, written as meant_written}
+use Rattle.std.specs.Prelude.{ℕ, ◌+◌, ◌≡◌, Bool, true, not, List, ℤ, length, Result, Ok, Err}
+use Rattle.error.specs.declared.WbmpError.{WbmpError}
+use Rattle.error.specs.Answer.{Answer, gives, refuses, refusal, bind, checked, written as meant_written}
 use Rattle.error.specs.Emits.{Emits}
-use Rattle.error.specs.declared.Checked.{Checked}
-use Rattle.error.specs.declared.Written.{Written}
 use Rattle.ext_write.specs.Internal.Left.{Left, ChecksPairs}
-use Rattle.ext_write.specs.declared.FieldsCheck.{FieldsCheck}
 use Rattle.ext_write.specs.declared.PairsBegun.{PairsBegun}
+use Rattle.header.specs.Write.{ext_header}
 use Rattle.options.specs.Defaults.{made_frames}
 use Rattle.options.specs.declared.EncodeOptions.{EncodeOptions}
 use Rattle.quantize.specs.Internal.Engine.{Runs, QuantizerAt, QuantizerAfter}
@@ -14,30 +13,18 @@ use Rattle.encode_session.specs.Model.{Opening, opening, setting_of, header, Mod
 use Rattle.encode_session.specs.Model.{closed, outcome}
 use Rattle.encode_session.specs.declared.EncodeSession.{EncodeSession}
 use Rattle.encode_session.specs.declared.EncodeOpened.{EncodeOpened}
-use Rattle.encode_session.specs.declared.EncodeFeed.{EncodeFeed}
-use Rattle.encode_session.specs.declared.EncodeFeed.TheVariants.{Took}
+use Rattle.error.specs.declared.Fed.{Fed}
 use Rattle.encode_session.specs.declared.EncodeFed.{EncodeFed}
 use Rattle.encode_session.specs.declared.EncodeClosed.{EncodeClosed}
 
-abbrev pub is_given : Answer ℕ → Bool
-is_given (gives n) = true
-is_given (refuses code place) = false
-
 -- what the code's answers mean
-abbrev pub fed_meaning : EncodeFeed → Answer Told
-fed_meaning (Took n b) = gives (took n b)
-fed_meaning (EncodeFeed.Refused e) = refusal e
+abbrev pub fed_meaning : Result Fed WbmpError → Answer Told
+fed_meaning (Ok f) = gives (took f.taken f.written)
+fed_meaning (Err e) = refusal e
 
-abbrev pub closed_meaning : Checked → Answer Told
-closed_meaning Checked.Accepted = gives closed
-closed_meaning (Checked.Refused e) = refusal e
-
--- what a refused call returns: the session as it was
-abbrev pub refused_fed : EncodeSession → ℕ → EncodeFed
-refused_fed s code = record { session = s; answer = EncodeFeed.Refused (record { code = code; offset = 0 }) }
-
-abbrev pub refused_closed : EncodeSession → ℕ → EncodeClosed
-refused_closed s code = record { session = s; answer = Checked.Refused (record { code = code; offset = 0 }) }
+abbrev pub closed_meaning : Result (Unit {0}) WbmpError → Answer Told
+closed_meaning (Ok u) = gives closed
+closed_meaning (Err e) = refusal e
 
 -- the session's own numbers are those of the model; while it is open, the engine stands behind the samples taken
 pub record Stands (s : EncodeSession) (m : Model) : Type 0 where
@@ -59,14 +46,20 @@ pub record Opens (a : Opening) (work : ℕ) (r : EncodeOpened) (old new : List �
   pub holds : (n : ℕ) → meant_written r.answer ≡ gives n → (any : List ℤ) → Holds r.session any (opened a)
   pub refused : (code place : ℕ) → meant_written r.answer ≡ refuses code place → (any : List ℤ) → Holds r.session any (shut (opened a))
 
+-- The tests of opening: behind them the header is that of its fields.
+abbrev pub ChecksOpening : EncodeOptions → ℕ → ℕ → ℕ → Result (Unit {0}) WbmpError → Type 0
+ChecksOpening o width height work r =
+    (text lengths : List ℕ)
+    → header (opening o width height text lengths) work ≡ bind (checked r) (λ _. ext_header o.strict width height o.ext text lengths)
+
 -- Opening begun: all but the pairs of the header is written, and what is left of them is named. `found` is the answer of the pairs' check.
-abbrev pub BeginsOpening : EncodeOptions → ℕ → ℕ → List ℕ → FieldsCheck → ℕ → List ℕ → List ℕ → PairsBegun → Type 0
+abbrev pub BeginsOpening : EncodeOptions → ℕ → ℕ → List ℕ → Result ℕ WbmpError → ℕ → List ℕ → List ℕ → PairsBegun → Type 0
 BeginsOpening o width height text found work old new b =
     (lengths : List ℕ) → ChecksPairs o.strict text lengths found
     → Left o.strict text lengths new b (Emits (header (opening o width height text lengths) work) (meant_written b.answer) old)
 
 -- What opening hands back, by its answer: where that is a header's, it is an opening.
-abbrev pub OpensBy : EncodeOptions → ℕ → ℕ → Written → EncodeOpened → Type 0
+abbrev pub OpensBy : EncodeOptions → ℕ → ℕ → Result ℕ WbmpError → EncodeOpened → Type 0
 OpensBy o width height answer r =
     (text lengths : List ℕ) (work : ℕ) (old new : List ℕ)
     → Emits (header (opening o width height text lengths) work) (meant_written answer) old new
@@ -76,7 +69,7 @@ OpensBy o width height answer r =
 -- the engine does with other numbers is its own contract, `Runs`: one outside -128..128 counts as the nearer end.
 pub record Feeds (s : EncodeSession) (xs out : List ℕ) (work : List ℤ) (r : EncodeFed) (out' : List ℕ) (work' : List ℤ) : Type 0 where
   pub refused : (code place : ℕ) → fed_meaning r.answer ≡ refuses code place → (r.session ≡ s) × ((out' ≡ out) × (work' ≡ work))
-  pub runs : (n b : ℕ) → r.answer ≡ Took n b
+  pub runs : (n b : ℕ) → r.answer ≡ Ok (record { taken = n; written = b })
       → Runs s.quantizer xs out work (record { quantizer = r.session.quantizer; taken = n; written = b }) out' work'
   pub counts : (m : Model) → Stands s m
       → (fed_meaning r.answer ≡ (outcome m (feed xs out (length work))).reply.answer)

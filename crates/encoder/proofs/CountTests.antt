@@ -3,29 +3,15 @@ use Prim.Native.Nat.{ℕ, ◌≤◌, ◌<◌}
 use mathlib.Core.Path.{◌≡◌, refl}
 use mathlib.Core.Bool.{Bool, true, false, ◌||◌, ◌&&◌}
 use native.Mathlib.Omega.{arith}
-use borrow.Author.Tests.{eq-eqb, ne_eqb, eqb-false, le-leb, lt-leb, leb-true}
+use borrow.Author.Tests.{ne_eqb, eqb-false, le-leb, leb-true}
 use lib.Dec.{leb, eqb}
 use Rattle.error.specs.Choice.{if}
 use Rattle.error.specs.Answer.{Answer, gives, refuses}
 use Rattle.laws.proofs.Tests.{zero_one}
 use Rattle.encoder.specs.File.{check_count}
 
-module _ (ceiling w h n : ℕ) where
-  pub no-width : w ≡ 0 → check_count ceiling w h n ≡ refuses 8 0
-  no-width e = rw (eq-eqb w 0 e)
-
-  pub no-height : 0 < w → h ≡ 0 → check_count ceiling w h n ≡ refuses 8 0
-  no-height p e = rw (ne_eqb w 0 (λ z. omega arith), eq-eqb h 0 e)
-
-  module _ (wide : 0 < w) (high : 0 < h) where
-    pub no-frame : n ≡ 0 → check_count ceiling w h n ≡ refuses 21 0
-    no-frame e = rw (ne_eqb w 0 (λ z. omega arith), ne_eqb h 0 (λ z. omega arith), e)
-
-    pub too_many : ceiling < n → check_count ceiling w h n ≡ refuses 21 0
-    too_many p = rw (ne_eqb w 0 (λ z. omega arith), ne_eqb h 0 (λ z. omega arith), le-leb 1 n (omega arith), lt-leb n ceiling p)
-
-    pub accepted : 1 ≤ n → n ≤ ceiling → check_count ceiling w h n ≡ gives tt
-    accepted p q = rw (ne_eqb w 0 (λ z. omega arith), ne_eqb h 0 (λ z. omega arith), le-leb 1 n p, le-leb n ceiling q)
+pub accepted : (ceiling w h n : ℕ) → 0 < w → 0 < h → 1 ≤ n → n ≤ ceiling → check_count ceiling w h n ≡ gives tt
+accepted ceiling w h n wide high p q = rw (ne_eqb w 0 (λ z. omega arith), ne_eqb h 0 (λ z. omega arith), le-leb 1 n p, le-leb n ceiling q)
 
 -- what it says of a file that it accepts
 pub record Counted (ceiling w h n : ℕ) : Type 0 where

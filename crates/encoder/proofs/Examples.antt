@@ -1,14 +1,14 @@
 -- Two planes of nine by two dots as MonoWhite, a byte between their rows and dirty padding: the laws on planes to be written hold of
 -- something.
+use Rattle.std.proofs.Common.{None}
 use Prim.Native.Nat.{ℕ, ◌*◌, ◌≤◌}
 use mathlib.Core.Path.{◌≡◌, refl}
 use mathlib.Core.Bool.{false}
 use mathlib.Core.List.{List, [], ◌∷◌, ◌++◌}
 use lib.ListN.{length}
-use Rattle.error.specs.Answer.{Answer, gives, refuses}
+use Rattle.error.specs.Answer.{gives, refuses}
 use Rattle.mbi.specs.Bytes.{mbi_bytes, groups}
 use Rattle.ext_write.specs.Write.{fields_bytes}
-use Rattle.header.specs.declared.ExtPresence.TheVariants.{Absent}
 use Rattle.image.specs.Geometry.{plane_bytes, check_geometry}
 use Rattle.image.specs.Rows.{clear_padding, wire_row, wire_bits}
 use Rattle.image.specs.declared.PixelFormat.TheVariants.{MonoWhite}
@@ -22,7 +22,7 @@ abbrev planes : List ℕ
 planes = 0x00 ∷ 0x7F ∷ 0x4D ∷ 0xFF ∷ 0xFF ∷ 0xFF ∷ 0x81 ∷ 0x4D ∷ 0x00 ∷ 0x01 ∷ []
 
 abbrev options : EncodeOptions
-options = record { quantize = Threshold 128; ext = Absent; strict = false }
+options = record { quantize = Threshold 128; ext = None; strict = false }
 
 passes : check_planes 16 9 2 2 3 (length planes) ≡ gives tt
 unfolding check_planes check_geometry

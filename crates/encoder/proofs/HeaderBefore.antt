@@ -1,4 +1,6 @@
 -- A header with a body behind it.
+use Rattle.std.proofs.Common.{Option}
+use Rattle.ext.specs.declared.ExtFieldType.{ExtFieldType}
 use Prim.Native.Nat.{ℕ, ◌+◌, ◌-◌, ◌≤◌, ◌<◌}
 use mathlib.Core.Path.{◌≡◌, refl, sym, ap, ◌∙◌, subst}
 use mathlib.Core.Bool.{Bool, true, false, ◌||◌}
@@ -20,7 +22,6 @@ use Rattle.mbi.specs.Bytes.{mbi_bytes}
 use Rattle.ext.specs.Kinds.{Fields}
 use Rattle.ext_write.specs.Write.{fields_bytes}
 use Rattle.header.specs.Write.{fix_byte, size_bytes, header_bytes, fields_header, presented, ext_header}
-use Rattle.header.specs.declared.ExtPresence.{ExtPresence}
 use Rattle.encoder.specs.Internal.Parts.{Heads}
 
 module _ (a : Answer (List ℕ)) (body : ℕ) (old : List ℕ) where
@@ -151,7 +152,7 @@ file-refused (refuses code' offset') body old mid code offset c =
     record { answer = c.front.answer; bytes = unaltered (refuses code' offset') (length body) old c c.front.bytes }
 
 -- a header is never empty
-pub header-some : (strict : Bool) (w h : ℕ) (p : ExtPresence) (text lengths header : List ℕ)
+pub header-some : (strict : Bool) (w h : ℕ) (p : Option ExtFieldType) (text lengths header : List ℕ)
     → ext_header strict w h p text lengths ≡ gives header
     → 0 < length header
 header-some strict w h p text lengths header =

@@ -10,3 +10,4 @@ pub mod ScansLoop
 pub mod ScansFile
 pub mod ScansSurplus
 pub mod PairsLeft
+pub mod Written

@@ -1,17 +1,17 @@
 -- Files begun: from what is left of a header's pairs to what is left of a file's.
+use Rattle.std.proofs.Common.{Result, Err}
 use Prim.Native.Nat.{ℕ, ◌+◌, ◌-◌, ◌*◌, ◌<◌, ◌≤◌}
 use mathlib.Core.Path.{◌≡◌, refl, sym, ap, subst, ◌∙◌}
 use mathlib.Core.Bool.{Bool}
-use mathlib.Core.List.{List, [], ◌∷◌, ◌++◌}
+use mathlib.Core.List.{List, ◌++◌}
 use native.Mathlib.Omega.{arith}
 use borrow.Rule.Slice.PartMut.{mid_of, put_mid, post_of, mid_len, same_len_mid}
 use lib.IntN.{ℤ}
 use lib.ListN.{length, take, drop, length-append, take-append-drop}
 use lib.Seq.{sets, length-sets, length-take-le, take_at, drop_at}
-use Rattle.error.specs.Answer.{Answer, gives, refuses, refusal, written}
+use Rattle.error.specs.Answer.{Answer, gives, number, refusal, written}
 use Rattle.error.specs.Emits.{Emits}
 use Rattle.error.specs.declared.WbmpError.{WbmpError}
-use Rattle.error.specs.declared.Written.{Written}
 use Rattle.laws.proofs.Tests.{zero_one}
 use Rattle.ext_write.specs.Internal.Left.{Left, none_left, pairs-left}
 use Rattle.ext_write.specs.declared.PairsBegun.{PairsBegun}
@@ -61,25 +61,8 @@ module _ (strict : Bool) (text lengths : List ℕ) (a : Answer (List ℕ)) (body
       pairs-left bytes end e (ap written f ∙ w) (omega arith) (omega arith)
       (subst (Heads a body (written b'.answer) old)
       (sym (ap (λ (i : ℕ). sets (last ++ drop n old) i bytes) t ∙ sets-left last (drop n old) b.to bytes (omega arith)))
-      (subst (λ (r : Written). Heads a body (written r) old (sets last b.to bytes ++ drop n old)) (sym f)
+      (subst (λ (r : Result ℕ WbmpError). Heads a body (written r) old (sets last b.to bytes ++ drop n old)) (sym f)
       (headed a body old (written b.answer) (sets last b.to bytes) n room g)))
-
-  -- where the place is behind the part, none is left
-  empty : (bytes : List ℕ) → length bytes ≡ 0 → bytes ≡ []
-  empty [] h = refl
-  empty (x ∷ xs) h = absurd (omega arith)
-
-  pub left-outside : (b b' : PairsBegun) → n ≤ b.to → b'.to ≡ length (last ++ drop n old) → b'.answer ≡ b.answer
-      → Left strict text lengths last b (Emits a (written b.answer) (take n old))
-      → Left strict text lengths (last ++ drop n old) b' (Heads a body (written b'.answer) old)
-  left-outside b b' h t f (none_left e g) =
-      none_left t (subst (λ (r : Written). Heads a body (written r) old (last ++ drop n old)) (sym f)
-      (headed a body old (written b.answer) last n room g))
-  left-outside b b' h t f (pairs-left bytes end e w l k g) =
-      let z : bytes ≡ [] = empty bytes (omega arith) in
-      none_left t (subst (λ (r : Written). Heads a body (written r) old (last ++ drop n old)) (sym f)
-      (headed a body old (written b.answer) last n room
-      (subst (λ (v : List ℕ). Emits a (written b.answer) (take n old) (sets last b.to v)) z g)))
 
 -- Bytes that are stored before an index leave what was put behind it.
 module _ (mid last bytes : List ℕ) (to start : ℕ) (h : to + length bytes ≤ start) (k : start ≤ length mid) where
@@ -121,11 +104,11 @@ planes-fit start body planes mid e h = rw (mid_len start (length mid) mid (omega
 -- what the tests refuse
 pub untested-left : (o : EncodeOptions) (w h n : ℕ) (gray text lengths : List ℕ) (work : List ℤ) (out : List ℕ) (b : PairsBegun)
     (x : WbmpError)
-    → b.to ≡ length out → b.answer ≡ Written.Refused x → check_scans 16 o w h n (length gray) (length work) ≡ refusal x
+    → b.to ≡ length out → b.answer ≡ Err x → check_scans 16 o w h n (length gray) (length work) ≡ refusal x
     → Left o.strict text lengths out b (λ out'. Makes 16 o w h n gray text lengths out work (written b.answer) out' work)
 untested-left o w h n gray text lengths work out b x t f e =
-    none_left t (subst (λ (r : Written). Makes 16 o w h n gray text lengths out work (written r) out work) (sym f)
-    (unmade o w h n gray text lengths work out x.code x.offset e))
+    none_left t (subst (λ (r : Result ℕ WbmpError). Makes 16 o w h n gray text lengths out work (written r) out work) (sym f)
+    (unmade o w h n gray text lengths work out (number x.kind) x.offset e))
 
 -- A body behind a header that was begun: `last` is what was left where the output behind the header was lent.
 module _ (o : EncodeOptions) (w h : ℕ) (text lengths out : List ℕ) (body : ℕ) (mid : List ℕ) (b b' : PairsBegun) (t : b'.to ≡ b.to) where
@@ -184,22 +167,22 @@ module _ (o : EncodeOptions) (w h n : ℕ) (gray text lengths : List ℕ) (work 
       (subst (λ (v : List ℕ). PutsScans (rule_given (rule_asked o)) w h n gray v work last work') (sym j) q)))
       x
 
-  pub refused-left : (x : WbmpError) → written b.answer ≡ refusal x → b'.answer ≡ Written.Refused x
+  pub refused-left : (x : WbmpError) → written b.answer ≡ refusal x → b'.answer ≡ Err x
       → Left o.strict text lengths mid b (Heads (header o w h text lengths out body mid b b' t) body (written b.answer) out)
       → Left o.strict text lengths mid b' (λ out'. Makes 16 o w h n gray text lengths out work (written b'.answer) out' work)
   refused-left x f f' =
       unheaded-left o w h text lengths out body mid b b' t
       (λ out'. Makes 16 o w h n gray text lengths out work (written b'.answer) out' work) x f
-      (λ c. subst (λ (r : Written). Makes 16 o w h n gray text lengths out work (written r) mid work) (sym f')
-      (not-headed o w h n gray text lengths work e out body size mid x.code x.offset c))
+      (λ c. subst (λ (r : Result ℕ WbmpError). Makes 16 o w h n gray text lengths out work (written r) mid work) (sym f')
+      (not-headed o w h n gray text lengths work e out body size mid (number x.kind) x.offset c))
 
 -- the pairs are put
-pub made-put : (o : EncodeOptions) (w h n : ℕ) (gray text lengths out mid new : List ℕ) (work work' : List ℤ) (b : PairsBegun) (r : Written)
+pub made-put : (o : EncodeOptions) (w h n : ℕ) (gray text lengths out mid new : List ℕ) (work work' : List ℤ) (b : PairsBegun) (r : Result ℕ WbmpError)
     → Left o.strict text lengths mid b (λ out'. Makes 16 o w h n gray text lengths out work (written b.answer) out' work')
     → (r ≡ b.answer) × (new ≡ put_pairs text lengths mid (put_start b.to))
     → Makes 16 o w h n gray text lengths out work (written r) new work'
 made-put o w h n gray text lengths out mid new work work' b r x e =
-    subst (λ (v : Written). Makes 16 o w h n gray text lengths out work (written v) new work') (sym e.0)
+    subst (λ (v : Result ℕ WbmpError). Makes 16 o w h n gray text lengths out work (written v) new work') (sym e.0)
     (subst (λ (l : List ℕ). Makes 16 o w h n gray text lengths out work (written b.answer) l work') (sym e.1)
     (left-put o.strict text lengths mid b (λ l. Makes 16 o w h n gray text lengths out work (written b.answer) l work') x))
 
@@ -223,14 +206,14 @@ module _ (o : EncodeOptions) (w h : ℕ) (text lengths out : List ℕ) (f : Pixe
       (q ∙ ap (λ (v : List ℕ). wire_planes f w h s planes n ++ drop (n * plane_bytes w h) v) (sym j))))
       x
 
-  pub unwritten-left : (x : WbmpError) → written b.answer ≡ refusal x → b'.answer ≡ Written.Refused x
+  pub unwritten-left : (x : WbmpError) → written b.answer ≡ refusal x → b'.answer ≡ Err x
       → Left o.strict text lengths mid b
       (Heads (header o w h text lengths out (n * plane) mid b b' t) (n * plane) (written b.answer) out)
       → Left o.strict text lengths mid b' (Emits file (written b'.answer) out)
   unwritten-left x g g' =
       unheaded-left o w h text lengths out (n * plane) mid b b' t (Emits file (written b'.answer) out) x g
-      (λ c. subst (λ (r : Written). Emits file (written r) out mid) (sym g')
-      (planes-refused o w h text lengths out f n s planes plane laid mid x.code x.offset c))
+      (λ c. subst (λ (r : Result ℕ WbmpError). Emits file (written r) out mid) (sym g')
+      (planes-refused o w h text lengths out f n s planes plane laid mid (number x.kind) x.offset c))
 
 -- by what the planes' tests answered
 module _ (o : EncodeOptions) (f : PixelFormat) (w h n s : ℕ) (planes text lengths out new : List ℕ) (b : PairsBegun) where
@@ -241,11 +224,11 @@ module _ (o : EncodeOptions) (f : PixelFormat) (w h n s : ℕ) (planes text leng
   tested-left e (pairs-left bytes end i u p m g) =
       pairs-left bytes end i u p m (tests-accept o f w h n s planes text lengths e (written b.answer) out (sets new b.to bytes) g)
 
-  pub unplaned-left : (x : WbmpError) → b.to ≡ length out → b.answer ≡ Written.Refused x
+  pub unplaned-left : (x : WbmpError) → b.to ≡ length out → b.answer ≡ Err x
       → check_planes 16 w h n s (length planes) ≡ refusal x → new ≡ out
       → Left o.strict text lengths new b (Emits (file_of_planes 16 o f w h n s planes text lengths) (written b.answer) out)
   unplaned-left x t g e q =
       none_left (t ∙ sym (ap length q))
-      (subst (λ (r : Written). Emits (file_of_planes 16 o f w h n s planes text lengths) (written r) out new) (sym g)
+      (subst (λ (r : Result ℕ WbmpError). Emits (file_of_planes 16 o f w h n s planes text lengths) (written r) out new) (sym g)
       (subst (Emits (file_of_planes 16 o f w h n s planes text lengths) (refusal x) out) (sym q)
-      (tests-refuse o f w h n s planes text lengths x.code x.offset e out)))
+      (tests-refuse o f w h n s planes text lengths (number x.kind) x.offset e out)))

@@ -1,14 +1,13 @@
 -- The tests of planes to be written, and what they say of planes that they accept.
 use Prim.Native.Nat.{ℕ, suc, ◌+◌, ◌-◌, ◌*◌, ◌/◌, ◌^◌, ◌≤◌, ◌<◌}
-use mathlib.Core.Path.{◌≡◌, refl, sym, ap, ◌∙◌, subst}
+use mathlib.Core.Path.{◌≡◌, refl, ap, subst}
 use mathlib.Core.Bool.{Bool, true, false}
 use native.Mathlib.Nat.{mul_comm, mul-le-mul_left, mul-le-mul_right, le-div_iff_mul-le, div-lt_iff_lt-mul}
 use native.Mathlib.Omega.{arith}
 use borrow.Author.Tests.{lt-ltb, le-ltb, ltb-false, leb-true, leb-false}
 use lib.Dec.{ltb, leb}
 use Rattle.error.specs.Choice.{if}
-use Rattle.error.specs.Answer.{Answer, gives, refuses, bind, checked}
-use Rattle.error.specs.declared.Checked.{Checked}
+use Rattle.error.specs.Answer.{Answer, gives, refuses, bind}
 use Rattle.laws.proofs.Tests.{zero_one, if-true, if-false}
 use Rattle.image.specs.Geometry.{row_bytes, plane_bytes, needed_bytes, check_geometry}
 use Rattle.image.proofs.GeometryTests.{large}
@@ -34,16 +33,14 @@ module _ (w h n s b : ℕ) where
       let e = mul_comm n (needed_bytes w h s) in
       if-false _ _ _ (le-ltb b (n * needed_bytes w h s) (omega arith))
 
-  module _ (ceiling : ℕ) where
-    pub on-count : (r x : Checked) → checked r ≡ check_count ceiling w h n → r ≡ x
-        → check_planes ceiling w h n s b ≡ bind (checked x) (λ _. bind (check_geometry w h s b) (λ _. after_geometry))
-    unfolding check_planes
-    on-count r x p q =
-        ap (λ (y : Answer (Unit {0})). bind y (λ _. bind (check_geometry w h s b) (λ _. after_geometry))) (sym p ∙ ap checked q)
+  pub on-count : (ceiling : ℕ) (x : Answer (Unit {0})) → check_count ceiling w h n ≡ x
+      → check_planes ceiling w h n s b ≡ bind x (λ _. bind (check_geometry w h s b) (λ _. after_geometry))
+  unfolding check_planes
+  on-count ceiling x e = ap (λ (y : Answer (Unit {0})). bind y (λ _. bind (check_geometry w h s b) (λ _. after_geometry))) e
 
-    pub on-geometry : (r x : Checked) → checked r ≡ check_geometry w h s b → r ≡ x
-        → bind (check_geometry w h s b) (λ _. after_geometry) ≡ bind (checked x) (λ _. after_geometry)
-    on-geometry r x p q = ap (λ (y : Answer (Unit {0})). bind y (λ _. after_geometry)) (sym p ∙ ap checked q)
+  pub on-geometry : (x : Answer (Unit {0})) → check_geometry w h s b ≡ x
+      → bind (check_geometry w h s b) (λ _. after_geometry) ≡ bind x (λ _. after_geometry)
+  on-geometry x e = ap (λ (y : Answer (Unit {0})). bind y (λ _. after_geometry)) e
 
 needed-small : (w h s b : ℕ) → check_geometry w h s b ≡ gives tt → needed_bytes w h s < 2 ^ 64
 needed-small w h s b e = go (leb (2 ^ 64) (needed_bytes w h s)) refl

@@ -8,7 +8,10 @@ use native.Mathlib.Omega.{arith}
 use borrow.Rule.Slice.PartMut.{mid_of, put_mid}
 use lib.ListN.{length, take, drop, length-append}
 use lib.Seq.{sets, length-sets}
-use Rattle.error.specs.Answer.{Answer, gives}
+use Rattle.std.proofs.Common.{Result}
+use Rattle.std.specs.Result.{IsOk}
+use Rattle.error.specs.declared.WbmpError.{WbmpError}
+use Rattle.error.specs.Answer.{Answer, gives, written}
 use Rattle.error.specs.Emits.{Emits}
 use Rattle.laws.proofs.Runs.{sets-append, sets-front, emits-part}
 use Rattle.laws.proofs.Products.{up_to}
@@ -17,6 +20,7 @@ use Rattle.image.specs.Rows.{wire_bits}
 use Rattle.image.specs.declared.PixelFormat.{PixelFormat}
 use Rattle.image.proofs.WireRows.{wire-length}
 use Rattle.encoder.specs.Write.{lent_plane, wire_planes}
+use Rattle.encoder.proofs.Written.{is-written}
 
 module _ (f : PixelFormat) (w h s : ℕ) where
   pub plane-length : (plane : List ℕ) → length (wire_bits f w h s plane) ≡ plane_bytes w h
@@ -71,30 +75,45 @@ module _ {f : PixelFormat} {w h s : ℕ} {planes out₀ : List ℕ} {count plane
   front : length (wire_planes f w h s planes k) ≡ k * plane
   front = planes-length f w h s planes k ∙ ap (λ (n : ℕ). k * n) (sym c.plane_is)
 
-  pub planed : (from to : ℕ) (r : Answer ℕ) (new : List ℕ) → k < count → from ≡ k * needed → to ≡ k * plane
-      → Emits (gives (wire_bits f w h s (take (from + needed - from) (drop from planes)))) r (mid_of to (length out - to) out) new
-      → Planing f w h s planes out₀ count plane needed (put_mid to (length out - to) out new) (k + 1)
-  unfolding wire_planes
-  planed from to r new l p t e =
-      let v = wire_bits f w h s (lent_plane w h s planes k) in
-      let n : length v ≡ plane_bytes w h = plane-length f w h s (lent_plane w h s planes k) in
-      let fits : to + length v ≤ length out = omega (arith, (next-in l).1, c.plane_is) in
-      let emitted : Emits (gives v) r (mid_of to (length out - to) out) new =
-      subst (λ (q : List ℕ). Emits (gives (wire_bits f w h s q)) r (mid_of to (length out - to) out) new) (source_is from p) e in
-      let at_front : to ≡ 0 + length (wire_planes f w h s planes k) = omega (arith, front) in
-      record {
-        plane_is = c.plane_is;
-        needed_is = c.needed_is;
-        within = omega arith;
-        inside = c.inside;
-        room = c.room;
-        now_is =
-            emits-part to out v new r fits emitted
-            ∙ ap (λ (q : ℕ). sets out q v) at_front
-            ∙ ap (λ (q : List ℕ). sets q (0 + length (wire_planes f w h s planes k)) v) c.now_is
-            ∙ sets-append out₀ 0 (wire_planes f w h s planes k) v
-            ∙ ap (λ (q : ℕ). sets out₀ 0 (wire_planes f w h s planes q)) (sym (add-one k));
-      }
+  -- plane k, and where it goes
+  module _ (from to : ℕ) (l : k < count) (p : from ≡ k * needed) (t : to ≡ k * plane) where
+    abbrev v : List ℕ
+    v = wire_bits f w h s (lent_plane w h s planes k)
+
+    fits : to + length v ≤ length out
+    fits =
+        let n : length v ≡ plane_bytes w h = plane-length f w h s (lent_plane w h s planes k) in
+        omega (arith, (next-in l).1, c.plane_is)
+
+    module _ (r : Answer ℕ) (new : List ℕ)
+        (e : Emits (gives (wire_bits f w h s (take (from + needed - from) (drop from planes)))) r (mid_of to (length out - to) out) new) where
+      pub emits-plane : Emits (gives v) r (mid_of to (length out - to) out) new
+      emits-plane =
+          subst (λ (q : List ℕ). Emits (gives (wire_bits f w h s q)) r (mid_of to (length out - to) out) new) (source_is from p) e
+
+      pub planed : Planing f w h s planes out₀ count plane needed (put_mid to (length out - to) out new) (k + 1)
+      unfolding wire_planes
+      planed =
+          let at_front : to ≡ 0 + length (wire_planes f w h s planes k) = omega (arith, front) in
+          record {
+            plane_is = c.plane_is;
+            needed_is = c.needed_is;
+            within = omega arith;
+            inside = c.inside;
+            room = c.room;
+            now_is =
+                emits-part to out v new r fits emits-plane
+                ∙ ap (λ (q : ℕ). sets out q v) at_front
+                ∙ ap (λ (q : List ℕ). sets q (0 + length (wire_planes f w h s planes k)) v) c.now_is
+                ∙ sets-append out₀ 0 (wire_planes f w h s planes k) v
+                ∙ ap (λ (q : ℕ). sets out₀ 0 (wire_planes f w h s planes q)) (sym (add-one k));
+          }
+
+    -- no plane is refused
+    pub plane-written : (r : Result ℕ WbmpError) (new : List ℕ)
+        → Emits (gives (wire_bits f w h s (take (from + needed - from) (drop from planes)))) (written r) (mid_of to (length out - to) out) new
+        → IsOk r
+    plane-written r new e = is-written v r to out new fits (emits-plane (written r) new e)
 
   pub ended : count ≤ k → out ≡ wire_planes f w h s planes count ++ drop (count * plane_bytes w h) out₀
   ended l =

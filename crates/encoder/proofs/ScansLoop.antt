@@ -10,7 +10,10 @@ use borrow.Rule.Slice.PartMut.{mid_of, put_mid}
 use lib.IntN.{ℤ}
 use lib.ListN.{length, take, drop, length-drop}
 use lib.Seq.{sets, length-sets, take_all}
-use Rattle.error.specs.Answer.{Answer, gives, map}
+use Rattle.std.proofs.Common.{Result}
+use Rattle.std.specs.Result.{IsOk}
+use Rattle.error.specs.declared.WbmpError.{WbmpError}
+use Rattle.error.specs.Answer.{Answer, gives, map, written}
 use Rattle.error.specs.Emits.{Emits}
 use Rattle.laws.proofs.Runs.{sets-append, sets-front, emits-part}
 use Rattle.image.specs.Geometry.{row_bytes, plane_bytes}
@@ -23,6 +26,7 @@ use Rattle.quantize.proofs.FramesJoined.{scans-none, scans-long, scans-more}
 use Rattle.encoder.specs.Make.{scan_bytes}
 use Rattle.encoder.specs.Internal.Scans.{PutsScans}
 use Rattle.encoder.proofs.ScanTests.{Passed}
+use Rattle.encoder.proofs.Written.{is-written}
 
 -- a plane is no longer than its scan, and so many are no longer than their scans
 pub planes-le : (n w h : ℕ) → 0 < w → n * plane_bytes w h ≤ n * (w * h)
@@ -93,46 +97,72 @@ module _ {asked : Quantize} {w h count : ℕ} {gray : List ℕ} {work₀ : List 
   there : k ≤ count → k * (w * h) ≤ length gray
   there l = let a : k * (w * h) ≤ count * (w * h) = mul-le-mul_right (w * h) l in omega (arith, c.passed.enough)
 
-  pub scanned : (from to : ℕ) (work' : List ℤ) (r : Answer ℕ) (new : List ℕ) → k < count → from ≡ k * area → to ≡ k * plane
-      → length work' ≡ length work
-      → Quantizes asked w h (take (length gray - from) (drop from gray)) (mid_of to (length out - to) out) work r new work'
-      → Scanning asked w h count gray work₀ out₀ area plane work' (put_mid to (length out - to) out new) (k + 1)
-  scanned from to work' r new l f t n q =
-      let wide = c.passed.sized.wide in
-      let high = c.passed.sized.high in
-      let samples = drop (k * (w * h)) gray in
-      let v = finished (setting rule w h 1) (take (w * h) samples) in
-      let i = next-in l in
-      let m : from ≡ k * (w * h) = f ∙ ap (λ (a : ℕ). k * a) c.area_is in
-      let source : take (length gray - from) (drop from gray) ≡ samples =
-      take_all (length gray - from) (drop from gray) (rw (length-drop from gray) (omega arith)) ∙ ap (λ (a : ℕ). drop a gray) m in
-      let enough : w * h ≤ length samples = rw (length-drop (k * (w * h)) gray) (omega (arith, i.0, c.area_is)) in
-      let given : quantized asked w h (take (length gray - from) (drop from gray)) (length work) ≡ gives v =
-      ap (λ (s : List ℕ). quantized asked w h s (length work)) source
-      ∙ ap (quantized asked w h samples) c.work_long
-      ∙ plane-given c.passed samples enough in
-      let long : length v ≡ plane_bytes w h = plane-long rule w h wide high samples enough ∙ mul_comm h (row_bytes w) in
-      let fits : to + length v ≤ length out = omega (arith, i.1, c.plane_is) in
-      let place : k * plane ≡ k * plane_bytes w h = ap (λ (a : ℕ). k * a) c.plane_is in
-      let front : to ≡ 0 + length made = omega (arith, scans-long rule w h gray wide high k (there c.within)) in
-      record {
-        passed = c.passed;
-        area_is = c.area_is;
-        plane_is = c.plane_is;
-        room = c.room;
-        within = omega arith;
-        now_is =
-            emits-part to out v new r fits
-            (subst (λ (a : Answer (List ℕ)). Emits a r (mid_of to (length out - to) out) new) given q.emits)
-            ∙ ap (λ (p : ℕ). sets out p v) front
-            ∙ ap (λ (o : List ℕ). sets o (0 + length made) v) c.now_is
-            ∙ sets-append out₀ 0 made v
-            ∙ ap (sets out₀ 0) (sym (scans-more rule w h gray wide high k (there c.within))
-            ∙ ap (scan_bytes rule w h gray) (sym (add-one k)));
-        work_long = n ∙ c.work_long;
-        beyond = q.beyond ∙ c.beyond;
-        spared = λ d. q.spared d ∙ c.spared d;
-      }
+  -- scan k, and where its plane goes
+  module _ (from to : ℕ) (l : k < count) (f : from ≡ k * area) (t : to ≡ k * plane) where
+    abbrev samples : List ℕ
+    samples = drop (k * (w * h)) gray
+
+    abbrev v : List ℕ
+    v = finished (setting rule w h 1) (take (w * h) samples)
+
+    abbrev lent : List ℕ
+    lent = take (length gray - from) (drop from gray)
+
+    enough : w * h ≤ length samples
+    enough =
+        let i = next-in l in
+        rw (length-drop (k * (w * h)) gray) (omega (arith, i.0, c.area_is, ap (λ (a : ℕ). k * a) c.area_is))
+
+    given : quantized asked w h lent (length work) ≡ gives v
+    given =
+        let i = next-in l in
+        let m : from ≡ k * (w * h) = f ∙ ap (λ (a : ℕ). k * a) c.area_is in
+        let source : lent ≡ samples =
+        take_all (length gray - from) (drop from gray) (rw (length-drop from gray) (omega arith)) ∙ ap (λ (a : ℕ). drop a gray) m in
+        ap (λ (s : List ℕ). quantized asked w h s (length work)) source
+        ∙ ap (quantized asked w h samples) c.work_long
+        ∙ plane-given c.passed samples enough
+
+    fits : to + length v ≤ length out
+    fits =
+        let i = next-in l in
+        let long : length v ≡ plane_bytes w h =
+        plane-long rule w h c.passed.sized.wide c.passed.sized.high samples enough ∙ mul_comm h (row_bytes w) in
+        omega (arith, i.1, c.plane_is)
+
+    module _ (r : Answer ℕ) (new : List ℕ) (work' : List ℤ)
+        (q : Quantizes asked w h lent (mid_of to (length out - to) out) work r new work') where
+      pub emits-scan : Emits (gives v) r (mid_of to (length out - to) out) new
+      emits-scan = subst (λ (a : Answer (List ℕ)). Emits a r (mid_of to (length out - to) out) new) given q.emits
+
+      pub scanned : length work' ≡ length work
+          → Scanning asked w h count gray work₀ out₀ area plane work' (put_mid to (length out - to) out new) (k + 1)
+      scanned n =
+          let place : k * plane ≡ k * plane_bytes w h = ap (λ (a : ℕ). k * a) c.plane_is in
+          let front : to ≡ 0 + length made =
+          omega (arith, scans-long rule w h gray c.passed.sized.wide c.passed.sized.high k (there c.within)) in
+          record {
+            passed = c.passed;
+            area_is = c.area_is;
+            plane_is = c.plane_is;
+            room = c.room;
+            within = omega arith;
+            now_is =
+                emits-part to out v new r fits emits-scan
+                ∙ ap (λ (p : ℕ). sets out p v) front
+                ∙ ap (λ (o : List ℕ). sets o (0 + length made) v) c.now_is
+                ∙ sets-append out₀ 0 made v
+                ∙ ap (sets out₀ 0) (sym (scans-more rule w h gray c.passed.sized.wide c.passed.sized.high k (there c.within))
+                ∙ ap (scan_bytes rule w h gray) (sym (add-one k)));
+            work_long = n ∙ c.work_long;
+            beyond = q.beyond ∙ c.beyond;
+            spared = λ d. q.spared d ∙ c.spared d;
+          }
+
+    -- no scan is refused
+    pub scan-made : (r : Result ℕ WbmpError) (new : List ℕ) (work' : List ℤ)
+        → Quantizes asked w h lent (mid_of to (length out - to) out) work (written r) new work' → IsOk r
+    scan-made r new work' q = is-written v r to out new fits (emits-scan (written r) new work' q)
 
   pub ended : count ≤ k → PutsScans rule w h count gray out₀ work₀ out work
   ended l =

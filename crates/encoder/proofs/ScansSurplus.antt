@@ -1,4 +1,5 @@
 -- Surplus samples, and cards that are made or refused.
+use Rattle.std.proofs.Common.{None, Some}
 use Prim.Native.Nat.{ℕ, ◌-◌, ◌*◌, ◌^◌}
 use mathlib.Core.Path.{◌≡◌, refl}
 use mathlib.Core.Bool.{false}
@@ -12,7 +13,6 @@ use Rattle.mbi.specs.Bytes.{groups, mbi_bytes}
 use Rattle.ext_write.specs.Write.{octets_bytes, fields_bytes, lent_fields}
 use Rattle.ext.specs.declared.ExtFieldType.TheVariants.{Bitfield00}
 use Rattle.header.specs.Write.{ext_header}
-use Rattle.header.specs.declared.ExtPresence.TheVariants.{Absent, Present}
 use Rattle.options.specs.declared.EncodeOptions.{EncodeOptions}
 use Rattle.options.specs.declared.Quantize.{Quantize}
 use Rattle.options.specs.declared.Quantize.TheVariants.{Threshold, Dither, Ordered}
@@ -41,7 +41,7 @@ surplus-ignored ceiling o w h n gray ρ text lengths work tests =
 
 -- a rule without fields
 abbrev ruled : Quantize → EncodeOptions
-ruled rule = record { quantize = rule; ext = Absent; strict = false }
+ruled rule = record { quantize = rule; ext = None; strict = false }
 
 abbrev dithering : EncodeOptions
 dithering = ruled Dither
@@ -53,7 +53,7 @@ two-tested : check_scans 16 dithering 2 1 2 5 4 ≡ gives tt
 unfolding check_scans
 two-tested = refl
 
-two-fronted : ext_header false 2 1 Absent [] [] ≡ gives (0 ∷ 0 ∷ 2 ∷ 1 ∷ [])
+two-fronted : ext_header false 2 1 None [] [] ≡ gives (0 ∷ 0 ∷ 2 ∷ 1 ∷ [])
 unfolding mbi_bytes groups fields_bytes
 two-fronted = refl
 
@@ -97,7 +97,7 @@ unfolding check_scans
 then-gray = refl
 
 abbrev empty : EncodeOptions
-empty = record { quantize = Threshold 128; ext = Present Bitfield00; strict = false }
+empty = record { quantize = Threshold 128; ext = Some Bitfield00; strict = false }
 
 gray-before-fields : file_of_scans 16 empty 2 1 2 (1 ∷ 2 ∷ 3 ∷ []) [] [] 0 ≡ refuses 22 0
 unfolding file_of_scans check_scans

@@ -1,7 +1,7 @@
 -- What every file that is written or made has: its frames are counted, and its header stands in front (document 01, encoder.rs).
 use Rattle.std.specs.Prelude.{ℕ, Bool, ◌&&◌, ◌||◌, List, ◌++◌, leb, eqb}
 use Rattle.error.specs.Choice.{if}
-use Rattle.error.specs.Answer.{Answer, gives, refuses, bind, map}
+use Rattle.error.specs.Answer.{Answer, gives, refuses, map}
 use Rattle.header.specs.Write.{ext_header}
 use Rattle.options.specs.declared.EncodeOptions.{EncodeOptions}
 

@@ -1,10 +1,8 @@
 -- What a call answers: what it gives, or a refusal: a number of document 01's table and the offset beside it (document 01: its place).
-use Rattle.std.specs.Prelude.{ℕ, Bool, true, false, ◌||◌, eqb}
+use Rattle.std.specs.Prelude.{ℕ, Bool, ◌||◌, eqb, Option, Some, None, Result, Ok, Err}
 use Rattle.error.specs.declared.WbmpError.{WbmpError}
-use Rattle.error.specs.declared.Written.{Written}
-use Rattle.error.specs.declared.Written.TheVariants.{Bytes}
-use Rattle.error.specs.declared.Checked.{Checked}
-use Rattle.error.specs.declared.Checked.TheVariants.{Accepted}
+use Rattle.error.specs.declared.Refusal.{Refusal}
+use Rattle.error.specs.declared.Refusal.TheVariants.{MbiTruncated, MbiOverflow, MbiTooLong, MbiNotShortest, TypeUnsupported, FixHeaderMissing, FixHeaderNotZero, ZeroDimension, ExtTruncated, ExtTooLong, IdentifierLength, ValueLength, PairTruncated, IdentifierClass, ValueClass, WidthLimit, HeightLimit, PixelLimit, ByteLimit, PlaneTooShort, FrameCount, GrayTooShort, FieldsEmpty, OctetBit7, OutputTooShort, StrideTooSmall, PlaneOverflow, BufferTooShort, UnknownSetting, SessionClosed, PairLengths}
 
 pub data Answer (A : Type 0) : Type 0 where
   gives : A → Answer A
@@ -28,14 +26,55 @@ abbrev pub code_of : {A : Type 0} → Answer A → ℕ
 code_of (gives a) = 0
 code_of (refuses code offset) = code
 
+-- the number of a refusal in document 01's table
+abbrev pub number : Refusal → ℕ
+number MbiTruncated = 1
+number MbiOverflow = 2
+number MbiTooLong = 3
+number MbiNotShortest = 4
+number TypeUnsupported = 5
+number FixHeaderMissing = 6
+number FixHeaderNotZero = 7
+number ZeroDimension = 8
+number ExtTruncated = 9
+number ExtTooLong = 10
+number IdentifierLength = 11
+number ValueLength = 12
+number PairTruncated = 13
+number IdentifierClass = 14
+number ValueClass = 15
+number WidthLimit = 16
+number HeightLimit = 17
+number PixelLimit = 18
+number ByteLimit = 19
+number PlaneTooShort = 20
+number FrameCount = 21
+number GrayTooShort = 22
+number FieldsEmpty = 23
+number OctetBit7 = 24
+number OutputTooShort = 25
+number StrideTooSmall = 26
+number PlaneOverflow = 27
+number BufferTooShort = 28
+number UnknownSetting = 29
+number SessionClosed = 30
+number PairLengths = 31
+
+-- the number of a refusal that may be there, 0 for none
+abbrev pub number_or_0 : Option Refusal → ℕ
+number_or_0 None = 0
+number_or_0 (Some refusal) = number refusal
+
 -- what the code's values mean
 abbrev pub refusal : {A : Type 0} → WbmpError → Answer A
-refusal e = refuses e.code e.offset
+refusal e = refuses (number e.kind) e.offset
 
-abbrev pub written : Written → Answer ℕ
-written (Bytes n) = gives n
-written (Written.Refused e) = refusal e
+abbrev pub answered : {A : Type 0} → Result A WbmpError → Answer A
+answered (Ok a) = gives a
+answered (Err e) = refusal e
 
-abbrev pub checked : Checked → Answer (Unit {0})
-checked Accepted = gives tt
-checked (Checked.Refused e) = refusal e
+abbrev pub written : Result ℕ WbmpError → Answer ℕ
+written r = answered r
+
+abbrev pub checked : Result (Unit {0}) WbmpError → Answer (Unit {0})
+checked r = answered r

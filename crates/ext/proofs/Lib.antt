@@ -9,5 +9,6 @@ pub mod Bounds
 pub mod Prefix
 pub mod Corners
 pub mod Spans
+pub mod ReadSteps
 pub mod SliceSame
 pub mod PairsWalk

@@ -4,7 +4,7 @@ use mathlib.Core.Path.{◌≡◌, refl, sym, ap, subst}
 use mathlib.Core.List.{List}
 use mathlib.Core.Bool.{Bool, true, false}
 use native.Mathlib.Omega.{arith}
-use borrow.Author.Tests.{ltb-false, le-ltb, eqb-false, ne_eqb}
+use borrow.Author.Tests.{ltb-false, eqb-false}
 use lib.Dec.{ltb, leb, eqb}
 use lib.ListN.{length, get_or}
 use lib.Seq.{slice}
@@ -13,10 +13,9 @@ use Rattle.error.specs.Answer.{gives, refuses, map}
 use Rattle.laws.proofs.Answers.{map_gives}
 use Rattle.laws.proofs.Tests.{zero_one}
 use Rattle.ext.specs.Classes.{is_char, is_alpha_digit, in_class}
-use Rattle.ext.specs.Read.{PairAt, read_pair, classed}
+use Rattle.ext.specs.Read.{PairAt, read_pair}
 use Rattle.ext.specs.Kinds.{pair_header}
 use Rattle.ext.specs.Internal.Pairwise.{pair_step, pair_behind}
-use Rattle.ext.specs.declared.PairHeader.{PairHeader}
 
 -- the lengths in a pair's header byte
 abbrev pub identifier_size : ℕ → ℕ
@@ -37,24 +36,6 @@ whole_pair s at =
 pub read_behind : (strict : Bool) (s : List ℕ) (at : ℕ) → pair_behind strict s (at + 1) (pair_header (get_or s at 0)) ≡ read_pair strict s at
 unfolding pair_behind read_pair
 read_behind strict s at = refl
-
-module _ (s : List ℕ) (a : ℕ) (h : PairHeader) where
-  abbrev pub whole_behind : PairAt
-  whole_behind =
-      let b = a + h.identifier_len in
-      let e = b + h.value_len in
-      record { pair = record { identifier = slice a b s; value = slice b e s }; more = h.more; end = e }
-
-  pub behind-whole : (strict : Bool) → (h.identifier_len ≡ 0 → ⊥) → (h.value_len ≡ 0 → ⊥) → whole_behind.end ≤ length s
-      → pair_behind strict s a h ≡ classed strict whole_behind
-  unfolding pair_behind
-  behind-whole strict i v l =
-      simp (
-        ne_eqb h.identifier_len 0 i,
-        ne_eqb h.value_len 0 v,
-        le-ltb (length s) (a + h.identifier_len) (omega arith),
-        le-ltb (length s) whole_behind.end l,
-      )
 
 -- a pair of a file s, whose header byte h stands at `at`
 pub record PairIn (s : List ℕ) (h at : ℕ) (p : PairAt) : Type 0 where

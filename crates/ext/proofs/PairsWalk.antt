@@ -1,21 +1,20 @@
 -- Walking over the pairs of fields that were read, in search of an identifier.
-use Prim.Native.Nat.{ℕ, zero, suc, ◌+◌, ◌-◌, ◌<◌, ◌≤◌}
+use Prim.Native.Nat.{ℕ, zero, suc, ◌+◌, ◌<◌, ◌≤◌}
 use mathlib.Core.Path.{◌≡◌, ◌∙◌, refl, sym, ap, subst, subst⁻¹}
 use mathlib.Core.List.{List, [], ◌∷◌}
 use mathlib.Core.Bool.{Bool, true, false}
 use native.Mathlib.Omega.{arith}
 use lib.ListN.{length, get_or, drop}
 use lib.Seq.{slice, length-slice}
-use Rattle.error.specs.Answer.{Answer, gives, refuses, refusal, map}
+use Rattle.error.specs.Answer.{Answer, gives, refuses, map}
 use Rattle.laws.proofs.Answers.{map_gives}
 use Rattle.laws.proofs.Tests.{zero_one}
-use Rattle.ext.specs.Kinds.{Pair, Fields, none, bitfield, reserved, pairs, absent, span_of, fields_span, pair_header, meaning}
+use Rattle.ext.specs.Kinds.{Pair, Fields, none, bitfield, reserved, pairs, span_of, fields_span, kind_number, pair_header}
 use Rattle.ext.specs.Read.{PairAt, read_octets, read_octet, read_pairs, read_fields}
 use Rattle.ext.specs.Find.{pairs_in, pair_at, pair_size, value_start, Found, nothing, value_at, Finds, Looked}
 use Rattle.ext.specs.declared.PairHeader.{PairHeader}
 use Rattle.ext.specs.declared.ExtFields.{ExtFields}
-use Rattle.ext.specs.declared.ExtRead.{ExtRead}
-use Rattle.ext.specs.declared.ExtRead.TheVariants.{Absent}
+use Rattle.ext.specs.declared.FixHeaderField.{FixHeaderField}
 use Rattle.ext.proofs.FieldsCases.{by_kind, PairsGiven, last, more, pairs-given}
 use Rattle.ext.proofs.PairExtent.{identifier_size, value_size, PairIn}
 
@@ -90,80 +89,63 @@ finds-next s at end p ps identifier (value_at from len) other e (i, c) =
       },
     )
 
--- The walk has come to an offset and has pairs left there; what it finds among them it finds among all of `ps`.
-pub record PairsLeft (s identifier : List ℕ) (start : ℕ) (ps : List Pair) (at left : ℕ) : Type 0 where
+-- The walk has come to an offset and has pairs left there; what it finds among them, the lookup may answer.
+pub record PairsLeft (s identifier : List ℕ) (Wanted : Found → Type 0) (at left : ℕ) : Type 0 where
   pub rest : List Pair
   pub count : length rest ≡ left
   pub stands : PairsStand s at rest
-  pub enough : (r : Found) → Finds s at rest identifier r → Finds s start ps identifier r
+  pub enough : (r : Found) → Finds s at rest identifier r → Wanted r
 
 -- the next pair of the walk, its header byte taken apart
-pub record NextPair (s identifier : List ℕ) (start : ℕ) (ps : List Pair) (h : PairHeader) (at left : ℕ) : Type 0 where
+pub record NextPair (s identifier : List ℕ) (Wanted : Found → Type 0) (h : PairHeader) (at left : ℕ) : Type 0 where
   pub within : at + 1 + h.identifier_len + h.value_len ≤ length s
-  pub found : slice (at + 1) (at + 1 + h.identifier_len) s ≡ identifier
-      → Finds s start ps identifier (value_at (at + 1 + h.identifier_len) h.value_len)
-  pub other : (slice (at + 1) (at + 1 + h.identifier_len) s ≡ identifier → ⊥)
-      → PairsLeft s identifier start ps (at + 1 + h.identifier_len + h.value_len) (left - 1)
+  pub found : slice (at + 1) (at + 1 + h.identifier_len) s ≡ identifier → Wanted (value_at (at + 1 + h.identifier_len) h.value_len)
+  pub other : (slice (at + 1) (at + 1 + h.identifier_len) s ≡ identifier → ⊥) → (fewer : ℕ) → left ≡ fewer + 1
+      → PairsLeft s identifier Wanted (at + 1 + h.identifier_len + h.value_len) fewer
 
-pub walk-next : (s identifier : List ℕ) (start : ℕ) (ps : List Pair) (at left : ℕ) (h : PairHeader) → h ≡ pair_header (get_or s at 0)
-    → 0 < left
-    → PairsLeft s identifier start ps at left → NextPair s identifier start ps h at left
-walk-next s identifier start ps at left header is-header h r =
-    subst⁻¹ (λ (x : PairHeader). NextPair s identifier start ps x at left) is-header (go r.rest r.count r.stands r.enough)
-  where
-    b : ℕ
-    b = get_or s at 0
+module _ (s identifier : List ℕ) (Wanted : Found → Type 0) (at left : ℕ) where
+  pub walk-next : (h : PairHeader) → h ≡ pair_header (get_or s at 0) → 0 < left → PairsLeft s identifier Wanted at left
+      → NextPair s identifier Wanted h at left
+  walk-next header is-header h r =
+      subst⁻¹ (λ (x : PairHeader). NextPair s identifier Wanted x at left) is-header (go r.rest r.count r.stands r.enough)
+    where
+      b : ℕ
+      b = get_or s at 0
 
-    value : ℕ
-    value = at + 1 + identifier_size (get_or s at 0)
+      value : ℕ
+      value = at + 1 + identifier_size (get_or s at 0)
 
-    go : (rest : List Pair) → length rest ≡ left → PairsStand s at rest
-        → ((r : Found) → Finds s at rest identifier r → Finds s start ps identifier r)
-        → NextPair s identifier start ps (pair_header (get_or s at 0)) at left
-    go [] n stands enough = let f : ⊥ = omega arith in absurd f
-    go (p ∷ rest) n (x, i, e, stands) enough =
-        let z = sizes s b at x i in
-        let is : length p.identifier ≡ identifier_size b = ap (λ (p : Pair). length p.identifier) (sym e) ∙ z.0 in
-        let vs : length p.value ≡ value_size b = ap (λ (p : Pair). length p.value) (sym e) ∙ z.1 in
-        let name : p.identifier ≡ slice (at + 1) (at + 1 + identifier_size b) s = ap (λ (p : Pair). p.identifier) (sym e)
-        ∙ i.identifier_is in
-        let held : slice value (value + value_size b) s ≡ p.value = sym i.value_is ∙ ap (λ (p : Pair). p.value) e in
-        let m = i.end_is in
-        let w = i.within in
-        record {
-          within = omega arith;
-          found = λ q. enough (value_at value (value_size b))
-              (finds-here s at p rest identifier value (value_size b) (name ∙ q) (omega arith) (omega arith) held);
-          other = λ q. record {
-            rest = rest;
-            count = omega arith;
-            stands = subst (λ (n : ℕ). PairsStand s n rest) m stands;
-            enough = λ r f. enough r (finds-next s at (value + value_size b) p rest identifier r (λ g. q (sym name ∙ g)) (omega arith) f);
-          };
-        }
+      go : (rest : List Pair) → length rest ≡ left → PairsStand s at rest
+          → ((r : Found) → Finds s at rest identifier r → Wanted r)
+          → NextPair s identifier Wanted (pair_header (get_or s at 0)) at left
+      go [] n stands enough = let f : ⊥ = omega arith in absurd f
+      go (p ∷ rest) n (x, i, e, stands) enough =
+          let z = sizes s b at x i in
+          let is : length p.identifier ≡ identifier_size b = ap (λ (p : Pair). length p.identifier) (sym e) ∙ z.0 in
+          let vs : length p.value ≡ value_size b = ap (λ (p : Pair). length p.value) (sym e) ∙ z.1 in
+          let name : p.identifier ≡ slice (at + 1) (at + 1 + identifier_size b) s = ap (λ (p : Pair). p.identifier) (sym e)
+          ∙ i.identifier_is in
+          let held : slice value (value + value_size b) s ≡ p.value = sym i.value_is ∙ ap (λ (p : Pair). p.value) e in
+          let m = i.end_is in
+          let w = i.within in
+          record {
+            within = omega arith;
+            found = λ q. enough (value_at value (value_size b))
+                (finds-here s at p rest identifier value (value_size b) (name ∙ q) (omega arith) (omega arith) held);
+            other = λ q fewer f. record {
+              rest = rest;
+              count = omega arith;
+              stands = subst (λ (n : ℕ). PairsStand s n rest) m stands;
+              enough = λ r f. enough r (finds-next s at (value + value_size b) p rest identifier r (λ g. q (sym name ∙ g)) (omega arith) f);
+            };
+          }
 
-pub walk_end : (s identifier : List ℕ) (start : ℕ) (ps : List Pair) (at left : ℕ) → left ≤ 0 → PairsLeft s identifier start ps at left
-    → Finds s start ps identifier nothing
-walk_end s identifier start ps at left h r = go r.rest r.count r.enough
-  where
-    go : (rest : List Pair) → length rest ≡ left → ((r : Found) → Finds s at rest identifier r → Finds s start ps identifier r)
-        → Finds s start ps identifier nothing
-    go [] n enough = enough nothing (λ i b e. let f : ⊥ = omega arith in f)
-    go (p ∷ rest) n enough = let f : ⊥ = omega arith in absurd f
-
--- What the code's reading of the fields says for the search: an answer at once, or the pairs to walk over.
-abbrev pub LookupBegins : Answer (Fields × ℕ) → List ℕ → ℕ → List ℕ → ExtRead → Type 0
-LookupBegins x s start identifier Absent = Looked x s start identifier (gives nothing)
-LookupBegins x s start identifier (ExtRead.Refused e) = Looked x s start identifier (refusal e)
-LookupBegins x s start identifier (ExtRead.Fields f) =
-    (ps : List Pair) × PairsLeft s identifier start ps start f.pairs
-    × ((r : Found) → Finds s start ps identifier r → Looked x s start identifier (gives r))
-
-no_pairs : (start end : ℕ) (f : Fields) → gives absent ≡ gives (span_of start (f, end)) → pairs_in f ≡ []
-no_pairs start end none e = refl
-no_pairs start end (bitfield octets) e = refl
-no_pairs start end (reserved kind octet) e = refl
-no_pairs start end (pairs ps) e = zero_one (cc)
+  pub walk_end : left ≡ 0 → PairsLeft s identifier Wanted at left → Wanted nothing
+  walk_end h r = go r.rest r.count r.enough
+    where
+      go : (rest : List Pair) → length rest ≡ left → ((r : Found) → Finds s at rest identifier r → Wanted r) → Wanted nothing
+      go [] n enough = enough nothing (λ i b e. let f : ⊥ = omega arith in f)
+      go (p ∷ rest) n enough = let f : ⊥ = omega arith in absurd f
 
 count-pairs : (start end : ℕ) (f : Fields) (x : ExtFields) → gives (fields_span x) ≡ gives (span_of start (f, end))
     → length (pairs_in f) ≡ x.pairs
@@ -172,21 +154,22 @@ count-pairs start end (bitfield octets) x e = cc
 count-pairs start end (reserved kind octet) x e = cc
 count-pairs start end (pairs ps) x e = cc
 
-pub lookup-begins : (x : Answer (Fields × ℕ)) (s : List ℕ) (start : ℕ) (identifier : List ℕ) (r : ExtRead)
-    → ((f : Fields × ℕ) → x ≡ gives f → PairsStand s start (pairs_in f.0))
-    → meaning r ≡ map (span_of start) x → LookupBegins x s start identifier r
-lookup-begins (gives f) s start identifier Absent stands e =
-    subst (λ (ps : List Pair). Finds s start ps identifier nothing) (sym (no_pairs start f.1 f.0 e))
-    (λ i b q. let f : ⊥ = omega arith in f)
-lookup-begins (gives f) s start identifier (ExtRead.Refused e') stands e = zero_one (cc)
-lookup-begins (gives f) s start identifier (ExtRead.Fields x) stands e = (
-  pairs_in f.0,
-  record { rest = pairs_in f.0; count = count-pairs start f.1 f.0 x e; stands = stands f refl; enough = λ r q. q },
-  λ r q. q,
-)
-lookup-begins (refuses code offset) s start identifier Absent stands e = zero_one (cc)
-lookup-begins (refuses code offset) s start identifier (ExtRead.Refused e') stands e =
-    let c : e'.code ≡ code = cc in
-    let o : e'.offset ≡ offset = cc in
-    (c, o)
-lookup-begins (refuses code offset) s start identifier (ExtRead.Fields x) stands e = zero_one (cc)
+-- what a lookup may answer
+abbrev pub Answers : FixHeaderField → List ℕ → ℕ → List ℕ → Found → Type 0
+Answers fix s start identifier r =
+    Looked (read_fields false fix.ext_fields_follow (kind_number fix.ext_type) s start) s start identifier (gives r)
+
+-- the walk over the pairs of fields that the code read
+pub walk_begin : (fix : FixHeaderField) (s : List ℕ) (start : ℕ) (identifier : List ℕ) (f : ExtFields) (left : ℕ) → left ≡ f.pairs
+    → gives (fields_span f) ≡ map (span_of start) (read_fields false fix.ext_fields_follow (kind_number fix.ext_type) s start)
+    → PairsLeft s identifier (Answers fix s start identifier) start left
+walk_begin fix s start identifier f left n e =
+    go (read_fields false fix.ext_fields_follow (kind_number fix.ext_type) s start)
+    (stands-fields false fix.ext_fields_follow (kind_number fix.ext_type) s start) e
+  where
+    go : (x : Answer (Fields × ℕ)) → ((r : Fields × ℕ) → x ≡ gives r → PairsStand s start (pairs_in r.0))
+        → gives (fields_span f) ≡ map (span_of start) x
+        → PairsLeft s identifier (λ r. Looked x s start identifier (gives r)) start left
+    go (gives r) stands e =
+        record { rest = pairs_in r.0; count = count-pairs start r.1 r.0 f e ∙ sym n; stands = stands r refl; enough = λ r q. q }
+    go (refuses code offset) stands e = zero_one (cc)

@@ -1,5 +1,6 @@
 -- The strict classes of WAP 4.4.3, from RFC 2234 6.1.
-use Rattle.std.specs.Prelude.{ℕ, Bool, true, false, ◌&&◌, ◌||◌, List, [], ◌∷◌, leb}
+use Rattle.std.specs.Prelude.{ℕ, Bool, true, false, ◌&&◌, ◌||◌, List, leb}
+use Rattle.std.specs.List.{list_all}
 
 -- CHAR = %x01-7F
 abbrev pub is_char : ℕ → Bool
@@ -10,8 +11,7 @@ unfoldable pub is_alpha_digit : ℕ → Bool
 is_alpha_digit b = (leb 48 b && leb b 57) || (leb 65 b && leb b 90) || (leb 97 b && leb b 122)
 
 unfoldable pub all : (ℕ → Bool) → List ℕ → Bool
-all p [] = true
-all p (b ∷ bs) = p b && all p bs
+all p bs = list_all p bs
 
 -- lenient reading and writing have no classes
 abbrev pub in_class : Bool → (ℕ → Bool) → List ℕ → Bool

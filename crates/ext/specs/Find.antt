@@ -1,11 +1,11 @@
 -- Lookup (document 01, "Lookup"): "none exactly if no pair carries" the identifier; "else the value of some pair that does". Which of
 -- several pairs it gives is free.
-use Rattle.std.specs.Prelude.{ℕ, zero, suc, ◌+◌, ◌<◌, ◌≡◌, List, [], ◌∷◌, length, get_or}
+use Rattle.std.specs.Prelude.{ℕ, zero, suc, ◌+◌, ◌<◌, ◌≡◌, List, [], ◌∷◌, length, get_or, Option, Some, None, Result, Ok, Err}
 use Rattle.std.proofs.Math.Seq.{slice}
 use Rattle.error.specs.Answer.{Answer, gives, refuses, refusal}
+use Rattle.error.specs.declared.WbmpError.{WbmpError}
 use Rattle.ext.specs.Kinds.{Pair, Fields, none, bitfield, reserved, pairs}
-use Rattle.ext.specs.declared.Lookup.{Lookup}
-use Rattle.ext.specs.declared.Lookup.TheVariants.{Nothing, Value}
+use Rattle.ext.specs.declared.ValueSpan.{ValueSpan}
 
 -- "without fields, or in kinds 00, 01 and 10, there are no pairs"
 abbrev pub pairs_in : Fields → List Pair
@@ -36,10 +36,13 @@ pub data Found : Type 0 where
   value_at : ℕ → ℕ → Found
 
 -- what the code's values mean
-abbrev pub looking : Lookup → Answer Found
-looking Nothing = gives nothing
-looking (Value from len) = gives (value_at from len)
-looking (Lookup.Refused e) = refusal e
+abbrev pub found_at : Option ValueSpan → Found
+found_at None = nothing
+found_at (Some v) = value_at v.start v.len
+
+abbrev pub looking : Result (Option ValueSpan) WbmpError → Answer Found
+looking (Ok v) = gives (found_at v)
+looking (Err e) = refusal e
 
 -- the value at an offset of the file s and of a length is that of pair i, which carries the identifier
 pub record Carries (s : List ℕ) (start : ℕ) (ps : List Pair) (identifier : List ℕ) (from len i : ℕ) : Type 0 where

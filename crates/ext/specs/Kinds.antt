@@ -1,13 +1,12 @@
 -- What extension fields are, and how the code's values stand for them.
-use Rattle.std.specs.Prelude.{ℕ, ◌-◌, ◌/◌, ◌%◌, ◌≡◌, Bool, List, leb, length}
+use Rattle.std.specs.Prelude.{ℕ, ◌-◌, ◌/◌, ◌%◌, ◌≡◌, Bool, List, leb, length, Option, Some, None, Result, Ok, Err}
 use Rattle.error.specs.Answer.{Answer, gives, refusal}
+use Rattle.error.specs.declared.WbmpError.{WbmpError}
 use Rattle.ext.specs.declared.ExtFieldType.{ExtFieldType}
 use Rattle.ext.specs.declared.ExtFieldType.TheVariants.{Bitfield00, Reserved01, Reserved10, ParameterPairs11}
 use Rattle.ext.specs.declared.FixHeaderField.{FixHeaderField}
 use Rattle.ext.specs.declared.PairHeader.{PairHeader}
 use Rattle.ext.specs.declared.ExtFields.{ExtFields}
-use Rattle.ext.specs.declared.ExtRead.{ExtRead}
-use Rattle.ext.specs.declared.ExtRead.TheVariants.{Absent}
 
 -- a pair of kind 11, WAP 4.4.3
 pub record Pair : Type 0 where
@@ -63,7 +62,15 @@ pair_header b = record { identifier_len = b / 16 % 8; value_len = b % 16; more =
 abbrev pub fields_span : ExtFields → Span
 fields_span f = span (kind_number f.ext_type) f.start f.len f.pairs
 
-abbrev pub meaning : ExtRead → Answer Span
-meaning Absent = gives absent
-meaning (ExtRead.Fields f) = gives (fields_span f)
-meaning (ExtRead.Refused e) = refusal e
+abbrev pub fields_read : Result ExtFields WbmpError → Answer Span
+fields_read (Ok f) = gives (fields_span f)
+fields_read (Err e) = refusal e
+
+-- fields that were read, or none
+abbrev pub ext_span : Option ExtFields → Span
+ext_span None = absent
+ext_span (Some f) = fields_span f
+
+abbrev pub meaning : Result (Option ExtFields) WbmpError → Answer Span
+meaning (Ok f) = gives (ext_span f)
+meaning (Err e) = refusal e

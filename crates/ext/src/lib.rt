@@ -1,15 +1,14 @@
 // Extension fields, WAP 4.4.1 to 4.4.3: their kinds and classes, read and looked up.
 #![tactic(auto)]
 
-ghost use Rattle.std.specs.Prelude.{◌≡◌, ◌<◌};
-ghost use Rattle.ext.specs.Kinds.{kind_number, SplitFix, pair_header};
+ghost use Rattle.std.specs.Prelude.{◌≡◌};
+ghost use Rattle.ext.specs.Kinds.{SplitFix, pair_header};
 
 mod class;
 pub mod find;
 mod read;
 
 pub use class::{identifier_in_class, is_rfc2234_alpha_digit, is_rfc2234_char, value_in_class};
-use error::WbmpError;
 pub use read::{parse_ext_fields, parse_ext_fields_strict};
 
 // An octet or a pair starts less than this far from the first one.
@@ -32,29 +31,20 @@ pub struct FixHeaderField {
     pub ext_type: ExtFieldType,
 }
 
-impl ExtFieldType {
-    fn from_bits(bits65: u8) -> ExtFieldType
-        requires { bits65 < 4 }
-        ensures { kind_number result ≡ bits65 }
-    {
-        match bits65 {
-            0 => ExtFieldType::Bitfield00,
-            1 => ExtFieldType::Reserved01,
-            2 => ExtFieldType::Reserved10,
-            _ => ExtFieldType::ParameterPairs11,
-        }
-    }
-}
-
 impl FixHeaderField {
+    // Not `From`: the public name is the Rust's, and stays.
     pub fn from_byte(raw: u8) -> FixHeaderField
         ensures { SplitFix raw result }
     {
-        let ext_type = ExtFieldType::from_bits(raw / 32 % 4);
         FixHeaderField {
             raw,
             ext_fields_follow: 128 <= raw,
-            ext_type,
+            ext_type: match raw / 32 % 4 {
+                0 => ExtFieldType::Bitfield00,
+                1 => ExtFieldType::Reserved01,
+                2 => ExtFieldType::Reserved10,
+                _ => ExtFieldType::ParameterPairs11,
+            },
         }
     }
 }
@@ -68,6 +58,7 @@ pub struct PairHeader {
 }
 
 impl PairHeader {
+    // Not `From`, as above.
     pub fn from_byte(raw: u8) -> PairHeader
         ensures { result ≡ pair_header raw }
     {
@@ -88,25 +79,16 @@ pub struct ExtFields {
     pub pairs: usize,
 }
 
-// What reading fields answers.
-#[derive(Clone, Copy)]
-pub enum ExtRead {
-    Absent,
-    Fields(ExtFields),
-    Refused(WbmpError),
-}
-
-// What reading one pair answers: whether one more follows and the offset after it, or a refusal.
+// Whether one more pair follows, and the offset after this one.
 #[derive(Drop)]
-enum PairRead {
-    Pair { more: bool, end: usize },
-    Refused(WbmpError),
+struct PairEnd {
+    more: bool,
+    end: usize,
 }
 
-// What looking up an identifier answers: the value's bytes in the input.
+// The value of a pair, by its bytes in the input.
 #[derive(Clone, Copy)]
-pub enum Lookup {
-    Nothing,
-    Value { start: usize, len: usize },
-    Refused(WbmpError),
+pub struct ValueSpan {
+    pub start: usize,
+    pub len: usize,
 }

@@ -1,4 +1,6 @@
 -- Fields begun: what is left to put, and that once it is put the writer's promise is kept.
+use Rattle.std.proofs.Common.{Result}
+use Rattle.error.specs.declared.WbmpError.{WbmpError}
 use Prim.Native.Nat.{ℕ, ◌+◌, ◌≤◌, ◌<◌}
 use mathlib.Core.Path.{◌≡◌, ◌∙◌, sym, ap, refl, subst}
 use mathlib.Core.Bool.{Bool, true, false, ◌&&◌}
@@ -11,7 +13,6 @@ use lib.Seq.{sets}
 use borrow.Author.Tests.{lt-leb}
 use Rattle.error.specs.Answer.{Answer, gives, refuses, map, written}
 use Rattle.error.specs.Emits.{Emits}
-use Rattle.error.specs.declared.Written.{Written}
 use Rattle.laws.proofs.Answers.{map_gives}
 use Rattle.laws.proofs.Tests.{if-false}
 use Rattle.laws.proofs.Runs.{sets-front}
@@ -72,12 +73,12 @@ left-put strict text lengths new b Goal (pairs-left bytes end e w l f g) =
     subst Goal (sym (put-bytes strict text lengths new b.to bytes e (omega (arith, l, f)))) g
 
 -- the writer's promise, from what was begun and what was put
-pub begun-put : (strict : Bool) (text lengths old mid new : List ℕ) (b : PairsBegun) (a : Answer (List ℕ)) (r : Written)
+pub begun-put : (strict : Bool) (text lengths old mid new : List ℕ) (b : PairsBegun) (a : Answer (List ℕ)) (r : Result ℕ WbmpError)
     → Left strict text lengths mid b (Emits a (written b.answer) old) → (r ≡ b.answer)
     × (new ≡ put_pairs text lengths mid (put_start b.to))
     → Emits a (written r) old new
 begun-put strict text lengths old mid new b a r x e =
-    subst (λ (v : Written). Emits a (written v) old new) (sym e.0)
+    subst (λ (v : Result ℕ WbmpError). Emits a (written v) old new) (sym e.0)
     (subst (Emits a (written b.answer) old) (sym e.1) (left-put strict text lengths mid b (Emits a (written b.answer) old) x))
 
 -- a writer that answers 25

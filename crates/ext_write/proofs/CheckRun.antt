@@ -17,7 +17,7 @@ use Rattle.laws.proofs.Tests.{if-true, if-false}
 use Rattle.ext.specs.Kinds.{Pair, Fields}
 use Rattle.ext_write.specs.Write.{check_pair, pair_bytes, pairs_bytes, cut_pairs, sum, lent_fields, lent_bytes, fields_bytes}
 use Rattle.ext_write.specs.Internal.Steps.{lent_pair, start_after, check_start, check_step, check_pairs}
-use Rattle.ext_write.specs.declared.PairsCheck.{PairsCheck}
+use Rattle.ext_write.specs.Internal.Steps.{Checking}
 use Rattle.ext_write.proofs.PairVerdict.{Verdict, verdict, pair-passed}
 use Rattle.ext_write.proofs.PairsLaid.{laid, pairs-laid, laid_cons}
 
@@ -77,7 +77,7 @@ starts_after start (i ∷ v ∷ lengths) = starts_after (start_after start i v) 
 
 module _ (strict : Bool) (text : List ℕ) where
   -- a check that has come to the end of the text
-  abbrev ended : PairsCheck → List ℕ → PairsCheck
+  abbrev ended : Checking → List ℕ → Checking
   ended s lengths =
       record {
         at = length text;
@@ -86,7 +86,7 @@ module _ (strict : Bool) (text : List ℕ) where
       }
 
   -- what one step comes to
-  data CheckStepped (s : PairsCheck) (i v : ℕ) : Type 0 where
+  data CheckStepped (s : Checking) (i v : ℕ) : Type 0 where
     inside : s.at + i + v ≤ length text
         → check_step strict text s i v
         ≡ record {
@@ -98,7 +98,7 @@ module _ (strict : Bool) (text : List ℕ) where
     past : check_step strict text s i v ≡ record { at = s.at; start = s.start; code = 31 } → length text < s.at + i + v
         → CheckStepped s i v
 
-  stepped : (s : PairsCheck) (i v : ℕ) → CheckStepped s i v
+  stepped : (s : Checking) (i v : ℕ) → CheckStepped s i v
   unfolding check_step
   stepped s i v = by-test (leb (s.at + i + v) (length text)) refl
     where
@@ -107,7 +107,7 @@ module _ (strict : Bool) (text : List ℕ) where
       by-test false e = past (if-false _ _ _ e) (leb-false _ _ e)
 
   -- lengths that add up to the text: the first refusal's number
-  pub walk-in : (lengths : List ℕ) (s : PairsCheck) → s.at + sum lengths ≡ length text
+  pub walk-in : (lengths : List ℕ) (s : Checking) → s.at + sum lengths ≡ length text
       → check_pairs strict text lengths s ≡ ended s lengths
   unfolding check_pairs sum cut_pairs starts_after
   walk-in [] s h = let e : s.at ≡ length text = omega arith in ap (λ (n : ℕ). record { at = n; start = s.start; code = s.code }) e
@@ -125,7 +125,7 @@ module _ (strict : Bool) (text : List ℕ) where
   walk-in (i ∷ v ∷ ls) s h = by-step (stepped s i v) (λ s' k. walk-in ls s' k)
     where
       by-step : CheckStepped s i v
-          → ((s' : PairsCheck) → s'.at + sum ls ≡ length text → check_pairs strict text ls s' ≡ ended s' ls)
+          → ((s' : Checking) → s'.at + sum ls ≡ length text → check_pairs strict text ls s' ≡ ended s' ls)
           → check_pairs strict text ls (check_step strict text s i v) ≡ ended s (i ∷ v ∷ ls)
       by-step (inside l e) walk =
           ap (check_pairs strict text ls) e
@@ -139,37 +139,37 @@ module _ (strict : Bool) (text : List ℕ) where
       by-step (past e l) walk = absurd (omega arith)
 
   -- a pair past the text stays refused
-  past-step : (s : PairsCheck) (i v : ℕ) → CheckStepped s i v → s.code ≡ 31 → (check_step strict text s i v).code ≡ 31
+  past-step : (s : Checking) (i v : ℕ) → CheckStepped s i v → s.code ≡ 31 → (check_step strict text s i v).code ≡ 31
   past-step s i v (inside l e) h =
-      ap (λ (r : PairsCheck). r.code) e
+      ap (λ (r : Checking). r.code) e
       ∙ if-false _ _ _ (ne_eqb s.code 0 (λ z. omega arith))
       ∙ h
-  past-step s i v (past e l) h = ap (λ (r : PairsCheck). r.code) e
+  past-step s i v (past e l) h = ap (λ (r : Checking). r.code) e
 
-  past-stays : (lengths : List ℕ) (s : PairsCheck) → s.code ≡ 31 → (check_pairs strict text lengths s).code ≡ 31
+  past-stays : (lengths : List ℕ) (s : Checking) → s.code ≡ 31 → (check_pairs strict text lengths s).code ≡ 31
   unfolding check_pairs
   past-stays [] s h = h
   past-stays (i ∷ []) s h = past-step s i 0 (stepped s i 0) h
   past-stays (i ∷ v ∷ ls) s h = past-stays ls (check_step strict text s i v) (past-step s i v (stepped s i v) h)
 
   -- a run that ends with the text was over lengths that add up to it, or a pair ran past
-  pub walk-out : (lengths : List ℕ) (s : PairsCheck) → (check_pairs strict text lengths s).at ≡ length text
+  pub walk-out : (lengths : List ℕ) (s : Checking) → (check_pairs strict text lengths s).at ≡ length text
       → (s.at + sum lengths ≡ length text) ⊎ ((check_pairs strict text lengths s).code ≡ 31)
   unfolding check_pairs sum
   walk-out [] s h = inl (omega arith)
   walk-out (i ∷ []) s h = by-step (stepped s i 0)
     where
       by-step : CheckStepped s i 0 → (s.at + (i + 0) ≡ length text) ⊎ ((check_step strict text s i 0).code ≡ 31)
-      by-step (inside l e) = let f = ap (λ (r : PairsCheck). r.at) e in inl (omega arith)
-      by-step (past e l) = inr (ap (λ (r : PairsCheck). r.code) e)
+      by-step (inside l e) = let f = ap (λ (r : Checking). r.at) e in inl (omega arith)
+      by-step (past e l) = inr (ap (λ (r : Checking). r.code) e)
   walk-out (i ∷ v ∷ ls) s h = by-step (stepped s i v) (walk-out ls (check_step strict text s i v) h)
     where
       by-step : CheckStepped s i v
           → ((check_step strict text s i v).at + sum ls ≡ length text) ⊎ ((check_pairs strict text ls (check_step strict text s i v)).code ≡ 31)
           → (s.at + (i + (v + sum ls)) ≡ length text) ⊎ ((check_pairs strict text ls (check_step strict text s i v)).code ≡ 31)
-      by-step (inside l e) (inl k) = let f = ap (λ (r : PairsCheck). r.at) e in inl (omega arith)
+      by-step (inside l e) (inl k) = let f = ap (λ (r : Checking). r.at) e in inl (omega arith)
       by-step (inside l e) (inr k) = inr k
-      by-step (past e l) k = inr (past-stays ls (check_step strict text s i v) (ap (λ (r : PairsCheck). r.code) e))
+      by-step (past e l) k = inr (past-stays ls (check_step strict text s i v) (ap (λ (r : Checking). r.code) e))
 
 -- the length of accepted pairs: each has a header byte more
 pub laid-length : (strict : Bool) (lengths text bytes : List ℕ) → laid strict (cut_pairs lengths text) ≡ gives bytes
@@ -206,12 +206,12 @@ module _ (strict : Bool) (text lengths : List ℕ) where
   lent_laid h some = lent-pairs h ∙ pairs-laid strict (cut_pairs lengths text) (cut-some lengths text some)
 
 -- what the end of a run says of the fields
-module _ (strict : Bool) (text lengths : List ℕ) (s : PairsCheck) (q : s ≡ check_pairs strict text lengths check_start) where
+module _ (strict : Bool) (text lengths : List ℕ) (s : Checking) (q : s ≡ check_pairs strict text lengths check_start) where
   ran-in : sum lengths ≡ length text → s ≡ ended strict text check_start lengths
   ran-in h = q ∙ walk-in strict text lengths check_start (zero-add (sum lengths) ∙ h)
 
   pub pairs-31 : (s.at ≡ length text → ⊥) → lent_bytes strict 3 text lengths ≡ refuses 31 0
-  pairs-31 n = lent-31 strict text lengths (λ h. n (ap (λ (r : PairsCheck). r.at) (ran-in h)))
+  pairs-31 n = lent-31 strict text lengths (λ h. n (ap (λ (r : Checking). r.at) (ran-in h)))
 
   pub pairs-23 : s.at ≡ length text → length lengths ≡ 0 → lent_bytes strict 3 text lengths ≡ refuses 23 0
   unfolding check_pairs pairs_bytes cut_pairs sum
@@ -220,7 +220,7 @@ module _ (strict : Bool) (text lengths : List ℕ) (s : PairsCheck) (q : s ≡ c
       by_lengths : (ls : List ℕ) → length ls ≡ 0 → s ≡ check_pairs strict text ls check_start
           → (sum ls ≡ length text → lent_bytes strict 3 text lengths ≡ pairs_bytes strict (cut_pairs ls text))
           → lent_bytes strict 3 text lengths ≡ refuses 23 0
-      by_lengths [] y f g = g (sym (ap (λ (r : PairsCheck). r.at) f) ∙ e)
+      by_lengths [] y f g = g (sym (ap (λ (r : Checking). r.at) f) ∙ e)
       by_lengths (i ∷ ls) y f g = absurd (omega arith)
 
   module _ (e : s.at ≡ length text) (some : 0 < length lengths) where
@@ -228,12 +228,12 @@ module _ (strict : Bool) (text lengths : List ℕ) (s : PairsCheck) (q : s ≡ c
     ran-past n =
         ⊎_elim
         (λ h. absurd (n (sym (zero-add (sum lengths)) ∙ h)))
-        (λ k. ap (λ (r : PairsCheck). r.code) q ∙ k)
-        (walk-out strict text lengths check_start (sym (ap (λ (r : PairsCheck). r.at) q) ∙ e))
+        (λ k. ap (λ (r : Checking). r.code) q ∙ k)
+        (walk-out strict text lengths check_start (sym (ap (λ (r : Checking). r.at) q) ∙ e))
 
     all-answered : sum lengths ≡ length text → Answered strict (laid strict (cut_pairs lengths text)) s.code
     all-answered h =
-        subst (Answered strict (laid strict (cut_pairs lengths text))) (sym (ap (λ (r : PairsCheck). r.code) (ran-in h)))
+        subst (Answered strict (laid strict (cut_pairs lengths text))) (sym (ap (λ (r : Checking). r.code) (ran-in h)))
         (answered strict (cut_pairs lengths text))
 
     pub pairs_first : (s.code ≡ 0 → ⊥) → lent_bytes strict 3 text lengths ≡ refuses s.code 0

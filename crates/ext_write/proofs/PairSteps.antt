@@ -2,13 +2,14 @@
 use Prim.Native.Nat.{ℕ, ◌+◌, ◌*◌, ◌-◌, ◌≤◌, ◌<◌}
 use mathlib.Core.Path.{◌≡◌, ◌∙◌, sym, ap, refl}
 use mathlib.Core.Bool.{Bool, true, false}
-use mathlib.Core.List.{List, [], ◌∷◌}
+use mathlib.Core.List.{List, [], ◌∷◌, append_assoc}
 use native.Mathlib.Nat.{add-zero}
 use native.Mathlib.Numerals.{add-one}
 use native.Mathlib.Omega.{arith}
 use lib.Dec.{ltb}
 use lib.ListN.{length, get_or, take, drop, set, length-drop, length-set, drop_of_length-le}
-use lib.Seq.{sets, drop-drop, get_or-drop, take-add, length-sets}
+use lib.Seq.{sets, sets-eq, drop-drop, get_or-drop, take-add, length-sets}
+use borrow.Rule.Slice.PartMut.{put_mid}
 use borrow.Author.Tests.{lt-ltb, le-ltb, le-leb, lt-leb, eq-eqb, ne_eqb, ltb-true, ltb-false}
 use Rattle.error.specs.Choice.{if}
 use Rattle.error.specs.Answer.{Answer, code_of}
@@ -18,7 +19,7 @@ use Rattle.ext.specs.Kinds.{Pair}
 use Rattle.ext_write.specs.Write.{check_pair, pair_bytes}
 use Rattle.ext_write.specs.Internal.Steps.{lent_pair, start_after, first_code, check_step, check_pairs, can_put, put_step}
 use Rattle.ext_write.specs.Internal.Steps.{put_output, put_pairs}
-use Rattle.ext_write.specs.declared.PairsCheck.{PairsCheck}
+use Rattle.ext_write.specs.Internal.Steps.{Checking}
 use Rattle.ext_write.specs.declared.PairsPut.{PairsPut}
 
 -- what is left of the lengths
@@ -34,26 +35,26 @@ module _ (lengths : List ℕ) (k : ℕ) where
       more n j false e = let h = ltb-false j n e in le-ltb 0 (n - j) (omega arith) ∙ sym e
 
 module _ (strict : Bool) (text : List ℕ) where
-  check-two : (ls : List ℕ) (s : PairsCheck) → 0 < length ls
+  check-two : (ls : List ℕ) (s : Checking) → 0 < length ls
       → check_pairs strict text ls s ≡ check_pairs strict text (drop 2 ls) (check_step strict text s (get_or ls 0 0) (get_or ls 1 0))
   unfolding check_pairs
   check-two [] s h = absurd (omega arith)
   check-two (i ∷ []) s h = refl
   check-two (i ∷ v ∷ ls) s h = refl
 
-  check-more : (lengths : List ℕ) (k : ℕ) (s : PairsCheck) → k < length lengths
+  check-more : (lengths : List ℕ) (k : ℕ) (s : Checking) → k < length lengths
       → check_pairs strict text (drop k lengths) s
       ≡ check_pairs strict text (drop (k + 2) lengths) (check_step strict text s (get_or lengths k 0) (get_or lengths (k + 1) 0))
   check-more lengths k s h =
       check-two (drop k lengths) s (left-some lengths k h)
       ∙ rw (drop-drop 2 k lengths, get_or-drop k lengths 0 0, get_or-drop k lengths 1 0, add-zero) refl
 
-  pub check-goes : (lengths : List ℕ) (k : ℕ) (s s' : PairsCheck) (i v : ℕ) → k < length lengths → i ≡ get_or lengths k 0
+  pub check-goes : (lengths : List ℕ) (k : ℕ) (s s' : Checking) (i v : ℕ) → k < length lengths → i ≡ get_or lengths k 0
       → v ≡ get_or lengths (k + 1) 0
       → s' ≡ check_step strict text s i v → check_pairs strict text (drop k lengths) s ≡ check_pairs strict text (drop (k + 2) lengths) s'
   check-goes lengths k s s' i v h e f g = check-more lengths k s h ∙ (cc)
 
-  pub check-end : (lengths : List ℕ) (k : ℕ) (s : PairsCheck) → length lengths ≤ k → check_pairs strict text (drop k lengths) s ≡ s
+  pub check-end : (lengths : List ℕ) (k : ℕ) (s : Checking) → length lengths ≤ k → check_pairs strict text (drop k lengths) s ≡ s
   unfolding check_pairs
   check-end lengths k s h = rw (drop_of_length-le lengths h) refl
 
@@ -93,45 +94,14 @@ module _ (text : List ℕ) where
       by-test true = length-sets out s.to (pair_bytes more (lent_pair text s.at i v))
       by-test false = refl
 
--- a byte copied, and those after it
-pub copy_more : (text out : List ℕ) (at to n : ℕ) → at < length text
-    → sets out to (take (n + 1) (drop at text)) ≡ sets (set out to (get_or text at 0)) (to + 1) (take n (drop (at + 1) text))
-copy_more text out at to n h = rw (drop_at text at h, add-one, add-one, add-one)
+-- `k` bytes of the text stored in a part of a list
+pub put-copied : (text l part : List ℕ) (at to n m k : ℕ) → n ≡ k → m ≡ k → at + k ≤ length text → to + k ≤ length l
+    → part ≡ take m (drop at text) → put_mid to n l part ≡ sets l to (take k (drop at text))
+put-copied text l part at to n m k e f h g q =
+    let long = length_part k at text h in
+    rw (q, e, f)
+    (sym (sets-eq (take k (drop at text)) l to (omega (arith, long)) ∙ append_assoc (take to l) _ _ ∙ rw (long, drop-drop k to l) refl))
 
--- a copy of `len` bytes, of which i are done
-pub record Copying (text : List ℕ) (at len : ℕ) (old : List ℕ) (to : ℕ) (out : List ℕ) (i : ℕ) : Type 0 where
-  pub within : i ≤ len
-  pub source : at + len ≤ length text
-  pub target : to + len ≤ length old
-  pub same : length out ≡ length old
-  pub rest : sets old to (take len (drop at text)) ≡ sets out (to + i) (take (len - i) (drop (at + i) text))
-
-module _ (text : List ℕ) (at len : ℕ) (old : List ℕ) (to : ℕ) where
-  pub copy-starts : at + len ≤ length text → to + len ≤ length old → Copying text at len old to old 0
-  copy-starts h k =
-      let n : len - 0 ≡ len = omega arith in
-      record { within = omega arith; source = h; target = k; same = refl; rest = rw (n, add-zero to, add-zero at) refl }
-
-  module _ (out : List ℕ) (i : ℕ) (c : Copying text at len old to out i) where
-    pub copy_goes : i < len → Copying text at len old to (set out (to + i) (get_or text (at + i) 0)) (i + 1)
-    copy_goes h =
-        let n : len - i ≡ len - (i + 1) + 1 = omega arith in
-        let a : at + (i + 1) ≡ at + i + 1 = omega arith in
-        let t : to + (i + 1) ≡ to + i + 1 = omega arith in
-        record {
-          within = omega arith;
-          source = c.source;
-          target = c.target;
-          same = length-set out (to + i) _ ∙ c.same;
-          rest = c.rest ∙ rw (n, a, t) (copy_more text out (at + i) (to + i) (len - (i + 1)) (omega arith));
-        }
-
-    pub copy-ends : len ≤ i → out ≡ sets old to (take len (drop at text))
-    copy-ends h =
-        let n : len - i ≡ 0 = omega arith in
-        sym (c.rest ∙ rw n refl)
-
--- the number of the first refusal: one that came before, or this pair's
 module _ (strict : Bool) (code : ℕ) (p : Pair) where
   pub first-kept : (code ≡ 0 → ⊥) → code ≡ first_code strict code p
   first-kept n = sym (if-false _ _ _ (ne_eqb _ _ n))
@@ -140,14 +110,14 @@ module _ (strict : Bool) (code : ℕ) (p : Pair) where
   first-new z a e = ap code_of e ∙ sym (if-true _ _ _ (eq-eqb _ _ z))
 
 -- one step of a check
-module _ (strict : Bool) (text : List ℕ) (s : PairsCheck) (i v : ℕ) where
+module _ (strict : Bool) (text : List ℕ) (s : Checking) (i v : ℕ) where
   pub step_past : length text < s.at + i + v → record { at = s.at; start = s.start; code = 31 } ≡ check_step strict text s i v
   unfolding check_step
   step_past h = sym (if-false _ _ _ (lt-leb _ _ h))
 
   module _ (h : s.at + i + v ≤ length text) where
     -- what it comes to with a number
-    abbrev next : ℕ → PairsCheck
+    abbrev next : ℕ → Checking
     next code = record { at = s.at + i + v; start = start_after s.start i v; code = code }
 
     pub step-within : (start code : ℕ) → start ≡ start_after s.start i v

@@ -13,7 +13,7 @@ use Rattle.error.specs.Answer.{gives}
 use Rattle.ext.specs.Kinds.{Pair}
 use Rattle.ext_write.specs.Write.{cut_pairs, sum, lent_bytes}
 use Rattle.ext_write.specs.Internal.Steps.{start_after, check_start, check_pairs}
-use Rattle.ext_write.specs.declared.PairsCheck.{PairsCheck}
+use Rattle.ext_write.specs.Internal.Steps.{Checking}
 use Rattle.ext_write.proofs.PairVerdict.{pair-passed}
 use Rattle.ext_write.proofs.PairsLaid.{laid, laid_cons}
 use Rattle.ext_write.proofs.CheckRun.{starts_after, walk-in, laid-length}
@@ -76,6 +76,6 @@ start-counted strict text lengths bytes e =
     let even = laid-even strict lengths text bytes a.1 in
     let n : 0 + sum lengths + (length lengths + 1) / 2 ≡ length bytes = omega arith in
     subst (CountedToCeiling (check_pairs strict text lengths check_start).start) n
-    (subst⁻¹ (λ (r : PairsCheck). CountedToCeiling r.start (0 + sum lengths + (length lengths + 1) / 2))
+    (subst⁻¹ (λ (r : Checking). CountedToCeiling r.start (0 + sum lengths + (length lengths + 1) / 2))
     (walk-in strict text lengths check_start (zero-add (sum lengths) ∙ h))
     (starts-counted lengths 0 0 (record { exact = λ z. refl; over = λ z. z })))

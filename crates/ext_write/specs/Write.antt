@@ -1,13 +1,12 @@
 -- Writing extension fields (document 01, "Refused", order of the fields' tests: "31, 23, then octet by octet 24, or pair by pair 11, 14,
 -- 12, 15, the classes only if strict"). "Writers return place 0 always."
-use Rattle.std.specs.Prelude.{ℕ, ◌+◌, ◌*◌, Bool, true, false, ◌&&◌, List, [], ◌∷◌, ◌++◌, ltb, leb, eqb, length, take, drop}
+use Rattle.std.specs.Prelude.{ℕ, ◌+◌, ◌*◌, Bool, true, false, ◌&&◌, List, [], ◌∷◌, ◌++◌, ltb, leb, eqb, length, take, drop, Result, Ok, Err}
 use Rattle.error.specs.Choice.{if}
 use Rattle.error.specs.Answer.{Answer, gives, refuses, bind, map, refusal}
 use Rattle.ext.specs.Kinds.{Pair, Fields, none, bitfield, reserved, pairs}
 use Rattle.ext.specs.Classes.{is_char, is_alpha_digit, in_class}
 use Rattle.ext_write.specs.declared.Parameter.{Parameter}
-use Rattle.ext_write.specs.declared.NewParameter.{NewParameter}
-use Rattle.ext_write.specs.declared.NewParameter.TheVariants.{Made}
+use Rattle.error.specs.declared.WbmpError.{WbmpError}
 
 -- kind 00: every octet but the last continues; an octet with bit 7 is refused
 unfoldable pub octets_bytes : List ℕ → Answer (List ℕ)
@@ -80,6 +79,6 @@ lent_bytes strict kind text lengths = bind (lent_fields kind text lengths) (fiel
 abbrev pub lengths_of : Pair → ℕ × ℕ
 lengths_of p = (length p.identifier, length p.value)
 
-abbrev pub new_parameter : NewParameter → Answer (ℕ × ℕ)
-new_parameter (Made p) = gives (p.identifier_len, p.value_len)
-new_parameter (NewParameter.Refused e) = refusal e
+abbrev pub new_parameter : Result Parameter WbmpError → Answer (ℕ × ℕ)
+new_parameter (Ok p) = gives (p.identifier_len, p.value_len)
+new_parameter (Err e) = refusal e

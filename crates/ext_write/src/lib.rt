@@ -1,16 +1,15 @@
 // Extension fields to be written, WAP 4.4.1 to 4.4.3: checked and put.
 #![tactic(auto)]
 
+mod list;
 mod pairs;
-mod parameters;
 mod validate;
 mod write;
 
-use error::{WbmpError, Written};
-pub use parameters::{check_parameters, put_parameters, write_ext_fields, write_ext_fields_strict};
+use error::{Refusal, Result};
+pub use list::PairList;
 pub use write::{
-    begin_fields, check_fields, check_lengths, put_lengths, write_ext_fields_lengths,
-    write_ext_fields_lengths_strict,
+    begin_fields, check_fields, check_pairs, put_pairs, write_ext_fields, write_ext_fields_strict,
 };
 
 // The lengths of a pair to be written.
@@ -20,26 +19,13 @@ pub struct Parameter {
     pub value_len: usize,
 }
 
-#[derive(Clone, Copy)]
-pub enum NewParameter {
-    Made(Parameter),
-    Refused(WbmpError),
-}
-
-// What a check of fields to be written answers: how many bytes they are.
-#[derive(Clone, Copy)]
-pub enum FieldsCheck {
-    Length(usize),
-    Refused(WbmpError),
-}
-
-// A check of pairs on its way: where the next pair stands in the text, where it starts in the fields, and the number of the first refusal,
-// 0 for none. `start` is exact up to the pair that passes 4,096, and stays from there on.
+// A check of pairs on its way: where the next pair stands in the text, where it starts in the fields, and the first refusal.
+// `start` is exact up to the pair that passes 4,096, and stays from there on.
 #[derive(Drop)]
 struct PairsCheck {
     at: usize,
     start: usize,
-    code: u8,
+    refusal: Option<Refusal>,
 }
 
 // Where the next pair to put stands in the text, and where it goes in the output.
@@ -54,5 +40,5 @@ struct PairsPut {
 #[derive(Clone, Copy)]
 pub struct PairsBegun {
     pub to: usize,
-    pub answer: Written,
+    pub answer: Result<usize>,
 }

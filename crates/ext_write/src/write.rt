@@ -1,56 +1,62 @@
-// Extension fields to be written: a text, and for pairs their lengths, two each: identifier, value.
+// Extension fields to be written: a text, and for pairs their lengths.
 ghost use Rattle.std.specs.Prelude.{◌+◌, ◌≤◌, ◌<◌, ◌≡◌, true, false, length};
 ghost use Rattle.std.proofs.lemmas.List.Edits.{sets};
 ghost use Rattle.error.specs.Choice.{if};
-ghost use Rattle.error.specs.Answer.{map, written};
+ghost use Rattle.error.specs.Answer.{answered, map, written};
 ghost use Rattle.error.specs.Emits.{Emits};
 ghost use Rattle.ext.specs.Kinds.{kind_number};
 ghost use Rattle.ext_write.specs.Write.{octets_bytes, octet_bytes, lent_bytes};
 ghost use Rattle.ext_write.specs.Internal.Left.{ChecksPairs, ChecksFields, BeginsPairs, BeginsFields};
-ghost use Rattle.ext_write.specs.Internal.Steps.{fields_length, octet_length, put_start, put_pairs, continued, Small};
+ghost use Rattle.ext_write.specs.Internal.Steps.{octet_length, put_start, put_pairs, continued, Small};
 
-use crate::pairs::{check_pairs, pairs_length, put_pairs, refused};
-use crate::{FieldsCheck, PairsBegun};
-use error::Written;
+use crate::pairs::{check_pair, check_start, pairs_length, put_pair, put_start};
+use crate::{PairList, PairsBegun};
+use error::{Refusal, Result, WbmpError};
 use ext::ExtFieldType;
 
 // Kind 00.
-fn check_octets(text: &[u8]) -> FieldsCheck
-    ensures { fields_length result ≡ map length (octets_bytes text.now) }
+fn check_octets(text: &[u8]) -> Result<usize>
+    ensures { answered result ≡ map length (octets_bytes text.now) }
 {
     if text.len() == 0 {
-        return refused(error::FIELDS_EMPTY);
+        return Err(WbmpError::new(Refusal::FieldsEmpty, 0));
     }
-    let mut i = 0;
-    while i < text.len() {
-        if 128 <= text[i] {
-            return refused(error::OCTET_BIT_7);
-        }
-        i += 1;
+    if !text.iter().all(|octet| *octet < 128) {
+        return Err(WbmpError::new(Refusal::OctetBit7, 0));
     }
-    FieldsCheck::Length(text.len())
+    Ok(text.len())
 }
 
 // Kinds 01 and 10: the first octet; surplus is ignored.
-fn check_octet(text: &[u8]) -> FieldsCheck
-    ensures { fields_length result ≡ octet_length text.now }
+fn check_octet(text: &[u8]) -> Result<usize>
+    ensures { answered result ≡ octet_length text.now }
 {
     if text.len() == 0 {
-        return refused(error::FIELDS_EMPTY);
+        return Err(WbmpError::new(Refusal::FieldsEmpty, 0));
     }
-    FieldsCheck::Length(1)
+    Ok(1)
 }
 
-// Kind 11, where the lengths are lent as numbers.
-pub fn check_lengths(text: &[u8], lengths: &[usize], strict: bool) -> FieldsCheck
-    ensures { ChecksPairs strict text.now lengths.now result }
+// Kind 11: how many bytes the pairs are, or why they are refused.
+pub fn check_pairs<P: PairList + Copy>(text: &[u8], pairs: P, strict: bool) -> Result<usize>
+    ensures { ChecksPairs strict text.now (P.lengths pairs) result }
 {
-    let s = check_pairs(text, lengths, strict);
-    pairs_length(text.len(), lengths.len(), s)
+    let count = pairs.count();
+    let mut s = check_start();
+    for i in 0..(count + 1) / 2 {
+        s = check_pair(
+            text,
+            s,
+            pairs.length(2 * i),
+            pairs.length(2 * i + 1),
+            strict,
+        );
+    }
+    pairs_length(text.len(), count, s)
 }
 
 // The check of fields of every kind, by that of the pairs.
-pub fn check_fields(ext_type: ExtFieldType, text: &[u8], found: FieldsCheck) -> FieldsCheck
+pub fn check_fields(ext_type: ExtFieldType, text: &[u8], found: Result<usize>) -> Result<usize>
     ensures { ChecksFields (kind_number ext_type) text.now found result }
 {
     match ext_type {
@@ -73,63 +79,57 @@ fn put_octets(text: &[u8], out: &mut [u8])
     requires { (length text.now ≤ length out.old) × Small text.now }
     ensures { out.new ≡ sets out.old 0 (continued text.now) }
 {
-    let mut i = 0;
-    while i < text.len() {
+    for i in 0..text.len() {
         out[i] = octet_byte(text[i], i + 1 < text.len());
-        i += 1;
     }
 }
 
 // Kind 00.
-fn write_octets(text: &[u8], out: &mut [u8]) -> Written
+fn write_octets(text: &[u8], out: &mut [u8]) -> Result<usize>
     ensures { Emits (octets_bytes text.now) (written result) out.old out.new }
 {
-    match check_octets(text) {
-        FieldsCheck::Length(len) => {
-            if out.len() < len {
-                return Written::refused(error::OUTPUT_TOO_SHORT);
-            }
-            put_octets(text, out);
-            Written::Bytes(len)
-        }
-        FieldsCheck::Refused(e) => Written::Refused(e),
+    let len = check_octets(text)?;
+    if out.len() < len {
+        return Err(WbmpError::new(Refusal::OutputTooShort, 0));
     }
+    put_octets(text, out);
+    Ok(len)
 }
 
 // Kinds 01 and 10.
-fn write_octet(text: &[u8], out: &mut [u8]) -> Written
+fn write_octet(text: &[u8], out: &mut [u8]) -> Result<usize>
     ensures { Emits (octet_bytes text.now) (written result) out.old out.new }
 {
     if text.len() == 0 {
-        return Written::refused(error::FIELDS_EMPTY);
+        return Err(WbmpError::new(Refusal::FieldsEmpty, 0));
     }
     if out.len() == 0 {
-        return Written::refused(error::OUTPUT_TOO_SHORT);
+        return Err(WbmpError::new(Refusal::OutputTooShort, 0));
     }
     out[0] = text[0];
-    Written::Bytes(1)
+    Ok(1)
 }
 
 // Kind 11: pairs that have room in an output of so many bytes are left to put, at its front.
-fn begin_pairs(found: FieldsCheck, end: usize) -> PairsBegun
+fn begin_pairs(found: Result<usize>, end: usize) -> PairsBegun
     ensures { BeginsPairs found end result }
 {
     match found {
-        FieldsCheck::Length(len) => {
+        Ok(len) => {
             if end < len {
                 return PairsBegun {
                     to: end,
-                    answer: Written::refused(error::OUTPUT_TOO_SHORT),
+                    answer: Err(WbmpError::new(Refusal::OutputTooShort, 0)),
                 };
             }
             PairsBegun {
                 to: 0,
-                answer: Written::Bytes(len),
+                answer: Ok(len),
             }
         }
-        FieldsCheck::Refused(e) => PairsBegun {
+        Err(e) => PairsBegun {
             to: end,
-            answer: Written::Refused(e),
+            answer: Err(e),
         },
     }
 }
@@ -138,7 +138,7 @@ fn begin_pairs(found: FieldsCheck, end: usize) -> PairsBegun
 pub fn begin_fields(
     ext_type: ExtFieldType,
     text: &[u8],
-    found: FieldsCheck,
+    found: Result<usize>,
     out: &mut [u8],
 ) -> PairsBegun
     ensures { BeginsFields (kind_number ext_type) text.now found out.old out.new result }
@@ -169,50 +169,69 @@ pub fn begin_fields(
     }
 }
 
-// The pairs that are left to put, where their lengths are lent as numbers; the answer is the one begun.
-pub fn put_lengths(text: &[u8], lengths: &[usize], begun: PairsBegun, out: &mut [u8]) -> Written
+// The pairs that are left to put; the answer is the one begun.
+pub fn put_pairs<P: PairList + Copy>(
+    text: &[u8],
+    pairs: P,
+    begun: PairsBegun,
+    out: &mut [u8],
+) -> Result<usize>
     ensures { (result ≡ begun.answer)
-        × (out.new ≡ put_pairs text.now lengths.now out.old (put_start begun.to)) }
+        × (out.new ≡ put_pairs text.now (P.lengths pairs) out.old (put_start begun.to)) }
 {
-    put_pairs(text, lengths, begun.to, out);
+    let count = pairs.count();
+    let mut s = put_start(begun.to);
+    for i in 0..(count + 1) / 2 {
+        let identifier_len = pairs.length(2 * i);
+        let value_len = pairs.length(2 * i + 1);
+        s = put_pair(
+            text,
+            s,
+            identifier_len,
+            value_len,
+            2 * i + 2 < count,
+            &mut *out,
+        );
+    }
     begun.answer
 }
 
-fn write_fields(
+fn write_fields<P: PairList + Copy>(
     ext_type: ExtFieldType,
     text: &[u8],
-    lengths: &[usize],
+    pairs: P,
     out: &mut [u8],
     strict: bool,
-) -> Written
-    ensures { Emits (lent_bytes strict (kind_number ext_type) text.now lengths.now)
+) -> Result<usize>
+    ensures { Emits (lent_bytes strict (kind_number ext_type) text.now (P.lengths pairs))
         (written result) out.old out.new }
 {
-    let found = check_lengths(text, lengths, strict);
+    let found = check_pairs(text, pairs, strict);
     let begun = begin_fields(ext_type, text, found, &mut *out);
-    put_lengths(text, lengths, begun, out)
+    put_pairs(text, pairs, begun, out)
 }
 
-pub fn write_ext_fields_lengths(
+pub fn write_ext_fields<P: PairList + Copy>(
     ext_type: ExtFieldType,
     text: &[u8],
-    lengths: &[usize],
+    pairs: P,
     out: &mut [u8],
-) -> Written
-    ensures { Emits (lent_bytes false (kind_number ext_type) text.now lengths.now)
+) -> Result<usize>
+    ensures { Emits (lent_bytes false (kind_number ext_type) text.now (P.lengths pairs))
         (written result) out.old out.new }
 {
-    write_fields(ext_type, text, lengths, out, false)
+    write_fields(ext_type, text, pairs, out, false)
 }
 
-pub fn write_ext_fields_lengths_strict(
+// The same, and the classes of pairs are tested.
+pub fn write_ext_fields_strict<P: PairList + Copy>(
     ext_type: ExtFieldType,
     text: &[u8],
-    lengths: &[usize],
+    pairs: P,
     out: &mut [u8],
-) -> Written
-    ensures { Emits (lent_bytes true (kind_number ext_type) text.now lengths.now)
+) -> Result<usize>
+    ensures { Emits (lent_bytes true (kind_number ext_type) text.now (P.lengths pairs))
         (written result) out.old out.new }
 {
-    write_fields(ext_type, text, lengths, out, true)
+    write_fields(ext_type, text, pairs, out, true)
 }

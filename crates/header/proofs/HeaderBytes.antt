@@ -1,11 +1,11 @@
 -- The bytes of a header that is written, and how many they are.
-use Prim.Native.Nat.{ℕ, ◌+◌, ◌-◌, ◌*◌, ◌^◌, ◌<◌, ◌≤◌}
+use Rattle.std.proofs.Common.{Option, None, Result, Err}
+use Rattle.ext.specs.declared.ExtFieldType.{ExtFieldType}
+use Prim.Native.Nat.{ℕ, ◌+◌, ◌-◌, ◌*◌, ◌<◌, ◌≤◌}
 use mathlib.Core.Path.{◌≡◌, ◌∙◌, refl, sym, ap, subst}
 use mathlib.Core.List.{List, [], ◌∷◌, ◌++◌}
 use mathlib.Core.Bool.{Bool, true, false}
 use native.Mathlib.Omega.{arith}
-use mir.Syntax.{w64}
-use mir.Val.{Fits}
 use lib.Dec.{eqb, leb}
 use borrow.Author.Tests.{eqb-true, leb-true}
 use borrow.Rule.Slice.PartMut.{mid_of, put_mid, mid_len, same_len_mid}
@@ -16,7 +16,6 @@ use Rattle.error.specs.Answer.{Answer, gives, refuses, bind, map, refusal, writt
 use Rattle.error.specs.Emits.{emitted, Emits}
 use Rattle.laws.proofs.Runs.{sets-append, sets-front, emits-part}
 use Rattle.laws.proofs.Writers.{emits-all}
-use Rattle.laws.proofs.Emitted.{emits-refused}
 use Rattle.mbi.specs.Bytes.{mbi_bytes, groups}
 use Rattle.mbi.proofs.Length.{bytes-five}
 use Rattle.laws.proofs.Tests.{zero_one}
@@ -24,14 +23,12 @@ use Rattle.ext.specs.Kinds.{Fields, bitfield, reserved, pairs}
 use Rattle.ext_write.specs.Internal.Left.{Left, none_left, pairs-left}
 use Rattle.ext_write.specs.declared.PairsBegun.{PairsBegun}
 use Rattle.error.specs.declared.WbmpError.{WbmpError}
-use Rattle.error.specs.declared.Written.{Written}
+use Rattle.error.specs.declared.Refusal.TheVariants.{OutputTooShort}
 use Rattle.ext_write.proofs.Begun.{short-emitted}
 use Rattle.ext_write.proofs.Stores.{sets-before, sets-mid}
 use Rattle.ext_write.specs.Write.{lent_fields, lent_bytes, fields_bytes, cut_pairs, sum}
 use Rattle.header.specs.Internal.Begin.{HasRoom}
 use Rattle.header.specs.Write.{size_bytes, header_bytes, plain_header, fix_byte, fields_header, lent_header, presented}
-use Rattle.header.specs.declared.ExtPresence.{ExtPresence}
-use Rattle.header.specs.declared.ExtPresence.TheVariants.{Absent}
 
 pub sizes-length : (w h : ℕ) → length (size_bytes w h) ≡ length (mbi_bytes w) + length (mbi_bytes h)
 sizes-length w h = length-append (mbi_bytes w) (mbi_bytes h)
@@ -69,7 +66,7 @@ length-given : (a : Answer (List ℕ)) (n : ℕ) (bytes : List ℕ) → gives n 
 length-given (gives b) n bytes e p = let q : b ≡ bytes = cc in let l : n ≡ length b = cc in l ∙ ap length q
 length-given (refuses code offset) n bytes e p = zero_one (cc)
 
-emitted-length : (a : Answer (List ℕ)) (old : List ℕ) (n end : ℕ) → gives n ≡ map length a → gives end ≡ emitted a old → end ≡ n
+pub emitted-length : (a : Answer (List ℕ)) (old : List ℕ) (n end : ℕ) → gives n ≡ map length a → gives end ≡ emitted a old → end ≡ n
 emitted-length (gives bytes) old n end e q = by-test (leb (length bytes) (length old)) q
   where
     by-test : (t : Bool) → gives end ≡ if t (gives (length bytes)) (refuses 25 0) → end ≡ n
@@ -119,39 +116,15 @@ module _ (strict : Bool) (w h kind : ℕ) (text lengths : List ℕ) where
           ap gives m ∙ ap (map length) (sym (lent_gives bytes e))
       go (refuses code offset) e q = zero_one (cc)
 
-  pub lent-refuses : (code offset : ℕ) → refuses code offset ≡ map length (lent_bytes strict kind text lengths)
-      → refuses code offset ≡ map length (lent_header strict w h kind text lengths)
-  lent-refuses code offset = go (lent_fields kind text lengths)
-    where
-      each : (f : Fields) (a : Answer (List ℕ)) → refuses code offset ≡ map length a → refuses code offset
-          ≡ map length (map (λ b. header_bytes (fix_byte f) b w h) a)
-      each f (gives bytes) q = zero_one (cc)
-      each f (refuses c p) q = q
-
-      go : (a : Answer Fields) → refuses code offset ≡ map length (bind a (fields_bytes strict)) → refuses code offset
-          ≡ map length (bind a (fields_header strict w h))
-      go (gives f) q = each f (fields_bytes strict f) q
-      go (refuses c p) q = q
-
   -- a header that is refused leaves no pairs
-  pub lent-short : (old : List ℕ) (n : ℕ) (b : PairsBegun) (a : Written) → b ≡ record { to = length old; answer = a } → a
-      ≡ Written.Refused (record { code = 25; offset = 0 })
+  pub lent-short : (old : List ℕ) (n : ℕ) (b : PairsBegun) (e : WbmpError) → b ≡ record { to = length old; answer = Err e } → e
+      ≡ record { kind = OutputTooShort; offset = 0 }
       → gives n ≡ map length (lent_bytes strict kind text lengths) → length old < 2 + length (size_bytes w h) + n
       → Left strict text lengths old b (Emits (lent_header strict w h kind text lengths) (written b.answer) old)
-  lent-short old n b a e f g k =
-      none_left (ap (λ (x : PairsBegun). x.to) e)
-      (short-emitted (lent_header strict w h kind text lengths) (2 + length (size_bytes w h) + n) old (written b.answer)
-      (ap (λ (x : PairsBegun). written x.answer) e ∙ ap written f) (lent_length n g) k)
-
-  pub lent-refused : (old : List ℕ) (code offset : ℕ) (b : PairsBegun) (e : WbmpError) → b
-      ≡ record { to = length old; answer = Written.Refused e }
-      → refusal e ≡ map length (lent_bytes strict kind text lengths)
-      → Left strict text lengths old b (Emits (lent_header strict w h kind text lengths) (written b.answer) old)
-  lent-refused old code offset b e q g =
+  lent-short old n b e q f g k =
       none_left (ap (λ (x : PairsBegun). x.to) q)
-      (subst (λ (r : Answer ℕ). Emits (lent_header strict w h kind text lengths) r old old)
-      (sym (ap (λ (x : PairsBegun). written x.answer) q))
-      (emits-refused (lent_header strict w h kind text lengths) e.code e.offset old (lent-refuses e.code e.offset g)))
+      (short-emitted (lent_header strict w h kind text lengths) (2 + length (size_bytes w h) + n) old (written b.answer)
+      (ap (λ (x : PairsBegun). written x.answer) q ∙ ap (λ (x : WbmpError). refusal x) f) (lent_length n g) k)
 
   -- its parts: the sizes first, then the fields before them
   lent-put : (old : List ℕ) (n : ℕ) (bytes : List ℕ) → lent_bytes strict kind text lengths ≡ gives bytes → n ≡ length bytes
@@ -227,17 +200,16 @@ module _ (strict : Bool) (w h kind : ℕ) (text lengths : List ℕ) where
           ended end q = emitted-length (lent_bytes strict kind text lengths) (mid_of 2 (length l - 2) l) n end e q
 
 -- what is answered is within the output
-pub none_within : (new : List ℕ) (b : PairsBegun) (x : Written) (e : WbmpError) (to : ℕ) → b ≡ record { to = to; answer = x } → x
-    ≡ Written.Refused e → HasRoom b new
-none_within new b x e to q f n g =
-    let r : written b.answer ≡ refusal e = ap (λ (y : PairsBegun). written y.answer) q ∙ ap written f in
+pub none_within : (new : List ℕ) (b : PairsBegun) (e : WbmpError) (to : ℕ) → b ≡ record { to = to; answer = Err e } → HasRoom b new
+none_within new b e to q n g =
+    let r : written b.answer ≡ refusal e = ap (λ (y : PairsBegun). written y.answer) q in
     zero_one (cc)
 
 pub bytes-within : (old new : List ℕ) (b : PairsBegun) (n : ℕ) → written b.answer ≡ gives n → 0 < n → n ≤ length old → length new
     ≡ length old → HasRoom b new
 bytes-within old new b n e h k l m f = let q : n ≡ m = cc in (omega arith, omega arith)
 
-pub plain-within : (w h : ℕ) (old new : List ℕ) (b : PairsBegun) (x : Written) (to : ℕ) → b ≡ record { to = to; answer = x } → length new
+pub plain-within : (w h : ℕ) (old new : List ℕ) (b : PairsBegun) (x : Result ℕ WbmpError) (to : ℕ) → b ≡ record { to = to; answer = x } → length new
     ≡ length old
     → Emits (plain_header w h) (written x) old new → HasRoom b new
 plain-within w h old new b x to q l m n e = by-test (leb (length (header_bytes 0 [] w h)) (length old)) refl
@@ -251,30 +223,16 @@ plain-within w h old new b x to q l m n e = by-test (leb (length (header_bytes 0
         (omega (arith, header-length 0 [] w h), omega arith)
     by-test false t r = zero_one (cc)
 
--- the place of the first pair is a number of the machine
-pub fits-two : (to : ℕ) (l part : List ℕ) (n : ℕ) → to ≤ length part → length part ≡ length (mid_of 2 (length l - 2) l) → length l ≡ n
-    → 2 ≤ n → n < 2 ^ 64 → Fits w64 (2 + to)
-fits-two to l part n h k e f g = record { fits = omega (arith, mid_len 2 (length l) l (omega arith)) }
-
--- A size of 0 is refused first.
-pub zero_left : (strict : Bool) (text lengths old : List ℕ) (b : PairsBegun) (x : Written) (t : Bool) (a : Answer (List ℕ)) → b
-    ≡ record { to = length old; answer = x }
-    → x ≡ Written.Refused (record { code = 8; offset = 0 }) → t ≡ true
-    → Left strict text lengths old b (Emits (if t (refuses 8 0) a) (written b.answer) old)
-zero_left strict text lengths old b x t a e f q =
-    let r : written b.answer ≡ refuses 8 0 = ap (λ (y : PairsBegun). written y.answer) e ∙ ap written f in
-    none_left (ap (λ (y : PairsBegun). y.to) e) (rw (q, r) (record { answer = refl; bytes = refl }))
-
 -- What is left of the fields that are lent, or of none.
 module _ (strict : Bool) (w h : ℕ) (text lengths old new : List ℕ) (b : PairsBegun) where
-  pub presence-left : (t : Bool) (p q : ExtPresence) → t ≡ false → p ≡ q
+  pub presence-left : (t : Bool) (p q : Option ExtFieldType) → t ≡ false → p ≡ q
       → Left strict text lengths new b (Emits (bind (presented q text lengths) (fields_header strict w h)) (written b.answer) old)
       → Left strict text lengths new b (Emits (if t (refuses 8 0) (bind (presented p text lengths) (fields_header strict w h)))
       (written b.answer) old)
   presence-left t p q e f m = rw (e, f) m
 
-  pub absent-left : (x : Written) → b ≡ record { to = length new; answer = x } → Emits (plain_header w h) (written x) old new
-      → Left strict text lengths new b (Emits (bind (presented Absent text lengths) (fields_header strict w h)) (written b.answer) old)
+  pub absent-left : (x : Result ℕ WbmpError) → b ≡ record { to = length new; answer = x } → Emits (plain_header w h) (written x) old new
+      → Left strict text lengths new b (Emits (bind (presented None text lengths) (fields_header strict w h)) (written b.answer) old)
   unfolding fields_bytes
   absent-left x e m =
       none_left (ap (λ (y : PairsBegun). y.to) e) (subst (λ (r : Answer ℕ). Emits (plain_header w h) r old new)

@@ -1,6 +1,6 @@
 -- From what a part of a header answered to what the header's reading answers.
 use Prim.Native.Nat.{ℕ, ◌+◌, ◌-◌, ◌≤◌}
-use mathlib.Core.Path.{◌≡◌, ◌∙◌, refl, sym, ap}
+use mathlib.Core.Path.{◌≡◌, ◌∙◌, refl, ap}
 use mathlib.Core.Bool.{Bool, true, false, ◌||◌}
 use mathlib.Core.List.{List}
 use native.Mathlib.Omega.{arith}
@@ -9,21 +9,14 @@ use lib.ListN.{length}
 use Rattle.error.specs.Choice.{if}
 use Rattle.error.specs.Answer.{Answer, gives, refuses, bind, map}
 use Rattle.laws.proofs.Tests.{zero_one}
-use Rattle.mbi.specs.Read.{read_mbi, meaning as integer_read}
-use Rattle.mbi.specs.declared.MbiRead.{MbiRead}
-use Rattle.ext.specs.Kinds.{Fields, none, Span, absent, span, span_of, meaning as fields_read}
+use Rattle.mbi.specs.Read.{read_mbi}
+use Rattle.ext.specs.Kinds.{Fields, none, Span, absent, span, span_of, fields_span}
 use Rattle.ext.specs.Read.{read_fields}
-use Rattle.ext.specs.declared.ExtRead.{ExtRead}
 use Rattle.ext.specs.declared.ExtFields.{ExtFields}
 use Rattle.ext.proofs.Bounds.{fields-bound}
 use Rattle.ext.proofs.Spans.{span-is}
 use Rattle.header.specs.Settings.{Settings}
-use Rattle.header.specs.Read.{Outline, outline, read_height, read_sizes, read_fix, read_header, sized, outline_height, outline_sizes}
-
--- go on from what reading an integer answered
-pub on-integer : {B : Type 0} (r x : MbiRead) (a : Answer (ℕ × ℕ)) (k : ℕ × ℕ → Answer B) → integer_read r ≡ a → r ≡ x
-    → bind a k ≡ bind (integer_read x) k
-on-integer r x a k p e = ap (λ (y : Answer (ℕ × ℕ)). bind y k) (sym p ∙ ap integer_read e)
+use Rattle.header.specs.Read.{Outline, outline, read_height, read_sizes, sized, outline_height, outline_sizes}
 
 module _ (o : Settings) (s : List ℕ) (fix start : ℕ) where
   -- the sizes by themselves
@@ -58,12 +51,12 @@ module _ (o : Settings) (s : List ℕ) (fix start : ℕ) where
   sizes_after absent = outline_sizes o.shortest s fix absent start
   sizes_after (span kind at len count) = outline_sizes o.shortest s fix (span kind at len count) (at + len)
 
-  pub after-fields : (strict follow : Bool) (kind : ℕ)
+  pub after_fields : (strict follow : Bool) (kind : ℕ)
       → map outline (bind (read_fields strict follow kind s start) (read_sizes o s fix start))
       ≡ bind (map (span_of start) (read_fields strict follow kind s start)) sizes_after
   unfolding read_fields
-  after-fields strict false kind = sizes-outline (none, start)
-  after-fields strict true kind = each (read_fields strict true kind s start) refl
+  after_fields strict false kind = sizes-outline (none, start)
+  after_fields strict true kind = each (read_fields strict true kind s start) refl
     where
       each : (x : Answer (Fields × ℕ)) → read_fields strict true kind s start ≡ x
           → map outline (bind x (read_sizes o s fix start)) ≡ bind (map (span_of start) x) sizes_after
@@ -75,21 +68,14 @@ module _ (o : Settings) (s : List ℕ) (fix start : ℕ) where
           ∙ rw i
       each (refuses code offset) e = refl
 
-  -- go on from what reading the fields answered
-  pub on-fields : (strict follow : Bool) (kind : ℕ) (r x : ExtRead) → fields_read r
-      ≡ map (span_of start) (read_fields strict follow kind s start) → r ≡ x
-      → map outline (bind (read_fields strict follow kind s start) (read_sizes o s fix start)) ≡ bind (fields_read x) sizes_after
-  on-fields strict follow kind r x p e =
-      after-fields strict follow kind ∙ ap (λ (a : Answer Span). bind a sizes_after) (sym p ∙ ap fields_read e)
-
 -- fields that were read end within the file
-pub fields-end : (strict follow : Bool) (kind : ℕ) (s : List ℕ) (at : ℕ) (r : ExtRead) (f : ExtFields)
-    → fields_read r ≡ map (span_of at) (read_fields strict follow kind s at) → r ≡ ExtRead.Fields f → f.start + f.len ≤ length s
+pub fields_end : (strict follow : Bool) (kind : ℕ) (s : List ℕ) (at : ℕ) (f : ExtFields)
+    → gives (fields_span f) ≡ map (span_of at) (read_fields strict follow kind s at) → f.start + f.len ≤ length s
 unfolding read_fields
-fields-end strict false kind s at r f p e = zero_one (cc)
-fields-end strict true kind s at r f p e = each (read_fields strict true kind s at) refl (sym p ∙ ap fields_read e)
+fields_end strict false kind s at f e = zero_one (cc)
+fields_end strict true kind s at f e = each (read_fields strict true kind s at) refl e
   where
-    each : (x : Answer (Fields × ℕ)) → read_fields strict true kind s at ≡ x → map (span_of at) x ≡ fields_read (ExtRead.Fields f)
+    each : (x : Answer (Fields × ℕ)) → read_fields strict true kind s at ≡ x → gives (fields_span f) ≡ map (span_of at) x
         → f.start + f.len ≤ length s
     each (gives y) q z =
         let b = fields-bound strict true kind s at y q in
@@ -104,15 +90,3 @@ pub no_fields : (o : Settings) (s : List ℕ) (fix start : ℕ) (strict : Bool) 
     → map outline (bind (read_fields strict false kind s start) (read_sizes o s fix start)) ≡ outline_sizes o.shortest s fix absent start
 unfolding read_fields
 no_fields o s fix start strict kind = sizes-outline o s fix start (none, start)
-
--- go on from the type
-pub type-on : (o : Settings) (s : List ℕ) (r x : MbiRead) → integer_read r ≡ read_mbi o.shortest s 0 → r ≡ x
-    → map outline (read_header o s) ≡ bind (integer_read x) (λ t. map outline (if (eqb t.0 0) (read_fix o s t.1) (refuses 5 t.1)))
-unfolding read_header
-type-on o s r x p e = each (read_mbi o.shortest s 0) ∙ on-integer r x _ _ p e
-  where
-    each : (a : Answer (ℕ × ℕ))
-        → map outline (bind a (λ t. if (eqb t.0 0) (read_fix o s t.1) (refuses 5 t.1)))
-        ≡ bind a (λ t. map outline (if (eqb t.0 0) (read_fix o s t.1) (refuses 5 t.1)))
-    each (gives t) = refl
-    each (refuses code offset) = refl

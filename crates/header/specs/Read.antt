@@ -1,15 +1,13 @@
 -- Reading a header (document 01, header.rs): "Type, FixHeader, fields, width, height".
-use Rattle.std.specs.Prelude.{ℕ, ◌+◌, Bool, ◌&&◌, ◌||◌, List, ltb, leb, eqb, length, get_or}
+use Rattle.std.specs.Prelude.{ℕ, ◌+◌, Bool, ◌&&◌, ◌||◌, List, ltb, leb, eqb, length, get_or, Result}
+use Rattle.error.specs.declared.WbmpError.{WbmpError}
 use Rattle.error.specs.Choice.{if}
-use Rattle.error.specs.Answer.{Answer, gives, refuses, bind, refusal}
+use Rattle.error.specs.Answer.{Answer, gives, refuses, answered, bind, map}
 use Rattle.mbi.specs.Read.{read_mbi}
-use Rattle.ext.specs.Kinds.{Fields, Span, absent, span_of, fields_span, fields_follow, kind_bits}
+use Rattle.ext.specs.Kinds.{Fields, Span, span_of, ext_span, fields_follow, kind_bits}
 use Rattle.ext.specs.Read.{read_fields}
 use Rattle.header.specs.Settings.{Settings}
 use Rattle.header.specs.declared.ParsedHeader.{ParsedHeader}
-use Rattle.header.specs.declared.HeaderFields.{HeaderFields}
-use Rattle.header.specs.declared.HeaderFields.TheVariants.{Absent}
-use Rattle.header.specs.declared.HeaderRead.{HeaderRead}
 
 pub record Header : Type 0 where
   pub width : ℕ
@@ -72,10 +70,6 @@ abbrev pub outline_sizes : Bool → List ℕ → ℕ → Span → ℕ → Answer
 outline_sizes shortest s fix f at = bind (read_mbi shortest s at) (outline_height shortest s fix f)
 
 -- what the code's values mean
-abbrev pub ext_span : HeaderFields → Span
-ext_span Absent = absent
-ext_span (HeaderFields.Fields f) = fields_span f
-
 abbrev pub parsed : ParsedHeader → Outline
 parsed h =
     record {
@@ -86,6 +80,5 @@ parsed h =
       body = h.data_offset;
     }
 
-abbrev pub meaning : HeaderRead → Answer Outline
-meaning (HeaderRead.Header h) = gives (parsed h)
-meaning (HeaderRead.Refused e) = refusal e
+abbrev pub meaning : Result ParsedHeader WbmpError → Answer Outline
+meaning r = map parsed (answered r)

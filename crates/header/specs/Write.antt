@@ -1,12 +1,11 @@
 -- Writing a header (document 01, header.rs and "Refused").
-use Rattle.std.specs.Prelude.{ℕ, ◌+◌, ◌*◌, Bool, ◌||◌, List, [], ◌∷◌, ◌++◌, eqb}
+use Rattle.std.specs.Prelude.{ℕ, ◌+◌, ◌*◌, Bool, ◌||◌, List, [], ◌∷◌, ◌++◌, eqb, Option, Some, None}
+use Rattle.ext.specs.declared.ExtFieldType.{ExtFieldType}
 use Rattle.error.specs.Choice.{if}
 use Rattle.error.specs.Answer.{Answer, gives, refuses, bind, map}
 use Rattle.mbi.specs.Bytes.{mbi_bytes}
 use Rattle.ext.specs.Kinds.{Fields, none, bitfield, reserved, pairs, kind_number}
 use Rattle.ext_write.specs.Write.{fields_bytes, lent_fields}
-use Rattle.header.specs.declared.ExtPresence.{ExtPresence}
-use Rattle.header.specs.declared.ExtPresence.TheVariants.{Absent, Present}
 
 -- the FixHeader byte of fields: bit 7 says that they follow, bits 6-5 their kind
 abbrev pub fix_byte : Fields → ℕ
@@ -31,15 +30,15 @@ abbrev pub fields_header : Bool → ℕ → ℕ → Fields → Answer (List ℕ)
 fields_header strict width height f = map (λ bytes. header_bytes (fix_byte f) bytes width height) (fields_bytes strict f)
 
 -- the fields that are lent to be written
-abbrev pub presented : ExtPresence → List ℕ → List ℕ → Answer Fields
-presented Absent text lengths = gives none
-presented (Present kind) text lengths = lent_fields (kind_number kind) text lengths
+abbrev pub presented : Option ExtFieldType → List ℕ → List ℕ → Answer Fields
+presented None text lengths = gives none
+presented (Some kind) text lengths = lent_fields (kind_number kind) text lengths
 
 -- the header of fields that are lent
 abbrev pub lent_header : Bool → ℕ → ℕ → ℕ → List ℕ → List ℕ → Answer (List ℕ)
 lent_header strict width height kind text lengths = bind (lent_fields kind text lengths) (fields_header strict width height)
 
 -- "`write_header_ext` refuses them" (8, before the fields' own refusals)
-abbrev pub ext_header : Bool → ℕ → ℕ → ExtPresence → List ℕ → List ℕ → Answer (List ℕ)
+abbrev pub ext_header : Bool → ℕ → ℕ → Option ExtFieldType → List ℕ → List ℕ → Answer (List ℕ)
 ext_header strict width height presence text lengths =
     if (eqb width 0 || eqb height 0) (refuses 8 0) (bind (presented presence text lengths) (fields_header strict width height))

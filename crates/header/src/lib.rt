@@ -1,14 +1,13 @@
 // Headers, read whole and written: Type, FixHeader, fields, Width, Height (WAP 4.4.1).
 #![tactic(auto)]
 
-use error::WbmpError;
 use ext::{ExtFieldType, ExtFields};
 
 mod read;
 mod write;
 
 pub use read::{parse_header_ext_inner, parse_header_inner, parse_header_mode};
-pub use write::{begin_header, write_header, write_header_ext, write_header_ext_lengths};
+pub use write::{begin_header, write_header, write_header_ext};
 
 // What a header reader demands and honours. Each reader of the Rust is one choice of these.
 #[derive(Clone, Copy)]
@@ -23,31 +22,11 @@ pub struct HeaderMode {
     pub classes: bool,
 }
 
-// The fields of a header that was read.
-#[derive(Clone, Copy)]
-pub enum HeaderFields {
-    Absent,
-    Fields(ExtFields),
-}
-
 #[derive(Clone, Copy)]
 pub struct ParsedHeader {
     pub width: u32,
     pub height: u32,
     pub data_offset: usize,
     pub fix_header: u8,
-    pub ext_fields: HeaderFields,
-}
-
-#[derive(Clone, Copy)]
-pub enum HeaderRead {
-    Header(ParsedHeader),
-    Refused(WbmpError),
-}
-
-// The fields of a header to be written: none, or those of a kind.
-#[derive(Clone, Copy)]
-pub enum ExtPresence {
-    Absent,
-    Present(ExtFieldType),
+    pub ext_fields: Option<ExtFields>,
 }

@@ -7,18 +7,16 @@ ghost use Rattle.mbi.specs.Bytes.{mbi_bytes};
 ghost use Rattle.header.specs.Write.{plain_header, size_bytes, ext_header};
 ghost use Rattle.header.specs.Internal.Begin.{BeginsLent, BeginsHeader};
 ghost use Rattle.ext.specs.Kinds.{kind_number};
-ghost use Rattle.ext_write.specs.Write.{flattened};
 
-use crate::ExtPresence;
-use error::{OUTPUT_TOO_SHORT, Written, ZERO_DIMENSION};
+use error::{Refusal, Result, WbmpError};
 use ext::ExtFieldType;
-use ext_write::{FieldsCheck, PairsBegun, Parameter};
+use ext_write::{PairList, PairsBegun};
 
-// The bytes of both sizes.
-fn sizes_len(width: u32, height: u32) -> usize
-    ensures { result ≡ length (size_bytes width height) }
+// How many bytes a header has without fields.
+fn plain_len(width: u32, height: u32) -> usize
+    ensures { result ≡ 2 + length (size_bytes width height) }
 {
-    mbi::mbi_u32_len(width) + mbi::mbi_u32_len(height)
+    2 + mbi::mbi_u32_len(width) + mbi::mbi_u32_len(height)
 }
 
 // An integer, from an index on; the answer is the index after it.
@@ -26,8 +24,7 @@ fn put_integer(value: u32, out: &mut [u8], at: usize) -> usize
     requires { at + length (mbi_bytes value) ≤ length out.old }
     ensures { (result ≡ at + length (mbi_bytes value)) × (out.new ≡ sets out.old at (mbi_bytes value)) }
 {
-    mbi::write_mbi_u32(value, &mut out[at..]);
-    at + mbi::mbi_u32_len(value)
+    at + mbi::write_mbi_u32(value, &mut out[at..]).unwrap()
 }
 
 // Both sizes, from an index on.
@@ -40,33 +37,28 @@ fn put_sizes(width: u32, height: u32, out: &mut [u8], at: usize)
 }
 
 // A header without fields; sizes of 0 are written.
-pub fn write_header(width: u32, height: u32, out: &mut [u8]) -> Written
+pub fn write_header(width: u32, height: u32, out: &mut [u8]) -> Result<usize>
     ensures { Emits (plain_header width height) (written result) out.old out.new }
 {
-    let total = 2 + sizes_len(width, height);
+    let total = plain_len(width, height);
     if out.len() < total {
-        return Written::refused(OUTPUT_TOO_SHORT);
+        return Err(WbmpError::new(Refusal::OutputTooShort, 0));
     }
     out[0] = 0;
     out[1] = 0;
     put_sizes(width, height, out, 2);
-    Written::Bytes(total)
+    Ok(total)
 }
 
 // The FixHeader byte of fields: bit 7 says that they follow, bits 6-5 their kind.
 fn fix_byte(ext_type: ExtFieldType) -> u8
     ensures { result ≡ 128 + kind_number ext_type * 32 }
 {
-    match ext_type {
-        ExtFieldType::Bitfield00 => 128,
-        ExtFieldType::Reserved01 => 160,
-        ExtFieldType::Reserved10 => 192,
-        ExtFieldType::ParameterPairs11 => 224,
-    }
+    128 + (ext_type as u8) * 32
 }
 
 // A refusal, where no pairs are left to put in an output of so many bytes.
-fn none_begun(to: usize, answer: Written) -> PairsBegun
+fn none_begun(to: usize, answer: Result<usize>) -> PairsBegun
     ensures { result ≡ record { to = to; answer = answer } }
 {
     PairsBegun { to, answer }
@@ -78,19 +70,16 @@ fn begin_fields_header(
     height: u32,
     ext_type: ExtFieldType,
     text: &[u8],
-    found: FieldsCheck,
+    found: Result<usize>,
     out: &mut [u8],
 ) -> PairsBegun
     ensures { BeginsLent width height (kind_number ext_type) text.now found out.old out.new result }
 {
     match ext_write::check_fields(ext_type, text, found) {
-        FieldsCheck::Length(len) => {
-            let around = 2 + sizes_len(width, height);
-            if out.len() < around {
-                return none_begun(out.len(), Written::refused(OUTPUT_TOO_SHORT));
-            }
-            if out.len() - around < len {
-                return none_begun(out.len(), Written::refused(OUTPUT_TOO_SHORT));
+        Ok(len) => {
+            let total = plain_len(width, height).saturating_add(len);
+            if out.len() < total {
+                return none_begun(out.len(), Err(WbmpError::new(Refusal::OutputTooShort, 0)));
             }
             out[0] = 0;
             out[1] = fix_byte(ext_type);
@@ -98,10 +87,10 @@ fn begin_fields_header(
             let begun = ext_write::begin_fields(ext_type, text, found, &mut out[2..]);
             PairsBegun {
                 to: 2 + begun.to,
-                answer: Written::Bytes(around + len),
+                answer: Ok(total),
             }
         }
-        FieldsCheck::Refused(e) => none_begun(out.len(), Written::Refused(e)),
+        Err(e) => none_begun(out.len(), Err(e)),
     }
 }
 
@@ -109,62 +98,39 @@ fn begin_fields_header(
 pub fn begin_header(
     width: u32,
     height: u32,
-    ext: ExtPresence,
+    ext: Option<ExtFieldType>,
     text: &[u8],
-    found: FieldsCheck,
+    found: Result<usize>,
     out: &mut [u8],
 ) -> PairsBegun
     ensures { BeginsHeader width height ext text.now found out.old out.new result }
 {
-    if width == 0 {
-        return none_begun(out.len(), Written::refused(ZERO_DIMENSION));
-    }
-    if height == 0 {
-        return none_begun(out.len(), Written::refused(ZERO_DIMENSION));
+    if width == 0 || height == 0 {
+        return none_begun(out.len(), Err(WbmpError::new(Refusal::ZeroDimension, 0)));
     }
     match ext {
-        ExtPresence::Absent => {
+        None => {
             let answer = write_header(width, height, out);
             none_begun(out.len(), answer)
         }
-        ExtPresence::Present(ext_type) => begin_fields_header(
-            width, height, ext_type, text, found, out,
-        ),
+        Some(ext_type) => begin_fields_header(width, height, ext_type, text, found, out),
     }
 }
 
-// A header whose fields are lent with the lengths of their pairs as numbers.
-pub fn write_header_ext_lengths(
+// A header with the lent fields or none.
+pub fn write_header_ext<P: PairList + Copy>(
     width: u32,
     height: u32,
-    ext: ExtPresence,
+    ext: Option<ExtFieldType>,
     text: &[u8],
-    lengths: &[usize],
+    pairs: P,
     strict: bool,
     out: &mut [u8],
-) -> Written
-    ensures { Emits (ext_header strict width height ext text.now lengths.now)
+) -> Result<usize>
+    ensures { Emits (ext_header strict width height ext text.now (P.lengths pairs))
         (written result) out.old out.new }
 {
-    let found = ext_write::check_lengths(text, lengths, strict);
+    let found = ext_write::check_pairs(text, pairs, strict);
     let begun = begin_header(width, height, ext, text, found, &mut *out);
-    ext_write::put_lengths(text, lengths, begun, out)
-}
-
-// A header whose fields are lent with their pairs as records.
-pub fn write_header_ext(
-    width: u32,
-    height: u32,
-    ext: ExtPresence,
-    text: &[u8],
-    parameters: &[Parameter],
-    strict: bool,
-    out: &mut [u8],
-) -> Written
-    ensures { Emits (ext_header strict width height ext text.now (flattened parameters.now))
-        (written result) out.old out.new }
-{
-    let found = ext_write::check_parameters(text, parameters, strict);
-    let begun = begin_header(width, height, ext, text, found, &mut *out);
-    ext_write::put_parameters(text, parameters, begun, out)
+    ext_write::put_pairs(text, pairs, begun, out)
 }

@@ -14,7 +14,7 @@ use Rattle.ext.proofs.Continuation.{fields_in}
 use Rattle.header.specs.Settings.{Settings}
 use Rattle.header_reader.specs.Internal.Machine.{State, in_type, at_fix, in_octets, at_octet, at_pair, in_identifier, in_value, in_width}
 use Rattle.header_reader.specs.Internal.Machine.{in_height, start, Step, more, done, refused, on_byte, step_of, steps}
-use Rattle.header_reader.specs.Internal.Represents.{Reachable}
+use Rattle.header_reader.specs.Internal.Standing.{Reachable}
 use Rattle.header_reader.specs.Internal.Pieces.{onward}
 use Rattle.header_reader.proofs.Machine.{steps-cons}
 use Rattle.header_reader.proofs.StepReachable.{ReachableStep, reachable-step, value-kept}

@@ -9,7 +9,7 @@ use Rattle.ext.specs.Kinds.{Span, absent, span}
 use Rattle.ext.specs.Read.{read_fields, read_pairs, read_pair}
 use Rattle.header.specs.Settings.{Settings, ext_inner}
 use Rattle.header_reader.specs.Internal.Machine.{State, start, in_fields, Step, more, done, refused, step_of, steps, at_pair, in_identifier}
-use Rattle.header_reader.specs.Internal.Represents.{Reachable}
+use Rattle.header_reader.specs.Internal.Standing.{Reachable}
 use Rattle.header_reader.specs.Internal.Pieces.{onward}
 use Rattle.header_reader.proofs.Machine.{steps-cons}
 use Rattle.header_reader.proofs.StepReachable.{ReachableStep, reachable-step, reachable-steps, reachable-start}

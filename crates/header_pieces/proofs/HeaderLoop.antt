@@ -1,5 +1,5 @@
 -- A piece that is fed: what holds before each of its bytes, and what one byte more comes to.
-use Rattle.std.proofs.Common.{◌≡◌, ℕ, ◌+◌, ◌%◌, ◌^◌, ◌<◌, ◌≤◌, Bool, ◌&&◌, ltb, List, [], ◌∷◌, ◌++◌, length, get_or, take, drop, sym, refl, ap, ◌∙◌, subst, append_assoc, append-nil, mod-eq_of_lt, add-one, arith, length-append, take_all, take-suc}
+use Rattle.std.proofs.Common.{◌≡◌, ℕ, ◌+◌, ◌%◌, ◌^◌, ◌<◌, ◌≤◌, Bool, ◌&&◌, ltb, List, [], ◌∷◌, ◌++◌, length, get_or, take, drop, sym, refl, ap, ◌∙◌, subst, append_assoc, append-nil, mod-eq_of_lt, add-one, arith, length-append, take_all, take-suc, Result, Ok, Err}
 use mathlib.Core.Path.{subst⁻¹}
 use lib.Seq.{sets, split_at, drop-length}
 use Rattle.error.specs.Answer.{gives, map}
@@ -32,7 +32,7 @@ pub record Going (o : Settings) (bytes piece ext₀ : List ℕ) (at kept i : ℕ
   pub stored : Stored ext₀ kept (field_bytes o (bytes ++ take i piece)) count ext
 
 -- what the code does with byte i
-pub record Turn (piece : List ℕ) (at i : ℕ) (r : HeaderReader) (count : ℕ) (ext : List ℕ) (x : HeaderStep) (count' : ℕ)
+pub record Turn (piece : List ℕ) (at i : ℕ) (r : HeaderReader) (count : ℕ) (ext : List ℕ) (x : Result HeaderStep WbmpError) (count' : ℕ)
     (ext' : List ℕ) : Type 0 where
   pub within : i < length piece
   pub big : 4118 ≤ length ext
@@ -44,23 +44,23 @@ pub record Turn (piece : List ℕ) (at i : ℕ) (r : HeaderReader) (count : ℕ)
   pub keeps : Keeps count (get_or piece i 0) wanted ext count' ext'
 
 -- what `Heads` promises of one reading
-abbrev pub Headed : Settings → List ℕ → List ℕ → List ℕ → ℕ → HeadFed → List ℕ → Type 0
+abbrev pub Headed : Settings → List ℕ → List ℕ → List ℕ → ℕ → Result HeadFed WbmpError → List ℕ → Type 0
 Headed o bytes piece ext kept r ext' =
     Ends o bytes piece r × (ext' ≡ sets ext kept (drop kept (field_bytes o (bytes ++ piece))))
 
 -- the code's test and the law's agree
-kept-as : (o : Settings) (st : State) (at : ℕ) (x : HeaderStep) (y : Step) → Answers o x y → is_kept (in_fields st) at x ≡ stores st at y
-kept-as o st at (HeaderStep.More r) (more s) h = refl
-kept-as o st at (HeaderStep.More r) (done g) h = absurd h
-kept-as o st at (HeaderStep.More r) (refused code place) h = absurd h
-kept-as o st at (HeaderStep.Done p) (more s) h = absurd h
-kept-as o st at (HeaderStep.Done p) (done g) h = refl
-kept-as o st at (HeaderStep.Done p) (refused code place) h = absurd h
-kept-as o st at (HeaderStep.Refused e) (more s) h = absurd h
-kept-as o st at (HeaderStep.Refused e) (done g) h = absurd h
-kept-as o st at (HeaderStep.Refused e) (refused code place) h = ap (λ (n : ℕ). in_fields st && ltb at n) h.1
+kept-as : (o : Settings) (st : State) (at : ℕ) (x : Result HeaderStep WbmpError) (y : Step) → Answers o x y → is_kept (in_fields st) at x ≡ stores st at y
+kept-as o st at (Ok (HeaderStep.More r)) (more s) h = refl
+kept-as o st at (Ok (HeaderStep.More r)) (done g) h = absurd h
+kept-as o st at (Ok (HeaderStep.More r)) (refused code place) h = absurd h
+kept-as o st at (Ok (HeaderStep.Done p)) (more s) h = absurd h
+kept-as o st at (Ok (HeaderStep.Done p)) (done g) h = refl
+kept-as o st at (Ok (HeaderStep.Done p)) (refused code place) h = absurd h
+kept-as o st at (Err e) (more s) h = absurd h
+kept-as o st at (Err e) (done g) h = absurd h
+kept-as o st at (Err e) (refused code place) h = ap (λ (n : ℕ). in_fields st && ltb at n) h.1
 
-module _ (o : Settings) (bytes piece ext₀ : List ℕ) (at kept i : ℕ) (r : HeaderReader) (count : ℕ) (ext : List ℕ) (x : HeaderStep)
+module _ (o : Settings) (bytes piece ext₀ : List ℕ) (at kept i : ℕ) (r : HeaderReader) (count : ℕ) (ext : List ℕ) (x : Result HeaderStep WbmpError)
     (count' : ℕ) (ext' : List ℕ)
     (g : Going o bytes piece ext₀ at kept i r count ext) (t : Turn piece at i r count ext x count' ext') where
   abbrev b : ℕ
@@ -104,13 +104,13 @@ module _ (o : Settings) (bytes piece ext₀ : List ℕ) (at kept i : ℕ) (r : H
       ∙ ap (λ (k : Step). after o k (drop (i + 1) piece)) e
 
   -- it goes on
-  pub turn_more : (next : HeaderReader) → x ≡ HeaderStep.More next → Going o bytes piece ext₀ at kept (i + 1) next count' ext'
+  pub turn_more : (next : HeaderReader) → x ≡ Ok (HeaderStep.More next) → Going o bytes piece ext₀ at kept (i + 1) next count' ext'
   unfolding steps
-  turn_more next e = go (step_of o st b) refl (subst (λ (k : HeaderStep). Answers o k (step_of o st b)) e answers)
+  turn_more next e = go (step_of o st b) refl (subst (λ (k : Result HeaderStep WbmpError). Answers o k (step_of o st b)) e answers)
     where
-      go : (y : Step) → step_of o st b ≡ y → Answers o (HeaderStep.More next) y → Going o bytes piece ext₀ at kept (i + 1) next count' ext'
+      go : (y : Step) → step_of o st b ≡ y → Answers o (Ok (HeaderStep.More next)) y → Going o bytes piece ext₀ at kept (i + 1) next count' ext'
       go (more s) q a =
-          let m = behind [] (more s) q (subst⁻¹ (λ (k : HeaderStep). Answers o k (more s)) e a) refl in
+          let m = behind [] (more s) q (subst⁻¹ (λ (k : Result HeaderStep WbmpError). Answers o k (more s)) e a) refl in
           record {
             reached = subst⁻¹ (λ (l : List ℕ). Reached o l next (at + (i + 1)) count') next-list
                 (record {
@@ -127,36 +127,36 @@ module _ (o : Settings) (bytes piece ext₀ : List ℕ) (at kept i : ℕ) (r : H
       go (refused code place) q a = absurd a
 
   -- it has ended with the header
-  pub turn-done : (h : ParsedHeader) → x ≡ HeaderStep.Done h
-      → Headed o bytes piece ext₀ kept (HeadFed.Done h (i + 1)) ext'
-  turn-done h e = go (step_of o st b) refl (subst (λ (k : HeaderStep). Answers o k (step_of o st b)) e answers) (moves-step o st b)
+  pub turn-done : (h : ParsedHeader) → x ≡ Ok (HeaderStep.Done h)
+      → Headed o bytes piece ext₀ kept (Ok (HeadFed.Done h (i + 1))) ext'
+  turn-done h e = go (step_of o st b) refl (subst (λ (k : Result HeaderStep WbmpError). Answers o k (step_of o st b)) e answers) (moves-step o st b)
     where
-      go : (y : Step) → step_of o st b ≡ y → Answers o (HeaderStep.Done h) y → Moves (taken st) y
-          → Headed o bytes piece ext₀ kept (HeadFed.Done h (i + 1)) ext'
+      go : (y : Step) → step_of o st b ≡ y → Answers o (Ok (HeaderStep.Done h)) y → Moves (taken st) y
+          → Headed o bytes piece ext₀ kept (Ok (HeadFed.Done h (i + 1))) ext'
       go (more s) q a m = absurd a
       go (done y) q a m =
           let body : h.data_offset ≡ y.body = ap (λ (k : Outline). k.body) a in
           let size = length-append-take bytes piece i (omega (arith, t.within)) in (
             (reads (done y) q ∙ ap gives (sym a), omega (arith, body, m, taken-so o σ st g.reached.reached)),
-            rw whole-list (behind (drop (i + 1) piece) (done y) q (subst⁻¹ (λ (k : HeaderStep). Answers o k (done y)) e a) tt).buffer,
+            rw whole-list (behind (drop (i + 1) piece) (done y) q (subst⁻¹ (λ (k : Result HeaderStep WbmpError). Answers o k (done y)) e a) tt).buffer,
           )
       go (refused code place) q a m = absurd a
 
   -- it is refused
-  pub turn-refused : (f : WbmpError) → x ≡ HeaderStep.Refused f
-      → Headed o bytes piece ext₀ kept (HeadFed.Refused f) ext'
+  pub turn-refused : (f : WbmpError) → x ≡ Err f
+      → Headed o bytes piece ext₀ kept (Err f) ext'
   turn-refused f e =
-      go (step_of o st b) refl (subst (λ (k : HeaderStep). Answers o k (step_of o st b)) e answers)
+      go (step_of o st b) refl (subst (λ (k : Result HeaderStep WbmpError). Answers o k (step_of o st b)) e answers)
       (reachable-step o st b g.reached.represents.reachable)
     where
-      go : (y : Step) → step_of o st b ≡ y → Answers o (HeaderStep.Refused f) y → ReachableStep y
-          → Headed o bytes piece ext₀ kept (HeadFed.Refused f) ext'
+      go : (y : Step) → step_of o st b ≡ y → Answers o (Err f) y → ReachableStep y
+          → Headed o bytes piece ext₀ kept (Err f) ext'
       go (more s) q a m = absurd a
       go (done y) q a m = absurd a
       go (refused code place) q a m = (
         (reads (refused code place) q ∙ cc (a.0, a.1), rw a.0 m),
         rw whole-list (behind (drop (i + 1) piece) (refused code place) q
-            (subst⁻¹ (λ (k : HeaderStep). Answers o k (refused code place)) e a) tt).buffer,
+            (subst⁻¹ (λ (k : Result HeaderStep WbmpError). Answers o k (refused code place)) e a) tt).buffer,
       )
 
 -- before the first byte
@@ -175,7 +175,7 @@ going-first o bytes piece ext at kept r h =
 -- behind the last byte
 pub going-last : (o : Settings) (bytes piece ext₀ : List ℕ) (at kept i : ℕ) (r : HeaderReader) (count : ℕ) (ext : List ℕ) (now : ℕ)
     → Going o bytes piece ext₀ at kept i r count ext → length piece ≤ i → now ≡ (at + i) % 2 ^ 64
-    → Headed o bytes piece ext₀ kept (HeadFed.More (record { reader = r; at = now; kept = count })) ext
+    → Headed o bytes piece ext₀ kept (Ok (HeadFed.More (record { reader = r; at = now; kept = count }))) ext
 going-last o bytes piece ext₀ at kept i r count ext now g l n =
     let e : take i piece ≡ piece = take_all i piece l in
     let b = reached-bound o (bytes ++ take i piece) r (at + i) count g.reached in
@@ -186,15 +186,15 @@ going-last o bytes piece ext₀ at kept i r count ext now g l n =
     )
 
 -- for every reading
-pub ends : {h₀ : HeadReading} {piece ext : List ℕ} {r : HeadFed} {ext' : List ℕ}
-    → 4118 ≤ length ext → ((h : ParsedHeader) (taken : ℕ) → r ≡ HeadFed.Done h taken → taken ≤ length piece)
+pub ends : {h₀ : HeadReading} {piece ext : List ℕ} {r : Result HeadFed WbmpError} {ext' : List ℕ}
+    → 4118 ≤ length ext → ((h : ParsedHeader) (taken : ℕ) → r ≡ Ok (HeadFed.Done h taken) → taken ≤ length piece)
     → ((o : Settings) (bytes : List ℕ) → HasRead o bytes h₀ → Headed o bytes piece ext h₀.kept r ext')
     → Heads h₀ piece ext r ext'
 ends big n h =
     record { within = n; short = λ l. absurd (omega arith); does = λ b o bytes p. (h o bytes p).0; stores = λ b o bytes p. (h o bytes p).1 }
 
 -- over a short buffer
-pub untaken : (h₀ : HeadReading) (piece ext : List ℕ) → length ext < 4118 → Heads h₀ piece ext (HeadFed.More h₀) ext
+pub untaken : (h₀ : HeadReading) (piece ext : List ℕ) → length ext < 4118 → Heads h₀ piece ext (Ok (HeadFed.More h₀)) ext
 untaken h₀ piece ext l =
     record {
       within = λ h n e. zero_one (cc);

@@ -8,7 +8,8 @@ use Rattle.header.specs.Read.{outline, read_header}
 use Rattle.header_reader.specs.Known.{fields_known, known_meaning, Knows}
 use Rattle.header_reader.specs.Internal.Machine.{State, in_type, at_fix, in_octets, at_octet, at_pair, in_identifier, in_value, in_width}
 use Rattle.header_reader.specs.Internal.Machine.{in_height, Step, more, start, steps, resume, after}
-use Rattle.header_reader.specs.Internal.Represents.{Reachable, Represents, ReaderEnded}
+use Rattle.header_reader.specs.Internal.Standing.{Reachable}
+use Rattle.header_reader.specs.Internal.Represents.{Represents, ReaderEnded}
 use Rattle.header_reader.specs.declared.FieldsSeen.{FieldsSeen}
 use Rattle.header_reader.specs.declared.reader.HeaderReader.{HeaderReader}
 use Rattle.header_reader.proofs.Machine.{steps_all}

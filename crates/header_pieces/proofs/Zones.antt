@@ -7,7 +7,7 @@ use Rattle.ext.specs.Internal.Bytewise.{value_fault}
 use Rattle.header.specs.Settings.{Settings}
 use Rattle.header_reader.specs.Internal.Machine.{State, in_type, at_fix, in_octets, at_octet, at_pair, in_identifier, in_value}
 use Rattle.header_reader.specs.Internal.Machine.{in_width, in_height, in_fields, Step, more, done, refused, on_byte, step_of}
-use Rattle.header_reader.specs.Internal.Represents.{Reachable}
+use Rattle.header_reader.specs.Internal.Standing.{Reachable}
 use Rattle.header_pieces.proofs.BytesTaken.{taken}
 
 -- before the fields, in those that start at an offset, or behind those with a span

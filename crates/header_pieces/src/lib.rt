@@ -7,7 +7,7 @@ ghost use Rattle.header.specs.Settings.{settings};
 ghost use Rattle.header_pieces.specs.Internal.Head.{HasRead, TellsFields, TellsEnd, Heads, is_kept, Keeps};
 ghost use Rattle.header_pieces.specs.Internal.HeadRun.{KeepsRun, RunsOn};
 
-use error::WbmpError;
+use error::{Result, WbmpError};
 use ext::MAX_EXT_FIELD_BYTES;
 use header::{HeaderMode, ParsedHeader};
 use header_reader::{FieldsSeen, HeaderReader, HeaderStep};
@@ -25,21 +25,19 @@ pub struct HeadReading {
     kept: usize,
 }
 
-// What a piece does: the header goes on behind it, ended with so many of its bytes, or is refused.
+// What a piece does: the header goes on behind it, or ended with so many of its bytes.
 #[derive(Clone, Copy)]
 pub enum HeadFed {
     More(HeadReading),
     Done(ParsedHeader, usize),
-    Refused(WbmpError),
 }
 
 impl HeadReading {
     pub fn new(mode: HeaderMode) -> HeadReading
         ensures { HasRead (settings mode) [] result }
     {
-        let reader = HeaderReader::new(mode);
         HeadReading {
-            reader,
+            reader: HeaderReader::new(mode),
             at: 0,
             kept: 0,
         }
@@ -49,50 +47,36 @@ impl HeadReading {
     pub fn fields(self) -> FieldsSeen
         ensures { TellsFields self result }
     {
-        let reader = self.reader;
-        reader.fields()
+        self.reader.fields()
     }
 
     // The input ends before the header does.
     pub fn ended(self) -> WbmpError
         ensures { TellsEnd self result }
     {
-        let reader = self.reader;
-        reader.ended()
+        self.reader.ended()
     }
 }
 
 // Whether a byte at the offset `at + i` is to be kept: one of the fields, and before the place of its refusal.
-fn is_kept(inside: bool, at: usize, i: usize, step: HeaderStep) -> bool
+fn is_kept(inside: bool, at: usize, i: usize, step: Result<HeaderStep>) -> bool
     ensures { result ≡ is_kept inside (at + i) step }
 {
     match step {
-        HeaderStep::More(_) => inside,
-        HeaderStep::Done(_) => false,
-        HeaderStep::Refused(e) => {
-            if inside {
-                if at < e.offset {
-                    i < e.offset - at
-                } else {
-                    false
-                }
-            } else {
-                false
-            }
-        }
+        Ok(HeaderStep::More(_)) => inside,
+        Ok(HeaderStep::Done(_)) => false,
+        Err(e) => inside && at < e.offset && i < e.offset - at,
     }
 }
 
-// Stores a byte that is wanted behind those kept, and says how many are kept then.
+// Stores a byte that is wanted behind those kept, and says how many are kept then. The count stands beside the buffer, which is lent anew
+// with each piece.
 fn keep(ext: &mut [u8], kept: usize, byte: u8, wanted: bool) -> usize
     ensures { Keeps kept byte wanted ext.old result ext.new }
 {
-    if wanted {
-        if kept < ext.len() {
-            let next = kept + 1;
-            ext[kept] = byte;
-            return next;
-        }
+    if wanted && kept < ext.len() {
+        ext[kept] = byte;
+        return kept + 1;
     }
     kept
 }
@@ -109,20 +93,12 @@ struct HeadRun {
 fn keep_run(ext: &mut [u8], kept: usize, run: &[u8]) -> usize
     ensures { KeepsRun kept run.now ext.old result ext.new }
 {
-    let n = run.len();
-    if ext.len() < n {
+    let end = kept.saturating_add(run.len());
+    if ext.len() < end {
         return kept;
     }
-    if ext.len() - n < kept {
-        return kept;
-    }
-    let mut i: usize = 0;
-    while i < n {
-        let to = kept + i;
-        ext[to] = run[i];
-        i += 1;
-    }
-    kept + n
+    ext[kept..end].copy_from_slice(run);
+    end
 }
 
 // Takes and stores the bytes from byte `from` of a piece on that the reader takes at once.
@@ -132,48 +108,41 @@ fn run_on(reader: HeaderReader, kept: usize, from: usize, piece: &[u8], ext: &mu
 {
     let run = reader.run(&piece[from..]);
     let taken = from + run.taken;
-    let kept = keep_run(ext, kept, &piece[from..taken]);
-    let reader = run.reader;
     HeadRun {
         taken,
-        kept,
-        reader,
+        kept: keep_run(ext, kept, &piece[from..taken]),
+        reader: run.reader,
     }
 }
 
 // Feeds a piece, up to the header's last byte or a refusal. Over a shorter extension buffer none of it is taken.
-pub fn feed_header(reading: HeadReading, piece: &[u8], ext: &mut [u8]) -> HeadFed
+pub fn feed_header(reading: HeadReading, piece: &[u8], ext: &mut [u8]) -> Result<HeadFed>
     ensures { Heads reading piece.now ext.old result ext.new }
 {
     if ext.len() < EXTENSION_BYTES {
-        return HeadFed::More(reading);
+        return Ok(HeadFed::More(reading));
     }
-    let at = reading.at;
-    let mut reader = reading.reader;
-    let mut kept = reading.kept;
-    let mut taken = 0;
-    while taken < piece.len() {
-        let byte = piece[taken];
-        let inside = reader.in_fields();
-        let step = reader.step(byte);
-        let wanted = is_kept(inside, at, taken, step);
-        kept = keep(ext, kept, byte, wanted);
-        taken += 1;
-        match step {
-            HeaderStep::More(next) => {
-                let run = run_on(next, kept, taken, piece, ext);
-                reader = run.reader;
-                kept = run.kept;
-                taken = run.taken;
-            }
-            HeaderStep::Done(header) => {
-                return HeadFed::Done(header, taken);
-            }
-            HeaderStep::Refused(e) => {
-                return HeadFed::Refused(e);
-            }
+    let mut run = HeadRun {
+        taken: 0,
+        kept: reading.kept,
+        reader: reading.reader,
+    };
+    // No iterator: a byte by itself or many at once.
+    while run.taken < piece.len() {
+        let byte = piece[run.taken];
+        let inside = run.reader.in_fields();
+        let step = run.reader.step(byte);
+        let wanted = is_kept(inside, reading.at, run.taken, step);
+        let kept = keep(ext, run.kept, byte, wanted);
+        let taken = run.taken + 1;
+        match step? {
+            HeaderStep::More(next) => run = run_on(next, kept, taken, piece, ext),
+            HeaderStep::Done(header) => return Ok(HeadFed::Done(header, taken)),
         }
     }
-    let at = std::num::wrapping_add_usize(at, taken);
-    HeadFed::More(HeadReading { reader, at, kept })
+    Ok(HeadFed::More(HeadReading {
+        reader: run.reader,
+        at: reading.at.wrapping_add(run.taken),
+        kept: run.kept,
+    }))
 }

@@ -1,20 +1,22 @@
 -- Bytes of extension fields that are taken at once come to what they come to one by one.
 use Prim.Native.Nat.{ℕ, suc, ◌+◌, ◌-◌, ◌/◌, ◌%◌, ◌<◌, ◌≤◌}
 use mathlib.Core.Path.{◌≡◌, ◌∙◌, refl, sym, ap, subst, subst⁻¹}
-use mathlib.Core.Bool.{true, false}
+use Rattle.std.proofs.Common.{zero, nat_le, cond}
+use Rattle.std.specs.List.{prefix_len}
+use mathlib.Core.Bool.{Bool, true, false}
 use mathlib.Core.List.{List, [], ◌∷◌}
 use mathlib.Core.Logic.{◌⊎◌, inl, inr}
-use native.Mathlib.Numerals.{add-one}
+use native.Mathlib.Numerals.{add-one, one-add}
 use native.Mathlib.Omega.{arith}
-use borrow.Author.Tests.{lt-ltb, le-ltb, le-leb, lt-leb, ne_eqb}
+use borrow.Author.Tests.{lt-ltb, le-ltb, le-leb, lt-leb, ne_eqb, leb-true}
 use lib.ListN.{length, take, drop, get_or, length-take, length-drop, take-append-drop}
-use lib.Seq.{take-suc, take-add, drop-cons}
+use lib.Seq.{take-add, drop-cons}
 use Rattle.ext.specs.Internal.Bytewise.{identifier_fault, value_fault}
 use Rattle.header.specs.Settings.{Settings, settings}
 use Rattle.header_reader.specs.Internal.Machine.{State, in_octets, at_pair, in_identifier, in_value, Step, more, step_of, steps}
-use Rattle.header_reader.specs.Internal.Represents.{fields_state, state}
+use Rattle.header_reader.specs.Internal.Standing.{fields_state, state, Reachable}
 use Rattle.header_reader.specs.Internal.Pieces.{onward}
-use Rattle.header_reader.specs.Internal.Run.{Inside, ReaderRuns, FieldsRuns, OctetsAhead, Continued}
+use Rattle.header_reader.specs.Internal.Run.{Inside, ReaderRuns, FieldsRuns, Continued}
 use Rattle.header_reader.specs.Internal.Run.{PairsAhead}
 use Rattle.header_reader.specs.declared.phase.FieldsPhase.{FieldsPhase}
 use Rattle.header_reader.specs.declared.phase.PairChain.{PairChain}
@@ -27,38 +29,51 @@ use Rattle.header_reader.proofs.StepReachable.{ReachableStep, reachable-steps}
 
 -- ---- octets
 
+-- octets behind which others come, from any place that is `most` bytes or more before the ceiling
+pub record OctetsAhead (most : ℕ) (piece : List ℕ) (n : ℕ) : Type 0 where
+  pub within : n ≤ length piece
+  pub reached : (o : Settings) (fix start at : ℕ) → at + most ≤ start + 4096
+      → steps o (in_octets fix start at) (take n piece) ≡ more (in_octets fix start (at + n))
+
 octet-step : (o : Settings) (fix start at b : ℕ) → at < start + 4096 → 128 ≤ b
     → step_of o (in_octets fix start at) b ≡ more (in_octets fix start (at + 1))
 unfolding step_of
 octet-step o fix start at b n h = simp (lt-leb (start + 4096) at n, le-ltb b 128 h)
 
-octet-only : (o : Settings) (fix start at b : ℕ) → at < start + 4096 → 128 ≤ b
-    → steps o (in_octets fix start at) (b ∷ []) ≡ more (in_octets fix start (at + 1))
+pub octets-none : (most : ℕ) (piece : List ℕ) → OctetsAhead most piece 0
 unfolding steps
-octet-only o fix start at b n h = steps-cons o (in_octets fix start at) b []
-    ∙ ap (λ (x : Step). onward o x []) (octet-step o fix start at b n h)
+octets-none most piece =
+    record {
+      within = omega arith;
+      reached = λ o fix start at h. let e : at ≡ at + 0 = omega arith in ap (λ (k : ℕ). more (in_octets fix start k)) e;
+    }
 
-module _ (most : ℕ) (piece : List ℕ) where
-  pub octets-none : OctetsAhead most piece 0
-  unfolding steps
-  octets-none =
-      record {
-        within = omega arith;
-        reached = λ o fix start at h. let e : at ≡ at + 0 = omega arith in ap (λ (k : ℕ). more (in_octets fix start k)) e;
-      }
+octets-cons : (most b n : ℕ) (piece : List ℕ) → OctetsAhead most piece n → 128 ≤ b → OctetsAhead (suc most) (b ∷ piece) (1 + n)
+octets-cons most b n piece a q =
+    record {
+      within = omega (arith, a.within);
+      reached = λ o fix start at h.
+          let e : at + 1 + n ≡ at + (1 + n) = omega arith in
+          ap (λ (k : ℕ). steps o (in_octets fix start at) (take k (b ∷ piece))) (one-add n)
+          ∙ steps-cons o (in_octets fix start at) b (take n piece)
+          ∙ ap (λ (x : Step). onward o x (take n piece)) (octet-step o fix start at b (omega arith) q)
+          ∙ a.reached o fix start (at + 1) (omega arith)
+          ∙ ap (λ (k : ℕ). more (in_octets fix start k)) e;
+    }
 
-  pub octets-more : (i : ℕ) → OctetsAhead most piece i → i < length piece → i < most → 128 ≤ get_or piece i 0 → OctetsAhead most piece (i + 1)
-  octets-more i a h m b =
-      record {
-        within = omega arith;
-        reached = λ o fix start at n.
-            let e : at + i + 1 ≡ at + (i + 1) = omega arith in
-            ap (steps o (in_octets fix start at)) (ap (λ (k : ℕ). take k piece) (add-one i) ∙ take-suc piece i 0 h)
-            ∙ steps-append o (take i piece) (get_or piece i 0 ∷ []) (in_octets fix start at)
-            ∙ ap (λ (x : Step). onward o x (get_or piece i 0 ∷ [])) (a.reached o fix start at n)
-            ∙ octet-only o fix start (at + i) (get_or piece i 0) (omega arith) b
-            ∙ ap (λ (k : ℕ). more (in_octets fix start k)) e;
-      }
+-- all that have bit 7
+octets-all : (most : ℕ) (piece : List ℕ) → OctetsAhead most piece (prefix_len (nat_le 128) (take most piece))
+octets-all zero piece = octets-none zero piece
+octets-all (suc m) [] = octets-none (suc m) []
+octets-all (suc m) (b ∷ τ) = go (nat_le 128 b) refl (octets-all m τ)
+  where
+    go : (t : Bool) → nat_le 128 b ≡ t → OctetsAhead m τ (prefix_len (nat_le 128) (take m τ))
+        → OctetsAhead (suc m) (b ∷ τ) (cond t (1 + prefix_len (nat_le 128) (take m τ)) 0)
+    go true e a = octets-cons m b _ τ a (leb-true 128 b e)
+    go false e a = octets-none (suc m) (b ∷ τ)
+
+pub octets-ahead : (most : ℕ) (piece : List ℕ) (n : ℕ) → n ≡ prefix_len (nat_le 128) (take most piece) → OctetsAhead most piece n
+octets-ahead most piece n e = subst⁻¹ (OctetsAhead most piece) e (octets-all most piece)
 
 -- ---- pairs
 
@@ -176,13 +191,6 @@ module _ (most : ℕ) (piece : List ℕ) where
             ∙ ap (λ (k : ℕ). more (at_pair fix start (at + (i + size)) k)) f;
       }
 
-  -- by the size that the code finds
-  pub pairs_next : (i n size : ℕ) → PairsAhead most piece (record { taken = i; pairs = n }) → i < length piece → i < most
-      → (size ≡ 0) ⊎ Continued (get_or piece i 0) size → (size ≡ 0 → ⊥) → i + size ≤ length piece
-      → PairsAhead most piece (record { taken = i + size; pairs = n + 1 })
-  pairs_next i n size a h m (inl e) f fits = absurd (f e)
-  pairs_next i n size a h m (inr k) f fits = pairs-more i n size a h m k fits
-
 -- ---- where a reading stands
 
 -- the same under an equation
@@ -196,9 +204,10 @@ unfolding steps
 stayed {p} {piece} e o =
     subst⁻¹ (λ (x : FieldsRun). FieldsRuns o (fields_state p) piece x) e (record { within = omega arith; reached = refl; inside = inl refl })
 
-pub octets-run : {fix start at most n : ℕ} {piece : List ℕ} → OctetsAhead most piece n → at + most ≤ start + 4096 → (o : Settings)
-    → FieldsRuns o (in_octets fix start at) piece (record { taken = n; phase = FieldsPhase.InOctets fix start (at + n) })
-octets-run a h o =
+pub octets-run : (most : ℕ) {fix start at n : ℕ} {piece : List ℕ} → n ≡ prefix_len (nat_le 128) (take most piece) → at + most ≤ start + 4096
+    → (o : Settings) → FieldsRuns o (in_octets fix start at) piece (record { taken = n; phase = FieldsPhase.InOctets fix start (at + n) })
+octets-run most {piece = piece} e h o =
+    let a = octets-ahead most piece _ e in
     record { within = a.within; reached = a.reached o _ _ _ h; inside = inr (record { here = refl; there = refl; same = refl }) }
 
 -- pairs and r of them more
@@ -214,9 +223,17 @@ pairs-run a h o off =
 -- ---- the reader
 
 module _ (r : HeaderReader) (piece : List ℕ) where
-  pub ran : {p : FieldsPhase} {x : FieldsRun} → r.phase ≡ Phase.InFields p → FieldsRuns (settings r.mode) (fields_state p) piece x
-      → ReaderRuns r piece (record { taken = x.taken; reader = record { mode = r.mode; phase = Phase.InFields x.phase } })
-  ran {p} {x} e a =
+  -- behind a run it stands where a reading can
+  pub run-reachable : {p : FieldsPhase} {x : FieldsRun} → r.phase ≡ Phase.InFields p → FieldsRuns (settings r.mode) (fields_state p) piece x
+      → Reachable (fields_state x.phase)
+  run-reachable {p} {x} e a =
+      subst ReachableStep a.reached
+      (reachable-steps (settings r.mode) (take x.taken piece) (fields_state p) (subst (λ (k : Phase). Reachable (state k)) e r.reachable))
+
+  pub ran : {p : FieldsPhase} {x : FieldsRun} {next : HeaderReader} → r.phase ≡ Phase.InFields p
+      → FieldsRuns (settings r.mode) (fields_state p) piece x → next.mode ≡ r.mode → next.phase ≡ Phase.InFields x.phase
+      → ReaderRuns r piece (record { taken = x.taken; reader = next })
+  ran {p} {x} {next} e a m n =
       record {
         within = a.within;
         does = λ o st h.
@@ -228,8 +245,8 @@ module _ (r : HeaderReader) (piece : List ℕ) where
               next = fields_state x.phase;
               represents =
                   record {
-                    mode_is = h.mode_is;
-                    phase_is = refl;
+                    mode_is = ap settings m ∙ h.mode_is;
+                    phase_is = ap state n;
                     reachable = subst ReachableStep run.reached (reachable-steps o (take x.taken piece) st h.reachable);
                   };
               reached = run.reached;

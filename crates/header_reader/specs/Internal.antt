@@ -2,5 +2,6 @@
 pub mod Machine
 pub mod Phase
 pub mod Pieces
+pub mod Standing
 pub mod Represents
 pub mod Run

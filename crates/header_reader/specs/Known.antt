@@ -3,10 +3,9 @@ use Rattle.std.specs.Prelude.{ℕ, ◌+◌, ◌≡◌, ◌&&◌, List, ltb, leb,
 use Rattle.error.specs.Choice.{if}
 use Rattle.error.specs.Answer.{Answer, gives, refuses, bind, map}
 use Rattle.mbi.specs.Read.{read_mbi}
-use Rattle.ext.specs.Kinds.{Span, span_of, fields_follow, kind_bits}
+use Rattle.ext.specs.Kinds.{Span, span_of, ext_span, fields_follow, kind_bits}
 use Rattle.ext.specs.Read.{read_fields}
 use Rattle.header.specs.Settings.{Settings}
-use Rattle.header.specs.Read.{ext_span}
 use Rattle.header_reader.specs.Internal.Machine.{State, in_type, at_fix, in_octets, at_octet, at_pair, in_identifier, in_value, in_width}
 use Rattle.header_reader.specs.Internal.Machine.{in_height}
 use Rattle.header_reader.specs.Internal.Represents.{Represents}

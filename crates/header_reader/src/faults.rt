@@ -1,37 +1,26 @@
-// The class refusal that waits for a pair's end, 0 for none: an identifier's comes before a value's.
+// The class refusal that waits for a pair's end: an identifier's comes before a value's.
+#![tactic(auto, unfolding(ext::specs::Internal::Bytewise::identifier_fault, ext::specs::Internal::Bytewise::value_fault))]
+
 ghost use Rattle.std.specs.Prelude.{◌≡◌};
+ghost use Rattle.error.specs.Answer.{number_or_0};
 ghost use Rattle.ext.specs.Internal.Bytewise.{identifier_fault, value_fault};
 
-use error::{IDENTIFIER_CLASS, VALUE_CLASS};
+use error::Refusal;
 
-pub(crate) fn identifier_fault(strict: bool, fault: u8, byte: u8) -> u8
-    ensures { result ≡ identifier_fault strict fault byte }
+pub(crate) fn identifier_fault(strict: bool, fault: Option<Refusal>, byte: u8) -> Option<Refusal>
+    ensures { number_or_0 result ≡ identifier_fault strict (number_or_0 fault) byte }
 {
-    if strict {
-        if ext::is_rfc2234_char(byte) {
-            fault
-        } else {
-            IDENTIFIER_CLASS
-        }
-    } else {
-        fault
+    if !strict || ext::is_rfc2234_char(byte) {
+        return fault;
     }
+    Some(Refusal::IdentifierClass)
 }
 
-pub(crate) fn value_fault(strict: bool, fault: u8, byte: u8) -> u8
-    ensures { result ≡ value_fault strict fault byte }
+pub(crate) fn value_fault(strict: bool, fault: Option<Refusal>, byte: u8) -> Option<Refusal>
+    ensures { number_or_0 result ≡ value_fault strict (number_or_0 fault) byte }
 {
-    if strict {
-        if fault == 0 {
-            if ext::is_rfc2234_alpha_digit(byte) {
-                fault
-            } else {
-                VALUE_CLASS
-            }
-        } else {
-            fault
-        }
-    } else {
-        fault
+    if !strict || fault.is_some() || ext::is_rfc2234_alpha_digit(byte) {
+        return fault;
     }
+    Some(Refusal::ValueClass)
 }

@@ -1,39 +1,43 @@
 // One byte more of the FixHeader byte and of the extension fields.
+#![tactic(auto, unfolding(crate::specs::Internal::Machine::step_of))]
+
 ghost use Rattle.std.specs.Prelude.{◌≡◌, ◌&&◌, ℕ, ◌≤◌};
 ghost use Rattle.error.specs.Choice.{if};
+ghost use Rattle.error.specs.Answer.{number_or_0};
 ghost use Rattle.ext.specs.Kinds.{absent, fields_follow, kind_bits, kind_number};
 ghost use Rattle.header.specs.Settings.{Settings, settings};
-ghost use Rattle.header.specs.Read.{ext_span};
+ghost use Rattle.ext.specs.Kinds.{ext_span};
 ghost use Rattle.header_reader.specs.Internal.Machine.{at_fix, in_octets, at_octet, to_width, to_fields, found, step_of};
-ghost use Rattle.header_reader.specs.Internal.Represents.{fields_state};
-ghost use Rattle.header_reader.specs.Internal.Phase.{moved, after_pair, Bounded, Chained};
+ghost use Rattle.header_reader.specs.Internal.Standing.{fields_state, Reachable};
+ghost use Rattle.header_reader.specs.Internal.Phase.{moved, after_pair};
 ghost use Rattle.header_reader.specs.declared.phase.FieldsPhase.{FieldsPhase};
 
 use crate::faults::{identifier_fault, value_fault};
-use crate::integers::more_width;
 use crate::phase::{
-    FieldsPhase, PairChain, PairPart, PartialInteger, PhaseStep, more_fields, refuse,
+    FieldsPhase, PairChain, PairPart, PartialInteger, Phase, PhaseStep, more, more_fields,
 };
-use error::{EXT_TOO_LONG, FIX_HEADER_NOT_ZERO, IDENTIFIER_LENGTH, VALUE_LENGTH};
+use error::{Refusal, Result, WbmpError};
 use ext::{ExtFieldType, ExtFields, FixHeaderField, MAX_EXT_FIELD_BYTES, PairHeader};
-use header::{HeaderFields, HeaderMode};
+use header::HeaderMode;
 
 // The width comes next.
-fn to_width(fix: u8, fields: HeaderFields, at: usize) -> PhaseStep
+fn to_width(fix: u8, fields: Option<ExtFields>, at: usize) -> Result<PhaseStep>
     ensures { moved result ≡ to_width fix (ext_span fields) at }
 {
-    more_width(fix, fields, PartialInteger::start(at))
+    more(Phase::InWidth {
+        fix,
+        fields,
+        integer: PartialInteger::start(at),
+    })
 }
 
 // The width comes next, after fields that stand from `start` to `end`.
-fn after_fields(fix: u8, start: usize, end: usize, pairs: usize) -> PhaseStep
+fn after_fields(fix: u8, start: usize, end: usize, pairs: usize) -> Result<PhaseStep>
     requires { start ≤ end }
     ensures { moved result ≡ to_width fix (found fix start end pairs) end }
 {
-    let fix_header = FixHeaderField::from_byte(fix);
-    let ext_type = fix_header.ext_type;
-    let fields = HeaderFields::Fields(ExtFields {
-        ext_type,
+    let fields = Some(ExtFields {
+        ext_type: FixHeaderField::from_byte(fix).ext_type,
         start,
         len: end - start,
         pairs,
@@ -42,14 +46,16 @@ fn after_fields(fix: u8, start: usize, end: usize, pairs: usize) -> PhaseStep
 }
 
 // Fields of the FixHeader byte's kind come next.
-fn to_fields(fix: u8, ext_type: ExtFieldType, at: usize) -> PhaseStep
+fn to_fields(fix: u8, ext_type: ExtFieldType, at: usize) -> Result<PhaseStep>
     requires { kind_number ext_type ≡ kind_bits fix }
     ensures { moved result ≡ to_fields fix at }
 {
     match ext_type {
         ExtFieldType::Bitfield00 => more_fields(FieldsPhase::InOctets { fix, start: at, at }),
-        ExtFieldType::Reserved01 => more_fields(FieldsPhase::AtOctet { fix, at }),
-        ExtFieldType::Reserved10 => more_fields(FieldsPhase::AtOctet { fix, at }),
+        ExtFieldType::Reserved01 | ExtFieldType::Reserved10 => more_fields(FieldsPhase::AtOctet {
+            fix,
+            at,
+        }),
         ExtFieldType::ParameterPairs11 => more_fields(FieldsPhase::AtPair(PairChain {
             fix,
             start: at,
@@ -60,37 +66,32 @@ fn to_fields(fix: u8, ext_type: ExtFieldType, at: usize) -> PhaseStep
 }
 
 // Fields or, without them, the width.
-fn after_fix(honoured: bool, fix: u8, at: usize) -> PhaseStep
+fn after_fix(honoured: bool, fix: u8, at: usize) -> Result<PhaseStep>
     ensures { moved result ≡ if (honoured && fields_follow fix) (to_fields fix at) (to_width fix absent at) }
 {
     let fix_header = FixHeaderField::from_byte(fix);
-    if honoured {
-        if fix_header.ext_fields_follow {
-            let ext_type = fix_header.ext_type;
-            return to_fields(fix, ext_type, at);
-        }
+    if honoured && fix_header.ext_fields_follow {
+        return to_fields(fix, fix_header.ext_type, at);
     }
-    to_width(fix, HeaderFields::Absent, at)
+    to_width(fix, None, at)
 }
 
-pub(crate) fn at_fix(mode: HeaderMode, at: usize, byte: u8) -> PhaseStep
-    requires { Bounded (at_fix at) }
+pub(crate) fn at_fix(mode: HeaderMode, at: usize, byte: u8) -> Result<PhaseStep>
+    requires { Reachable (at_fix at) }
     ensures { moved result ≡ step_of (settings mode) (at_fix at) byte }
 {
-    if mode.fix_zero {
-        if 0 < byte {
-            return refuse(FIX_HEADER_NOT_ZERO, at);
-        }
+    if mode.fix_zero && 0 < byte {
+        return Err(WbmpError::new(Refusal::FixHeaderNotZero, at));
     }
     after_fix(mode.fields, byte, at + 1)
 }
 
-pub(crate) fn in_octets(fix: u8, start: usize, at: usize, byte: u8) -> PhaseStep
-    requires { Bounded (in_octets fix start at) }
+pub(crate) fn in_octets(fix: u8, start: usize, at: usize, byte: u8) -> Result<PhaseStep>
+    requires { Reachable (in_octets fix start at) }
     ensures { (o : Settings) → moved result ≡ step_of o (in_octets fix start at) byte }
 {
     if start + MAX_EXT_FIELD_BYTES <= at {
-        return refuse(EXT_TOO_LONG, at);
+        return Err(WbmpError::new(Refusal::ExtTooLong, at));
     }
     let next = at + 1;
     if byte < 128 {
@@ -103,33 +104,33 @@ pub(crate) fn in_octets(fix: u8, start: usize, at: usize, byte: u8) -> PhaseStep
     })
 }
 
-pub(crate) fn at_octet(fix: u8, at: usize) -> PhaseStep
-    requires { Bounded (at_octet fix at) }
+pub(crate) fn at_octet(fix: u8, at: usize) -> Result<PhaseStep>
+    requires { Reachable (at_octet fix at) }
     ensures { (o : Settings) (byte : ℕ) → moved result ≡ step_of o (at_octet fix at) byte }
 {
     after_fields(fix, at, at + 1, 0)
 }
 
-pub(crate) fn at_pair(chain: PairChain, byte: u8) -> PhaseStep
-    requires { Chained chain }
+pub(crate) fn at_pair(chain: PairChain, byte: u8) -> Result<PhaseStep>
+    requires { Reachable (fields_state (FieldsPhase.AtPair chain)) }
     ensures { (o : Settings) → moved result ≡ step_of o (fields_state (FieldsPhase.AtPair chain)) byte }
 {
     if chain.start + MAX_EXT_FIELD_BYTES <= chain.at {
-        return refuse(EXT_TOO_LONG, chain.at);
+        return Err(WbmpError::new(Refusal::ExtTooLong, chain.at));
     }
     let begun = chain.at + 1;
     let header = PairHeader::from_byte(byte);
     if header.identifier_len == 0 {
-        return refuse(IDENTIFIER_LENGTH, begun);
+        return Err(WbmpError::new(Refusal::IdentifierLength, begun));
     }
     if header.value_len == 0 {
-        return refuse(VALUE_LENGTH, begun);
+        return Err(WbmpError::new(Refusal::ValueLength, begun));
     }
     let part = PairPart {
         begun,
         left: header.identifier_len,
         more: header.more,
-        fault: 0,
+        fault: None,
     };
     let chain = chain.grown();
     let size = header.value_len;
@@ -142,8 +143,8 @@ pub(crate) fn in_identifier(
     part: PairPart,
     size: u8,
     byte: u8,
-) -> PhaseStep
-    requires { Chained chain }
+) -> Result<PhaseStep>
+    requires { Reachable (fields_state (FieldsPhase.InIdentifier chain part size)) }
     ensures { moved result ≡ step_of (settings mode) (fields_state (FieldsPhase.InIdentifier chain part size)) byte }
 {
     let fault = identifier_fault(mode.classes, part.fault, byte);
@@ -155,28 +156,33 @@ pub(crate) fn in_identifier(
     let part = PairPart {
         begun: chain.at,
         left: size,
-        more: part.more,
         fault,
+        ..part
     };
     more_fields(FieldsPhase::InValue { chain, part })
 }
 
 // After a pair that the chain counts: the refusal that waited for its end, one more pair, or the width.
-fn after_pair(chain: PairChain, more: bool, fault: u8) -> PhaseStep
+fn after_pair(chain: PairChain, more: bool, fault: Option<Refusal>) -> Result<PhaseStep>
     requires { chain.start ≤ chain.at }
-    ensures { moved result ≡ after_pair chain more fault }
+    ensures { moved result ≡ after_pair chain more (number_or_0 fault) }
 {
-    if fault == 0 {
-        if more {
-            return more_fields(FieldsPhase::AtPair(chain));
-        }
-        return after_fields(chain.fix, chain.start, chain.at, chain.pairs);
+    if let Some(refusal) = fault {
+        return Err(WbmpError::new(refusal, chain.at));
     }
-    refuse(fault, chain.at)
+    if more {
+        return more_fields(FieldsPhase::AtPair(chain));
+    }
+    after_fields(chain.fix, chain.start, chain.at, chain.pairs)
 }
 
-pub(crate) fn in_value(mode: HeaderMode, chain: PairChain, part: PairPart, byte: u8) -> PhaseStep
-    requires { Chained chain }
+pub(crate) fn in_value(
+    mode: HeaderMode,
+    chain: PairChain,
+    part: PairPart,
+    byte: u8,
+) -> Result<PhaseStep>
+    requires { Reachable (fields_state (FieldsPhase.InValue chain part)) }
     ensures { moved result ≡ step_of (settings mode) (fields_state (FieldsPhase.InValue chain part)) byte }
 {
     let fault = value_fault(mode.classes, part.fault, byte);
@@ -186,10 +192,9 @@ pub(crate) fn in_value(mode: HeaderMode, chain: PairChain, part: PairPart, byte:
         return more_fields(FieldsPhase::InValue { chain, part });
     }
     let counted = PairChain {
-        fix: chain.fix,
-        start: chain.start,
         at: chain.at + 1,
         pairs: chain.pairs + 1,
+        ..chain
     };
     after_pair(counted, part.more, fault)
 }

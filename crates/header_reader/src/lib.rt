@@ -1,7 +1,7 @@
 // Headers read byte by byte.
 #![tactic(auto)]
 
-use header::HeaderFields;
+use ext::ExtFields;
 
 mod faults;
 mod fields;
@@ -13,9 +13,9 @@ mod step;
 
 pub use reader::{HeaderReader, HeaderRun, HeaderStep};
 
-// The fields of a file so far, once their last byte was taken.
+// The fields of a file so far, once their last byte was taken. In an Option of an Option two of three values would be None.
 #[derive(Clone, Copy)]
 pub enum FieldsSeen {
     Unread,
-    Seen(HeaderFields),
+    Seen(Option<ExtFields>),
 }

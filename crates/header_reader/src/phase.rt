@@ -1,13 +1,15 @@
 // Where a reading of a header stands between two bytes. `at` is how many bytes were taken.
 ghost use Rattle.std.specs.Prelude.{◌≡◌, [], ◌+◌, ◌-◌, ◌<◌};
 ghost use Rattle.error.specs.Answer.{refusal};
+ghost use Rattle.mbi.specs.Read.{read_byte, step_meaning};
 ghost use Rattle.header.specs.Settings.{Settings};
 ghost use Rattle.header_reader.specs.Internal.Machine.{resume};
-ghost use Rattle.header_reader.specs.Internal.Represents.{state, fields_state};
-ghost use Rattle.header_reader.specs.Internal.Phase.{IntegerBound, FieldsBound, Chained, Bounded, Decides};
+ghost use Rattle.header_reader.specs.Internal.Standing.{fields_state};
 
-use error::{EXT_TRUNCATED, PAIR_TRUNCATED, WbmpError};
-use header::{HeaderFields, ParsedHeader};
+use error::{Refusal, Result, WbmpError};
+use ext::ExtFields;
+use header::{HeaderMode, ParsedHeader};
+use mbi::{MbiStep, mbi_step};
 
 // An integer so far: the value of its first `count` bytes.
 #[derive(Clone, Copy)]
@@ -33,7 +35,7 @@ pub struct PairPart {
     pub begun: usize,
     pub left: u8,
     pub more: bool,
-    pub fault: u8,
+    pub fault: Option<Refusal>,
 }
 
 #[derive(Clone, Copy)]
@@ -68,39 +70,36 @@ pub enum Phase {
     InFields(FieldsPhase),
     InWidth {
         fix: u8,
-        fields: HeaderFields,
+        fields: Option<ExtFields>,
         integer: PartialInteger,
     },
     InHeight {
         fix: u8,
-        fields: HeaderFields,
+        fields: Option<ExtFields>,
         width: u32,
         integer: PartialInteger,
     },
 }
 
-// What one byte does: the header goes on, ends, or is refused.
+// What one byte does: the header goes on or ends. `HeaderStep` says the same of a reader; a parameter for the two would save no line.
 #[derive(Clone, Copy)]
 pub enum PhaseStep {
     More(Phase),
     Done(ParsedHeader),
-    Refused(WbmpError),
 }
 
-// No reading comes so far.
-const FAR: usize = 8192;
+// The header goes on.
+pub(crate) fn more(phase: Phase) -> Result<PhaseStep>
+    ensures { result ≡ Ok (PhaseStep.More phase) }
+{
+    Ok(PhaseStep::More(phase))
+}
 
 // The fields go on.
-pub(crate) fn more_fields(phase: FieldsPhase) -> PhaseStep
-    ensures { result ≡ PhaseStep.More (Phase.InFields phase) }
+pub(crate) fn more_fields(phase: FieldsPhase) -> Result<PhaseStep>
+    ensures { result ≡ Ok (PhaseStep.More (Phase.InFields phase)) }
 {
-    PhaseStep::More(Phase::InFields(phase))
-}
-
-pub(crate) fn refuse(code: u8, offset: usize) -> PhaseStep
-    ensures { result ≡ PhaseStep.Refused (record { code = code; offset = offset }) }
-{
-    PhaseStep::Refused(WbmpError::new(code, offset))
+    more(Phase::InFields(phase))
 }
 
 impl PartialInteger {
@@ -114,9 +113,17 @@ impl PartialInteger {
         }
     }
 
+    // What one byte more does to it.
+    pub(crate) fn read(self, mode: HeaderMode, byte: u8) -> Result<MbiStep>
+        requires { (self.at < 8192) × (self.count < 8) }
+        ensures { step_meaning result ≡ read_byte mode.shortest self.at self.value self.count byte }
+    {
+        mbi_step(mode.shortest, self.at, self.value, self.count, byte)
+    }
+
     // One byte more, which brings it to a value.
     pub(crate) fn grown(self, value: u32) -> PartialInteger
-        requires { IntegerBound self.at self.count }
+        requires { (self.at < 8192) × (self.count < 8) }
         ensures { result ≡ record { at = self.at + 1; value = value; count = self.count + 1 } }
     {
         PartialInteger {
@@ -125,96 +132,49 @@ impl PartialInteger {
             count: self.count + 1,
         }
     }
-
-    fn within(self) -> bool
-        ensures { Decides (IntegerBound self.at self.count) result }
-    {
-        if self.at < FAR { self.count < 8 } else { false }
-    }
-}
-
-fn fields_within(start: usize, at: usize, pairs: usize) -> bool
-    ensures { Decides (FieldsBound start at pairs) result }
-{
-    if at < FAR {
-        if pairs < FAR { start <= at } else { false }
-    } else {
-        false
-    }
 }
 
 impl PairChain {
     // One byte more.
     pub(crate) fn grown(self) -> PairChain
-        requires { Chained self }
+        requires { self.at < 8192 }
         ensures { result ≡ record { fix = self.fix; start = self.start; at = self.at + 1; pairs = self.pairs } }
     {
         PairChain {
-            fix: self.fix,
-            start: self.start,
             at: self.at + 1,
-            pairs: self.pairs,
+            ..self
         }
     }
 }
 
 impl PairPart {
     // One byte less is left.
-    pub(crate) fn shrunk(self, fault: u8) -> PairPart
+    pub(crate) fn shrunk(self, fault: Option<Refusal>) -> PairPart
         requires { 0 < self.left }
         ensures { result ≡ record { begun = self.begun; left = self.left - 1; more = self.more; fault = fault } }
     {
         PairPart {
-            begun: self.begun,
             left: self.left - 1,
-            more: self.more,
             fault,
+            ..self
         }
     }
 }
 
 impl FieldsPhase {
-    pub(crate) fn within(self) -> bool
-        ensures { Decides (Bounded (fields_state self)) result }
-    {
-        match self {
-            FieldsPhase::InOctets { start, at, .. } => fields_within(start, at, 0),
-            FieldsPhase::AtOctet { at, .. } => at < FAR,
-            FieldsPhase::AtPair(chain) => fields_within(chain.start, chain.at, chain.pairs),
-            FieldsPhase::InIdentifier { chain, .. } => fields_within(
-                chain.start,
-                chain.at,
-                chain.pairs,
-            ),
-            FieldsPhase::InValue { chain, .. } => fields_within(chain.start, chain.at, chain.pairs),
-        }
-    }
-
     // The input ends inside the fields.
+    #[tactic(auto, using(crate::proofs::EndRefusal::end_is))]
     pub(crate) fn ended(self) -> WbmpError
         ensures { (o : Settings) → refusal result ≡ resume o (fields_state self) [] }
     {
         match self {
-            FieldsPhase::InOctets { at, .. } => WbmpError::new(EXT_TRUNCATED, at),
-            FieldsPhase::AtOctet { at, .. } => WbmpError::new(EXT_TRUNCATED, at),
-            FieldsPhase::AtPair(chain) => WbmpError::new(EXT_TRUNCATED, chain.at),
-            FieldsPhase::InIdentifier { part, .. } => WbmpError::new(PAIR_TRUNCATED, part.begun),
-            FieldsPhase::InValue { part, .. } => WbmpError::new(PAIR_TRUNCATED, part.begun),
-        }
-    }
-}
-
-impl Phase {
-    // Whether the sums of a step stay in range. They do wherever a reading can stand.
-    pub(crate) fn within(self) -> bool
-        ensures { Decides (Bounded (state self)) result }
-    {
-        match self {
-            Phase::InType(integer) => integer.within(),
-            Phase::AtFix { at } => at < FAR,
-            Phase::InFields(phase) => phase.within(),
-            Phase::InWidth { integer, .. } => integer.within(),
-            Phase::InHeight { integer, .. } => integer.within(),
+            FieldsPhase::InOctets { at, .. } | FieldsPhase::AtOctet { at, .. } => WbmpError::new(
+                Refusal::ExtTruncated,
+                at,
+            ),
+            FieldsPhase::AtPair(chain) => WbmpError::new(Refusal::ExtTruncated, chain.at),
+            FieldsPhase::InIdentifier { part, .. } | FieldsPhase::InValue { part, .. } =>
+                WbmpError::new(Refusal::PairTruncated, part.begun),
         }
     }
 }

@@ -2,16 +2,17 @@
 ghost use Rattle.std.specs.Prelude.{◌≡◌};
 ghost use Rattle.header.specs.Settings.{settings};
 ghost use Rattle.header_reader.specs.Internal.Machine.{step_of};
-ghost use Rattle.header_reader.specs.Internal.Represents.{state, fields_state};
-ghost use Rattle.header_reader.specs.Internal.Phase.{moved, Bounded};
+ghost use Rattle.header_reader.specs.Internal.Standing.{state, fields_state, Reachable};
+ghost use Rattle.header_reader.specs.Internal.Phase.{moved};
 
 use crate::fields::{at_fix, at_octet, at_pair, in_identifier, in_octets, in_value};
 use crate::integers::{in_height, in_type, in_width};
 use crate::phase::{FieldsPhase, Phase, PhaseStep};
+use error::Result;
 use header::HeaderMode;
 
-fn step_fields(phase: FieldsPhase, mode: HeaderMode, byte: u8) -> PhaseStep
-    requires { Bounded (fields_state phase) }
+fn step_fields(phase: FieldsPhase, mode: HeaderMode, byte: u8) -> Result<PhaseStep>
+    requires { Reachable (fields_state phase) }
     ensures { moved result ≡ step_of (settings mode) (fields_state phase) byte }
 {
     match phase {
@@ -25,8 +26,9 @@ fn step_fields(phase: FieldsPhase, mode: HeaderMode, byte: u8) -> PhaseStep
     }
 }
 
-pub(crate) fn step_phase(phase: Phase, mode: HeaderMode, byte: u8) -> PhaseStep
-    requires { Bounded (state phase) }
+// What is `Reachable` of a reader is asked of its phase here and below: no part of a phase has it by itself.
+pub(crate) fn step_phase(phase: Phase, mode: HeaderMode, byte: u8) -> Result<PhaseStep>
+    requires { Reachable (state phase) }
     ensures { moved result ≡ step_of (settings mode) (state phase) byte }
 {
     match phase {

@@ -6,15 +6,16 @@ use native.Mathlib.Omega.{arith}
 use borrow.Author.Tests.{le-leb, lt-leb, eq-eqb, ne_eqb}
 use borrow.Rule.Slice.PartMut.{mid_of, put_mid, Post-is, same_len_mid}
 use lib.ListN.{length, length-set}
+use Rattle.laws.proofs.Tests.{zero_one}
 use Rattle.image.specs.Format.{white_bit}
-use Rattle.image.specs.Geometry.{row_bytes, padding_mask, layout_of}
+use Rattle.image.specs.Geometry.{row_bytes, padding_mask}
 use Rattle.image.specs.Internal.Parts.{mask_last}
 use Rattle.image.specs.Rows.{invert, row_at, clear_padding, convert_row, convert_rows, convert_format}
 use Rattle.image.specs.declared.PixelFormat.{PixelFormat}
+use Rattle.image.specs.declared.PixelFormat.TheVariants.{MonoBlack, MonoWhite}
 use Rattle.image.specs.declared.PlaneLayout.{PlaneLayout}
 use Rattle.image.proofs.InvertedBytes.{invert-length}
 use Rattle.image.proofs.MaskClears.{bytes-inverted, mask-clears}
-use Rattle.image.proofs.PlaneSizes as sizes
 use Rattle.image.proofs.RowStarts.{Started}
 
 -- what is left to convert gives what converting everything gives
@@ -25,15 +26,14 @@ pub record Converting (plane₀ : List ℕ) (w h s row mask : ℕ) (plane : List
   pub same : length plane ≡ length plane₀
   pub rest : convert_rows w s (h - y) y plane ≡ convert_rows w s h 0 plane₀
 
-pub begun : (plane : List ℕ) (w h s : ℕ) (l : PlaneLayout) → l ≡ layout_of w h
-    → Converting plane w h s l.stride l.last_byte_pad_mask plane 0
-begun plane w h s l e =
+pub begun : (plane : List ℕ) (s : ℕ) (l : PlaneLayout) → Converting plane l.width l.height s l.stride l.last_byte_pad_mask plane 0
+begun plane s l =
     record {
-      row_is = sizes.stride-is e;
-      mask_is = sizes.mask_is e;
+      row_is = l.stride_is;
+      mask_is = l.mask_is;
       within = omega arith;
       same = refl;
-      rest = let n : h - 0 ≡ h = omega arith in rw n;
+      rest = let n : l.height - 0 ≡ l.height = omega arith in rw n;
     }
 
 module _ (w s : ℕ) (plane : List ℕ) (y : ℕ) where
@@ -88,11 +88,18 @@ module _ {plane₀ : List ℕ} {w h s row mask : ℕ} {plane : List ℕ} {y : �
       let n : h - y ≡ 0 = omega arith in
       (rw n at c.rest)
 
-module _ (f g : PixelFormat) (w h s : ℕ) (plane : List ℕ) where
-  pub unchanged : white_bit f ≡ white_bit g → plane ≡ convert_format f g w h s plane
-  unfolding convert_format
-  unchanged e = rw (eq-eqb (white_bit f) (white_bit g) e)
+-- formats by the bit that means white
+same-format : (f g : PixelFormat) → white_bit f ≡ white_bit g → f ≡ g
+same-format MonoBlack MonoBlack e = refl
+same-format MonoBlack MonoWhite e = zero_one (sym e)
+same-format MonoWhite MonoBlack e = zero_one e
+same-format MonoWhite MonoWhite e = refl
 
-  pub changed : (white_bit f ≡ white_bit g → ⊥) → convert_rows w s h 0 plane ≡ convert_format f g w h s plane
+module _ (f g : PixelFormat) (w h s : ℕ) (plane : List ℕ) where
+  pub unchanged : f ≡ g → plane ≡ convert_format f g w h s plane
   unfolding convert_format
-  changed e = rw (ne_eqb (white_bit f) (white_bit g) e)
+  unchanged e = rw (eq-eqb (white_bit f) (white_bit g) (ap white_bit e))
+
+  pub changed : (f ≡ g → ⊥) → convert_rows w s h 0 plane ≡ convert_format f g w h s plane
+  unfolding convert_format
+  changed e = rw (ne_eqb (white_bit f) (white_bit g) (λ p. e (same-format f g p)))

@@ -1,11 +1,11 @@
 -- Sizes of planes whose rows stand without gaps, and their layouts.
 use Prim.Native.Nat.{ℕ, ◌+◌, ◌*◌, ◌%◌, ◌<◌}
-use mathlib.Core.Path.{◌≡◌, refl, sym, ap, ◌∙◌, subst}
+use mathlib.Core.Path.{◌≡◌, sym, ap, ◌∙◌, subst}
 use native.Mathlib.Nat.{mul_comm, mul_assoc, mul-pos, mul-add-mod_self_left}
 use native.Mathlib.Omega.{arith}
 use Rattle.laws.proofs.Products.{up_to}
-use Rattle.image.specs.Geometry.{row_bytes, plane_bytes, padding_mask, layout_of}
-use Rattle.image.specs.Internal.Parts.{Laid}
+use Rattle.image.specs.Geometry.{row_bytes, plane_bytes, padding_mask}
+use Rattle.image.specs.Layout.{layout_of}
 use Rattle.image.specs.declared.PlaneLayout.{PlaneLayout}
 
 module _ (w h : ℕ) where
@@ -25,14 +25,8 @@ module _ (w h : ℕ) where
 
 -- a layout that was made for a size
 module _ {w h : ℕ} {l : PlaneLayout} (made : l ≡ layout_of w h) where
-  pub laid : Laid l
-  laid = subst (λ (k : PlaneLayout). k ≡ layout_of k.width k.height) (sym made) refl
-
   pub width_is : l.width ≡ w
   width_is = ap (λ (k : PlaneLayout). k.width) made
-
-  pub height-is : l.height ≡ h
-  height-is = ap (λ (k : PlaneLayout). k.height) made
 
   pub stride-is : l.stride ≡ row_bytes w
   stride-is = ap (λ (k : PlaneLayout). k.stride) made

@@ -2,7 +2,6 @@
 use Rattle.std.specs.Prelude.{ℕ, ◌+◌, ◌-◌, ◌*◌, ◌/◌, ◌^◌, ◌||◌, ltb, leb, eqb}
 use Rattle.error.specs.Choice.{if}
 use Rattle.error.specs.Answer.{Answer, gives, refuses}
-use Rattle.image.specs.declared.PlaneLayout.{PlaneLayout}
 
 -- "Row bytes are width / 8 rounded up"
 abbrev pub row_bytes : ℕ → ℕ
@@ -19,10 +18,6 @@ padding_bits width = row_bytes width * 8 - width
 -- the byte whose bits are 1 at a row's last dots and 0 at its padding
 abbrev pub padding_mask : ℕ → ℕ
 padding_mask width = 256 - 2 ^ padding_bits width
-
-abbrev pub layout_of : ℕ → ℕ → PlaneLayout
-layout_of w h =
-    record { width = w; height = h; stride = row_bytes w; total_bytes = plane_bytes w h; last_byte_pad_mask = padding_mask w }
 
 -- "planes end to end, each stride × (height - 1) + row bytes"
 abbrev pub needed_bytes : ℕ → ℕ → ℕ → ℕ

@@ -3,14 +3,14 @@ ghost use Rattle.std.specs.Prelude.{◌≡◌, length};
 ghost use Rattle.error.specs.Answer.{gives, written};
 ghost use Rattle.error.specs.Emits.{Emits};
 ghost use Rattle.image.specs.Geometry.{row_bytes, plane_bytes};
-ghost use Rattle.image.specs.Internal.Parts.{Laid, mask_last, clear_rows};
+ghost use Rattle.image.specs.Internal.Parts.{mask_last, clear_rows};
 ghost use Rattle.image.specs.Rows.{convert_format, convert_rows, invert};
 
 use crate::geometry::row_start;
 use crate::packed::clear_rows;
 use crate::rows::{copy, invert, invert_from, mask_last};
-use crate::{PixelFormat, PlaneLayout, RowStart};
-use error::{OUTPUT_TOO_SHORT, Written};
+use crate::{PixelFormat, PlaneLayout};
+use error::{Refusal, Result, WbmpError};
 
 fn invert_row(row: &mut [u8], mask: u8)
     ensures { row.new ≡ mask_last mask (invert row.old) }
@@ -21,30 +21,20 @@ fn invert_row(row: &mut [u8], mask: u8)
 
 // Rows from the top, each at its own place, up to the first that is not wholly there.
 fn convert_rows(plane: &mut [u8], layout: PlaneLayout, stride: usize)
-    requires { Laid layout }
     ensures { plane.new ≡ convert_rows layout.width stride layout.height 0 plane.old }
 {
     let row = layout.stride;
-    let mask = layout.last_byte_pad_mask;
-    let mut y: u32 = 0;
-    while y < layout.height {
-        match row_start(plane.len(), stride, y as usize, row) {
-            RowStart::At(at) => {
-                let end = at + row;
-                invert_row(&mut plane[at..end], mask);
-            }
-            RowStart::Missing => {
-                return;
-            }
-        }
-        y += 1;
+    for y in 0..layout.height {
+        let Some(at) = row_start(plane.len(), stride, y as usize, row) else {
+            return;
+        };
+        invert_row(&mut plane[at..at + row], layout.last_byte_pad_mask);
     }
 }
 
 // All rows of a plane without gaps at once.
 fn convert_packed(plane: &mut [u8], layout: PlaneLayout)
-    requires laid { Laid layout }
-    requires plane_len { length plane.old ≡ plane_bytes layout.width layout.height }
+    requires { length plane.old ≡ plane_bytes layout.width layout.height }
     ensures { plane.new ≡ clear_rows layout.width layout.height (invert plane.old) }
 {
     invert(plane);
@@ -62,18 +52,15 @@ pub fn convert_format(
 )
     ensures { plane.new ≡ convert_format from to width height stride plane.old }
 {
-    if from.white_bit() == to.white_bit() {
+    if from == to {
         return;
     }
     let layout = PlaneLayout::new(width, height);
-    let total = layout.total_bytes;
-    if stride == layout.stride {
-        if total <= plane.len() {
-            convert_packed(&mut plane[..total], layout);
-            return;
-        }
+    if stride == layout.stride && layout.total_bytes <= plane.len() {
+        convert_packed(&mut plane[..layout.total_bytes], layout);
+    } else {
+        convert_rows(plane, layout, stride);
     }
-    convert_rows(plane, layout, stride);
 }
 
 // A plane without gaps, written to another place of as many bytes.
@@ -89,18 +76,13 @@ fn convert_from(
     ensures { out.new ≡ convert_format from to width height (row_bytes width) plane.now }
 {
     let layout = PlaneLayout::new(width, height);
-    let row = layout.stride;
-    if to.white_bit() == from.white_bit() {
-        copy(plane, out);
-        return;
-    }
-    if plane.len() == layout.total_bytes {
+    if from != to && plane.len() == layout.total_bytes {
         invert_from(plane, out);
         clear_rows(out, layout);
-        return;
+    } else {
+        copy(plane, out);
+        convert_format(out, width, height, layout.stride, from, to);
     }
-    copy(plane, out);
-    convert_rows(out, layout, row);
 }
 
 // A plane without gaps in another format, at the front of the lent output; nothing is written where it does not fit.
@@ -111,26 +93,26 @@ pub fn into_format(
     from: PixelFormat,
     to: PixelFormat,
     out: &mut [u8],
-) -> Written
+) -> Result<usize>
     ensures { Emits (gives (convert_format from to width height (row_bytes width) plane.now)) (written result)
         out.old out.new }
 {
     let n = plane.len();
     if out.len() < n {
-        return Written::refused(OUTPUT_TOO_SHORT);
+        return Err(WbmpError::new(Refusal::OutputTooShort, 0));
     }
     convert_from(plane, width, height, from, to, &mut out[..n]);
-    Written::Bytes(n)
+    Ok(n)
 }
 
 // The inverted bytes of a list, at the front of the lent output; nothing is written where they do not fit.
-pub fn invert_into(bytes: &[u8], out: &mut [u8]) -> Written
+pub fn invert_into(bytes: &[u8], out: &mut [u8]) -> Result<usize>
     ensures { Emits (gives (invert bytes.now)) (written result) out.old out.new }
 {
     let n = bytes.len();
     if out.len() < n {
-        return Written::refused(OUTPUT_TOO_SHORT);
+        return Err(WbmpError::new(Refusal::OutputTooShort, 0));
     }
     invert_from(bytes, &mut out[..n]);
-    Written::Bytes(n)
+    Ok(n)
 }

@@ -2,8 +2,8 @@
 ghost use Rattle.std.specs.Prelude.{◌≡◌, ◌-◌, ◌/◌, ◌%◌, ◌^◌, ◌<◌};
 ghost use Rattle.image.specs.Dots.{is_white};
 
+use crate::PixelFormat;
 use crate::geometry::row_start;
-use crate::{PixelFormat, RowStart};
 
 // Bit i of a byte, counted from the highest.
 fn bit(byte: u8, i: u32) -> u8
@@ -25,16 +25,13 @@ pub fn is_white(
 ) -> bool
     ensures { result ≡ is_white format width height stride plane.now x y }
 {
-    if x >= width {
-        return false;
-    }
-    if y >= height {
+    if x >= width || y >= height {
         return false;
     }
     let white = format.white_bit();
     let column = (x / 8) as usize;
     match row_start(plane.len(), stride, y as usize, column + 1) {
-        RowStart::At(at) => bit(plane[at + column], x % 8) == white,
-        RowStart::Missing => 0 == white,
+        Some(at) => bit(plane[at + column], x % 8) == white,
+        None => 0 == white,
     }
 }

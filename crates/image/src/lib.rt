@@ -3,7 +3,7 @@
 
 ghost use Rattle.std.specs.Prelude.{◌≡◌};
 ghost use Rattle.image.specs.Format.{white_bit, other_format};
-ghost use Rattle.image.specs.Geometry.{layout_of};
+ghost use Rattle.image.specs.Geometry.{row_bytes, plane_bytes, padding_mask};
 
 mod convert;
 mod dots;
@@ -15,9 +15,9 @@ mod wire;
 pub use convert::{convert_format, into_format, invert_into};
 pub use dots::is_white;
 pub use geometry::{check_geometry, row_stride};
-pub use wire::{wire_bits, wire_bits_at};
+pub use wire::wire_bits;
 
-#[derive(Clone, Copy)]
+#[derive(Clone, Copy, Debug, PartialEq, Eq)]
 pub enum PixelFormat {
     // 1 is white: the format of files.
     MonoBlack,
@@ -56,9 +56,14 @@ pub struct PlaneLayout {
     pub total_bytes: usize,
     // What a row's last byte is masked with, so that its padding is 0.
     pub last_byte_pad_mask: u8,
+    pub ghost stride_is: { stride ≡ row_bytes width },
+    pub ghost total_is: { total_bytes ≡ plane_bytes width height },
+    pub ghost mask_is: { last_byte_pad_mask ≡ padding_mask width },
 }
 
 impl PlaneLayout {
+    ghost use Rattle.image.specs.Layout.{layout_of};
+
     pub fn new(width: u32, height: u32) -> PlaneLayout
         ensures { result ≡ layout_of width height }
     {
@@ -71,11 +76,4 @@ impl PlaneLayout {
             last_byte_pad_mask: geometry::padding_mask(width),
         }
     }
-}
-
-// Where bytes of a row start.
-#[derive(Drop)]
-pub(crate) enum RowStart {
-    At(usize),
-    Missing,
 }

@@ -1,80 +1,22 @@
 // Work on bytes: those of a row, or of many.
-ghost use Rattle.std.specs.Prelude.{◌≡◌, ◌++◌, ◌≤◌, length, replicate, take, drop};
+ghost use Rattle.std.specs.Prelude.{◌≡◌, length};
 ghost use Rattle.image.specs.Internal.Parts.{mask_last};
 ghost use Rattle.image.specs.Rows.{invert};
 
-pub(crate) fn zero(row: &mut [u8])
-    ensures { row.new ≡ replicate (length row.old) 0 }
-{
-    let mut i: usize = 0;
-    while i < row.len() {
-        row[i] = 0;
-        i += 1;
-    }
-}
-
-// The bytes of another list, one by one.
-fn copy_bytes(from: &[u8], to: &mut [u8])
-    requires { length from.now ≡ length to.old }
-    ensures { to.new ≡ from.now }
-{
-    let mut i: usize = 0;
-    while i < to.len() {
-        to[i] = from[i];
-        i += 1;
-    }
-}
-
-// The bytes of a list of 16.
-fn block(from: &[u8]) -> [u8; 16]
-    requires { length from.now ≡ 16 }
-    ensures { result ≡ from.now }
-{
-    let mut b = [0u8; 16];
-    copy_bytes(from, &mut b);
-    b
-}
-
-// The first block of another list.
-fn copy_front(from: &[u8], to: &mut [u8])
-    requires { (length from.now ≡ length to.old) × (16 ≤ length to.old) }
-    ensures { to.new ≡ take 16 from.now ++ drop 16 to.old }
-{
-    let start: usize = 0;
-    let end: usize = 16;
-    let b = block(&from[start..end]);
-    copy_bytes(&b, &mut to[start..end]);
-}
-
-// The bytes of another list: block by block, each read whole before it is stored, and then the rest.
+// The bytes of another list: in blocks of 16, since `copy_from_slice` of any length is a call of memmove, which libcapi.a may not make.
 pub(crate) fn copy(from: &[u8], to: &mut [u8])
     requires { length from.now ≡ length to.old }
     ensures { to.new ≡ from.now }
 {
-    let n = to.len();
-    let mut i: usize = 0;
-    while 15 < n - i {
-        let end = i + 16;
-        let b = block(&from[i..end]);
-        copy_bytes(&b, &mut to[i..end]);
-        i = end;
+    let blocks = to.len() / 16;
+    for k in 0..blocks {
+        let i = 16 * k;
+        let block = <[u8; 16]>::try_from(&from[i..i + 16]).unwrap();
+        to[i..i + 16].copy_from_slice(&block);
     }
-    copy_bytes(&from[i..], &mut to[i..]);
-}
-
-// The same for a stretch that starts at index `at` of its buffer: the blocks are stored at multiples of 16 of it, over the end of one at
-// the front.
-pub(crate) fn copy_at(from: &[u8], at: usize, to: &mut [u8])
-    requires { length from.now ≡ length to.old }
-    ensures { to.new ≡ from.now }
-{
-    if to.len() < 16 {
-        copy_bytes(from, to);
-        return;
+    for i in 16 * blocks..to.len() {
+        to[i] = from[i];
     }
-    copy_front(from, to);
-    let next = 16 - at % 16;
-    copy(&from[next..], &mut to[next..]);
 }
 
 // The inverted bytes of another list.
@@ -82,20 +24,16 @@ pub(crate) fn invert_from(from: &[u8], to: &mut [u8])
     requires { length from.now ≡ length to.old }
     ensures { to.new ≡ invert from.now }
 {
-    let mut i: usize = 0;
-    while i < to.len() {
+    for i in 0..to.len() {
         to[i] = 255 - from[i];
-        i += 1;
     }
 }
 
 pub(crate) fn invert(row: &mut [u8])
     ensures { row.new ≡ invert row.old }
 {
-    let mut i: usize = 0;
-    while i < row.len() {
-        row[i] = 255 - row[i];
-        i += 1;
+    for b in row.iter_mut() {
+        *b = 255 - *b;
     }
 }
 
@@ -105,6 +43,6 @@ pub(crate) fn mask_last(row: &mut [u8], mask: u8)
 {
     let n = row.len();
     if n > 0 {
-        row[n - 1] = row[n - 1] & mask;
+        row[n - 1] &= mask;
     }
 }

@@ -3,7 +3,10 @@ use Prim.Native.Nat.{ℕ}
 use mathlib.Core.Path.{◌≡◌, refl, ap}
 use mathlib.Core.Bool.{Bool, true, false}
 use Rattle.error.specs.Choice.{if}
+use Rattle.std.proofs.Common.{Result, Ok, Err}
+use Rattle.std.specs.Result.{IsErrAnd}
 use Rattle.error.specs.Answer.{Answer, gives, refuses, bind, map}
+use Rattle.error.specs.declared.WbmpError.{WbmpError}
 use Rattle.laws.proofs.Tests.{zero_one}
 
 pub bind-gives : {A B : Type 0} (a : Answer A) (f : A → Answer B) (b : B) → bind a f ≡ gives b → (x : A) × (a ≡ gives x) × (f x ≡ gives b)
@@ -31,3 +34,8 @@ module _ {A B : Type 0} {a c : A} {b d : B} where
   gives-pair e =
       let p : ◌≡◌ {A = A × B} (a, b) (c, d) = cc in
       (ap (λ (r : A × B). r.0) p, ap (λ (r : A × B). r.1) p)
+
+-- an error that `?` passes on is the one that it met
+pub passed : {A : Type 0} (r : Result A WbmpError) (e : WbmpError) → IsErrAnd r (λ d. d ≡ e) → r ≡ Err e
+passed (Ok a) e h = absurd h
+passed (Err d) e h = ap Err h

@@ -29,6 +29,8 @@ bytes_one n = omega (arith, length-bytes n)
 pub bytes-five : (n : ℕ) → n < 4294967296 → length (mbi_bytes n) ≤ 5
 bytes-five n h = omega (arith, length-bytes n, count-le 4 (n / 128) (omega arith))
 
+pub ruleset byte_lengths = (bytes_small, bytes-more, bytes-five)
+
 -- 4294967295 has five
 five : length (mbi_bytes 4294967295) ≡ 5
 unfolding mbi_bytes groups

@@ -1,5 +1,6 @@
 -- Writing an integer from its last byte to its first: the groups of v are still to be written, in front of what stands from k on.
-use Rattle.std.proofs.Common.{◌≡◌, ℕ, ◌+◌, ◌-◌, ◌/◌, ◌%◌, ◌<◌, ◌≤◌, List, ◌∷◌, ◌++◌, length, drop, set, sym, refl, ap, ◌∙◌, arith, length-set}
+use Rattle.std.proofs.Common.{◌≡◌, ℕ, ◌+◌, ◌-◌, ◌/◌, ◌%◌, ◌<◌, ◌≤◌, List, ◌∷◌, ◌++◌, length, drop, set, sym, refl, ap, ◌∙◌, inl, inr, arith, length-set}
+use Rattle.laws.proofs.Tests.{lt-or-le}
 use Rattle.laws.proofs.Store.{drop-set}
 use Rattle.mbi.specs.Bytes.{mbi_bytes}
 use Rattle.mbi.proofs.Groups.{above, count, above_zero, count-zero, above-group, count-group, bytes-append}
@@ -13,29 +14,30 @@ pub record Filling (v₀ k₀ : ℕ) (out₀ : List ℕ) (v k : ℕ) (out : List
   pub whole : above v (drop k out) ≡ above v₀ (drop k₀ out₀)
 
 module _ {v₀ k₀ : ℕ} {out₀ : List ℕ} {v k : ℕ} {out : List ℕ} (f : Filling v₀ k₀ out₀ v k out) where
-  -- a group is left as long as v is not 0
-  pub room : 0 < v → 0 < k
-  room h = omega (arith, f.left, count-group v h)
+  -- a group is left as long as k is not 0
+  some : 0 < k → 0 < v
+  some h = elim (lt-or-le 0 v) [ inl p ↦ p | inr p ↦ omega (arith, f.left, count-zero v (omega arith)) ]
 
   -- one byte more
-  pub filled : 0 < v → Filling v₀ k₀ out₀ (v / 128) (k - 1) (set out (k - 1) (128 + v % 128))
+  pub filled : 0 < k → Filling v₀ k₀ out₀ (v / 128) (k - 1) (set out (k - 1) (128 + v % 128))
   filled h =
-      let e : k - 1 + 1 ≡ k = omega (arith, room h) in
+      let p = some h in
+      let e : k - 1 + 1 ≡ k = omega arith in
       record {
-        left = omega (arith, f.left, count-group v h);
+        left = omega (arith, f.left, count-group v p);
         inside = rw length-set (omega (arith, f.inside));
         same = length-set out (k - 1) (128 + v % 128) ∙ f.same;
         whole =
             ap (above (v / 128))
             (drop-set out (k - 1) (128 + v % 128) (omega (arith, f.inside)) ∙ ap (λ (i : ℕ). (128 + v % 128) ∷ drop i out) e)
-            ∙ sym (above-group v (drop k out) h) ∙ f.whole;
+            ∙ sym (above-group v (drop k out) p) ∙ f.whole;
       }
 
   -- no group is left
-  pub done : v ≡ 0 → out ≡ above v₀ (drop k₀ out₀)
+  pub done : k ≡ 0 → out ≡ above v₀ (drop k₀ out₀)
   done h =
-      let e : k ≡ 0 = f.left ∙ count-zero v h in
-      sym (above_zero v (drop k out) h ∙ ap (λ (i : ℕ). drop i out) e) ∙ f.whole
+      let z : v ≡ 0 = elim (lt-or-le 0 v) [ inl p ↦ omega (arith, f.left, count-group v p) | inr p ↦ omega arith ] in
+      sym (above_zero v (drop k out) z ∙ ap (λ (i : ℕ). drop i out) h) ∙ f.whole
 
 -- what is to be written, with its last byte in place
 module _ (value : ℕ) (old : List ℕ) (n : ℕ) (e : n ≡ length (mbi_bytes value)) (fits : n ≤ length old) where

@@ -1,9 +1,8 @@
 -- Reading integers, lenient and strict (document 01, mbi.rs).
-use Rattle.std.specs.Prelude.{ℕ, ◌+◌, ◌*◌, ◌%◌, Bool, ◌&&◌, List, [], ◌∷◌, drop, ◌==◌, nat_lt}
+use Rattle.std.specs.Prelude.{ℕ, ◌+◌, ◌*◌, ◌%◌, Bool, ◌&&◌, List, [], ◌∷◌, drop, ◌==◌, nat_lt, Result, Ok, Err}
 use Rattle.error.specs.Choice.{if}
-use Rattle.error.specs.Answer.{Answer, gives, refuses, refusal}
-use Rattle.mbi.specs.declared.MbiRead.{MbiRead}
-use Rattle.mbi.specs.declared.MbiRead.TheVariants.{Value}
+use Rattle.error.specs.Answer.{Answer, gives, refuses, number}
+use Rattle.error.specs.declared.WbmpError.{WbmpError}
 use Rattle.mbi.specs.declared.MbiStep.{MbiStep}
 use Rattle.mbi.specs.declared.MbiStep.TheVariants.{Goes, Ends}
 
@@ -49,11 +48,7 @@ integer strict (b ∷ τ) at value count next =
     upon (read_byte strict at value count b) (λ v. integer strict τ (at + 1) v (count + 1) next) (λ v. next v (at + 1) τ)
 
 -- what the code's values mean
-abbrev pub meaning : MbiRead → Answer (ℕ × ℕ)
-meaning (Value value offset) = gives (value, offset)
-meaning (MbiRead.Refused e) = refusal e
-
-abbrev pub step_meaning : MbiStep → ByteRead
-step_meaning (Goes v) = goes v
-step_meaning (Ends v) = ends v
-step_meaning (MbiStep.Refused e) = wrong e.code e.offset
+abbrev pub step_meaning : Result MbiStep WbmpError → ByteRead
+step_meaning (Ok (Goes v)) = goes v
+step_meaning (Ok (Ends v)) = ends v
+step_meaning (Err e) = wrong (number e.kind) e.offset

@@ -1,4 +1,3 @@
-pub mod LimitTests
 pub mod SettingsSame
 pub mod Ceilings
 pub mod Examples

@@ -1,9 +1,8 @@
 -- The settings of reading and their limits (document 01, options.rs and limits.rs).
-use Rattle.std.specs.Prelude.{ℕ, ◌*◌, Bool, true, false, leb, ltb}
+use Rattle.std.specs.Prelude.{ℕ, ◌*◌, Bool, true, false, leb, Option, Some, None}
 use Rattle.error.specs.Choice.{if}
 use Rattle.error.specs.Answer.{Answer, gives, refuses}
 use Rattle.image.specs.declared.PixelFormat.{PixelFormat}
-use Rattle.options.specs.declared.Limit.{Limit}
 use Rattle.options.specs.declared.DecodeMode.{DecodeMode}
 use Rattle.options.specs.declared.DecodeMode.TheVariants.{Lenient, Strict}
 use Rattle.options.specs.declared.DecodeOptions.{DecodeOptions}
@@ -55,8 +54,9 @@ check_limits d width height bytes start =
     (refuses 16 start)
 
 -- what the code's values mean
-abbrev pub bound_of : Limit → Bound
-bound_of l = if (ltb 0 l.set) (at_most l.most) absent
+abbrev pub bound_of : Option ℕ → Bound
+bound_of None = absent
+bound_of (Some most) = at_most most
 
 abbrev pub mode_of : DecodeMode → Mode
 mode_of Lenient = lenient

@@ -1,13 +1,13 @@
 // Settings of reading and of making.
 #![tactic(auto)]
 
-ghost use Rattle.std.specs.Prelude.{◌≡◌, false};
-ghost use Rattle.error.specs.Answer.{checked, refuses};
-ghost use Rattle.options.specs.Limits.{admits, check_limits, absent, at_most, bound_of, strictly, mode_of, decoding};
+ghost use Rattle.std.specs.Prelude.{◌≡◌, false, None};
+ghost use Rattle.error.specs.Answer.{checked};
+ghost use Rattle.options.specs.Limits.{admits, check_limits, bound_of, decoding};
 ghost use Rattle.options.specs.Defaults;
 
-use error::{BYTE_LIMIT, Checked, HEIGHT_LIMIT, PIXEL_LIMIT, WIDTH_LIMIT, WbmpError};
-use header::ExtPresence;
+use error::{Refusal, Result, WbmpError};
+use ext::ExtFieldType;
 use image::PixelFormat;
 
 pub mod limits;
@@ -15,31 +15,13 @@ pub mod limits;
 // The most frames of a card that is written or made: the main image and at most 15 that follow it.
 pub const MAX_MADE_FRAMES: u32 = 16;
 
-// A limit is absent, or the largest number that it admits. `set` is 0 or 1, a whole word: so no copy of the settings carries padding.
-#[derive(Clone, Copy)]
-pub struct Limit {
-    set: u64,
-    most: u64,
-}
+// A limit: absent, or the largest number that it admits.
+pub type Limit = Option<u64>;
 
-impl Limit {
-    pub fn absent() -> Limit
-        ensures { bound_of result ≡ absent }
-    {
-        Limit { set: 0, most: 0 }
-    }
-
-    pub fn at_most(most: u64) -> Limit
-        ensures { bound_of result ≡ at_most most }
-    {
-        Limit { set: 1, most }
-    }
-
-    fn admits(self, n: u64) -> bool
-        ensures { result ≡ admits (bound_of self) n }
-    {
-        if 0 < self.set { n <= self.most } else { true }
-    }
+fn admits(limit: Limit, n: u64) -> bool
+    ensures { result ≡ admits (bound_of limit) n }
+{
+    limit.is_none_or(|most| n <= most)
 }
 
 // How the header of an image is read.
@@ -47,18 +29,6 @@ impl Limit {
 pub enum DecodeMode {
     Lenient,
     Strict,
-}
-
-impl DecodeMode {
-    fn from_strict(strict: bool) -> DecodeMode
-        ensures { mode_of result ≡ strictly strict }
-    {
-        if strict {
-            DecodeMode::Strict
-        } else {
-            DecodeMode::Lenient
-        }
-    }
 }
 
 // The limits of reading, and how it goes.
@@ -80,10 +50,10 @@ impl DecodeOptions {
         ensures { decoding result ≡ Defaults.defaults }
     {
         DecodeOptions {
-            max_width: Limit::absent(),
-            max_height: Limit::absent(),
-            max_pixels: Limit::absent(),
-            max_bytes: Limit::at_most(1073741824),
+            max_width: None,
+            max_height: None,
+            max_pixels: None,
+            max_bytes: Some(1073741824),
             mode: DecodeMode::Lenient,
             format: PixelFormat::MonoBlack,
         }
@@ -117,49 +87,21 @@ impl DecodeOptions {
         self
     }
 
-    fn with_mode(mut self, mode: DecodeMode) -> DecodeOptions
-        ensures { decoding result ≡ Defaults.with_mode (mode_of mode) (decoding self) }
-    {
-        let max_width = self.max_width;
-        let max_height = self.max_height;
-        let max_pixels = self.max_pixels;
-        let max_bytes = self.max_bytes;
-        let format = self.format;
-        self = DecodeOptions {
-            max_width,
-            max_height,
-            max_pixels,
-            max_bytes,
-            mode,
-            format,
-        };
-        self
-    }
-
     pub fn with_strict(mut self, strict: bool) -> DecodeOptions
         ensures { decoding result ≡ Defaults.with_strict strict (decoding self) }
     {
-        let mode = DecodeMode::from_strict(strict);
-        self = self.with_mode(mode);
+        self.mode = if strict {
+            DecodeMode::Strict
+        } else {
+            DecodeMode::Lenient
+        };
         self
     }
 
     pub fn with_format(mut self, format: PixelFormat) -> DecodeOptions
         ensures { decoding result ≡ Defaults.with_format format (decoding self) }
     {
-        let max_width = self.max_width;
-        let max_height = self.max_height;
-        let max_pixels = self.max_pixels;
-        let max_bytes = self.max_bytes;
-        let mode = self.mode;
-        self = DecodeOptions {
-            max_width,
-            max_height,
-            max_pixels,
-            max_bytes,
-            mode,
-            format,
-        };
+        self.format = format;
         self
     }
 
@@ -167,39 +109,42 @@ impl DecodeOptions {
     pub fn unlimited(mut self) -> DecodeOptions
         ensures { decoding result ≡ Defaults.unlimited (decoding self) }
     {
-        self.max_width = Limit::absent();
-        self.max_height = Limit::absent();
-        self.max_pixels = Limit::absent();
-        self.max_bytes = Limit::absent();
+        self.max_width = None;
+        self.max_height = None;
+        self.max_pixels = None;
+        self.max_bytes = None;
         self
     }
 
     // Whether an image of this size, and of so many bytes a plane, is within the limits; a refusal has the offset that is given.
-    pub fn check(self, width: u32, height: u32, bytes: u64, offset: usize) -> Checked
+    #[tactic(auto, unfolding(crate::specs::Limits::check_limits))]
+    pub fn check(self, width: u32, height: u32, bytes: u64, offset: usize) -> Result<()>
         ensures { checked result ≡ check_limits (decoding self) width height bytes offset }
     {
-        let w = width as u64;
-        let h = height as u64;
-        if !self.max_width.admits(w) {
-            return over(WIDTH_LIMIT, offset);
+        let w = u64::from(width);
+        let h = u64::from(height);
+        if !admits(self.max_width, w) {
+            return Err(WbmpError::new(Refusal::WidthLimit, offset));
         }
-        if !self.max_height.admits(h) {
-            return over(HEIGHT_LIMIT, offset);
+        if !admits(self.max_height, h) {
+            return Err(WbmpError::new(Refusal::HeightLimit, offset));
         }
-        if !self.max_pixels.admits(w * h) {
-            return over(PIXEL_LIMIT, offset);
+        if !admits(self.max_pixels, w * h) {
+            return Err(WbmpError::new(Refusal::PixelLimit, offset));
         }
-        if !self.max_bytes.admits(bytes) {
-            return over(BYTE_LIMIT, offset);
+        if !admits(self.max_bytes, bytes) {
+            return Err(WbmpError::new(Refusal::ByteLimit, offset));
         }
-        Checked::Accepted
+        Ok(())
     }
 }
 
-fn over(code: u8, offset: usize) -> Checked
-    ensures { checked result ≡ refuses code offset }
-{
-    Checked::Refused(WbmpError::new(code, offset))
+impl Default for DecodeOptions {
+    ghost is_default = { λ o. decoding o ≡ Defaults.defaults };
+
+    fn default() -> DecodeOptions {
+        DecodeOptions::new()
+    }
 }
 
 // The rule by which gray becomes black or white.
@@ -213,10 +158,12 @@ pub enum Quantize {
     Ordered(u8),
 }
 
-impl Quantize {
-    pub fn default() -> Quantize
-        ensures { result ≡ Quantize.Threshold 128 }
-    {
+impl Default for Quantize {
+    ghost use Rattle.options.specs.declared.Quantize.TheVariants.{Threshold};
+
+    ghost is_default = { λ q. q ≡ Threshold 128 };
+
+    fn default() -> Quantize {
         Quantize::Threshold(128)
     }
 }
@@ -226,18 +173,18 @@ impl Quantize {
 pub struct EncodeOptions {
     pub quantize: Quantize,
     // The fields that are written.
-    pub ext: ExtPresence,
+    pub ext: Option<ExtFieldType>,
     // The classes of pairs are tested.
     pub strict: bool,
 }
 
 impl EncodeOptions {
     pub fn new() -> EncodeOptions
-        ensures { result ≡ record { quantize = Quantize.Threshold 128; ext = ExtPresence.Absent; strict = false } }
+        ensures { result ≡ record { quantize = Quantize.Threshold 128; ext = None; strict = false } }
     {
         EncodeOptions {
             quantize: Quantize::default(),
-            ext: ExtPresence::Absent,
+            ext: None,
             strict: false,
         }
     }
@@ -245,13 +192,7 @@ impl EncodeOptions {
     pub fn with_quantize(mut self, quantize: Quantize) -> EncodeOptions
         ensures { result ≡ record { quantize = quantize; ext = self.ext; strict = self.strict } }
     {
-        let ext = self.ext;
-        let strict = self.strict;
-        self = EncodeOptions {
-            quantize,
-            ext,
-            strict,
-        };
+        self.quantize = quantize;
         self
     }
 
@@ -267,16 +208,10 @@ impl EncodeOptions {
         self.with_quantize(Quantize::Dither)
     }
 
-    pub fn with_ext_fields(mut self, ext: ExtPresence) -> EncodeOptions
+    pub fn with_ext_fields(mut self, ext: Option<ExtFieldType>) -> EncodeOptions
         ensures { result ≡ record { quantize = self.quantize; ext = ext; strict = self.strict } }
     {
-        let quantize = self.quantize;
-        let strict = self.strict;
-        self = EncodeOptions {
-            quantize,
-            ext,
-            strict,
-        };
+        self.ext = ext;
         self
     }
 
@@ -285,5 +220,15 @@ impl EncodeOptions {
     {
         self.strict = strict;
         self
+    }
+}
+
+impl Default for EncodeOptions {
+    ghost use Rattle.options.specs.declared.Quantize.TheVariants.{Threshold};
+
+    ghost is_default = { λ o. o ≡ record { quantize = Threshold 128; ext = None; strict = false } };
+
+    fn default() -> EncodeOptions {
+        EncodeOptions::new()
     }
 }

@@ -3,7 +3,7 @@ ghost use Rattle.std.specs.Prelude.{◌≡◌};
 ghost use Rattle.options.specs.Limits.{decoding};
 ghost use Rattle.options.specs.Defaults.{from_limits, limits_default, limits_unbounded};
 
-use crate::{DecodeOptions, Limit};
+use crate::DecodeOptions;
 
 #[derive(Clone, Copy)]
 pub struct WbmpLimits {
@@ -13,17 +13,19 @@ pub struct WbmpLimits {
     pub max_pixel_bytes: usize,
 }
 
-impl WbmpLimits {
-    pub fn default() -> WbmpLimits
-        ensures { result ≡ limits_default }
-    {
+impl Default for WbmpLimits {
+    ghost is_default = { λ l. l ≡ limits_default };
+
+    fn default() -> WbmpLimits {
         WbmpLimits {
             max_width: 16384,
             max_height: 16384,
             max_pixel_bytes: 8388608,
         }
     }
+}
 
+impl WbmpLimits {
     // Limits that admit everything.
     pub fn unbounded() -> WbmpLimits
         ensures { result ≡ limits_unbounded }
@@ -40,9 +42,17 @@ impl WbmpLimits {
         ensures { decoding result ≡ from_limits self }
     {
         DecodeOptions::new()
-            .with_max_width(Limit::at_most(self.max_width as u64))
-            .with_max_height(Limit::at_most(self.max_height as u64))
-            .with_max_pixels(Limit::absent())
-            .with_max_bytes(Limit::at_most(self.max_pixel_bytes as u64))
+            .with_max_width(Some(u64::from(self.max_width)))
+            .with_max_height(Some(u64::from(self.max_height)))
+            .with_max_pixels(None)
+            .with_max_bytes(Some(self.max_pixel_bytes as u64))
+    }
+}
+
+impl From<WbmpLimits> for DecodeOptions {
+    ghost from_gives = { λ l o. decoding o ≡ from_limits l };
+
+    fn from(limits: WbmpLimits) -> DecodeOptions {
+        limits.into_options()
     }
 }

@@ -42,11 +42,9 @@ pub(crate) fn ordered_dots(
     ensures { result ≡ appended begun (ordered_bit side table.now y column gray.now) (length gray.now) }
 {
     let mut digits = begun;
-    let mut i: usize = 0;
-    while i < gray.len() {
+    for (i, sample) in gray.iter().enumerate() {
         let n = cell_at(table, side, column + i, y);
-        digits = digits * 2 + ordered_dot(side, n, gray[i]);
-        i += 1;
+        digits = digits * 2 + ordered_dot(side, n, *sample);
     }
     digits
 }
@@ -55,13 +53,7 @@ pub(crate) fn ordered_dots(
 fn matching(side: u8, column: usize, n: usize, begun: u32) -> bool
     ensures { TrueExactly (Matching side column n begun) result }
 {
-    if !packs(begun, n) {
-        return false;
-    }
-    if !known_side(side) {
-        return false;
-    }
-    column <= 0xFFFF_FFFF_FFFF_FFFF - n
+    packs(begun, n) && known_side(side) && column <= usize::MAX - n
 }
 
 // The digits of `begun`, and then a dot for each sample, from a column of row y on. Answers `begun` where the side is unknown, there

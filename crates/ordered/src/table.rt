@@ -33,26 +33,18 @@ fn filled(side: usize) -> [u8; 64]
     ensures { Filled side result }
 {
     let mut table = [0u8; 64];
-    let area = side * side;
-    let mut i: usize = 0;
-    while i < area {
+    for i in 0..side * side {
         table[i] = cell(side, i % side, i / side) as u8;
-        i += 1;
     }
     table
 }
 
 // Whether the side is one of document 01's.
+// A side is a number, as `Quantize::Ordered` has it: an enum of the three would be made by this test and be turned back where it is used.
 pub fn known_side(side: u8) -> bool
     ensures { result ≡ known_side side }
 {
-    if side == 2 {
-        return true;
-    }
-    if side == 4 {
-        return true;
-    }
-    side == 8
+    side == 2 || side == 4 || side == 8
 }
 
 // The numbers for the side 2, 4 or 8, row by row, at the front, and zeros behind them; for another side those of 8.

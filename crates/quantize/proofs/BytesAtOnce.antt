@@ -2,7 +2,7 @@
 -- Assumes nothing.
 use Prim.Native.Nat.{ℕ, zero, suc, ◌+◌, ◌-◌, ◌*◌, ◌%◌, ◌^◌, ◌≤◌, ◌<◌}
 use mathlib.Core.Path.{◌≡◌, refl, sym, ap, ◌∙◌, subst}
-use mathlib.Core.Bool.{true}
+use Rattle.std.proofs.Common.{Some, inr, pow_pos}
 use mathlib.Core.List.{List, [], ◌∷◌, ◌++◌, append_assoc, append-nil}
 use native.Mathlib.Nat.{add-zero, mul-one}
 use native.Mathlib.Omega.{arith}
@@ -11,17 +11,15 @@ use lib.IntN.{ℤ}
 use lib.ListN.{length, get_or, take, drop, length-append, length-drop}
 use lib.Seq.{take_all, drop-length, drop-drop}
 use Rattle.quantize.specs.declared.engine.Quantizer.{Quantizer}
-use Rattle.quantize.specs.declared.turn.ByteTaken.{ByteTaken}
-use Rattle.quantize.specs.declared.turn.BytesFilled.{BytesFilled}
 use Rattle.quantize.specs.declared.turn.Place.{Place}
 use Rattle.rules.specs.Rule.{Rule}
 use Rattle.quantize.specs.Finished.{Bytewise}
 use Rattle.dither.specs.Internal.Kernels.{Dots}
-use Rattle.quantize.specs.Internal.Turn.{rule_of, Sound, Dotted, AdvancesPlace, RowFilled}
+use Rattle.quantize.specs.Internal.Turn.{rule_of, Sound, Dotted, AdvancesPlace, onwards, RowFilled}
 use Rattle.dither.specs.Internal.Row.{Bytes}
-use Rattle.quantize.proofs.PlaceAdvanced.{advances-byte}
+use Rattle.quantize.proofs.Places.{at-inside}
+use Rattle.laws.proofs.Tests.{zero_one}
 use Rattle.rules.proofs.ListPiece.{piece, piece-length}
-use Rattle.dither.proofs.DitherDotsLoop.{dots-small}
 use Rattle.quantize.proofs.TurnMoves.{Turn, turn-none, turn-turn, turn_byte}
 use Rattle.quantize.proofs.RunLoop.{Loop, loop-turn}
 use Rattle.quantize.proofs.TurnTakes.{piece-same}
@@ -35,13 +33,9 @@ bytes-long rule w y x samples corner work (suc k) bytes corner' work' b =
     let n = bytes-long rule w y x samples corner work k b.bytes b.corner b.work b.before in
     ap length b.more ∙ length-append b.bytes (b.byte ∷ []) ∙ omega arith
 
-module _ (q : Quantizer) (high : q.height < 2 ^ 64) where
+module _ (q : Quantizer) where
   abbrev rule : Rule
   rule = rule_of q.rule q.table
-
-  -- so many columns on, with this corner
-  abbrev onwards : Place → ℕ → ℕ → Place
-  onwards p k corner = record { frames = p.frames; row = p.row; column = p.column + k; begun = p.begun; corner = corner }
 
   abbrev Standing : Place → List ℤ → Type 0
   Standing p work = Sound q.rule q.width q.height p.row p.column p.begun p.corner (length work)
@@ -55,34 +49,28 @@ module _ (q : Quantizer) (high : q.height < 2 ^ 64) where
     none : p.begun ≡ 0
     none = let b : p.begun < 2 ^ 0 = subst (λ (k : ℕ). p.begun < 2 ^ k) aligned so.begun_small in omega arith
 
-    abbrev next : ByteTaken
-    next =
-        record {
-          place = record { frames = p.frames; row = p.row; column = p.column + 8; begun = 0; corner = corner' };
-          byte = byte;
-          whole = true;
-        }
+    abbrev next : Place
+    next = record { frames = p.frames; row = p.row; column = p.column + 8; begun = 0; corner = corner' }
 
     dotted : Dotted q.rule q.table q.width p.row p.column gray p.begun p.corner work
         (record { digits = byte; corner = corner' }) work'
     dotted = rw none dots
 
-    advances : AdvancesPlace q.width q.height p.frames p.row p.column 8 byte next
+    advances : AdvancesPlace q.width q.height p.frames p.row p.column 8 byte (Some byte) next
     advances =
         let z : 8 - (p.column % 8 + 8) ≡ 0 = omega arith in
-        advances-byte q.width q.height p.frames p.row p.column 8 byte corner' byte
-        (record {
-          some = omega arith;
-          left = left;
-          in_row = omega arith;
-          in_byte = omega arith;
+        record {
+          in_row = in_row;
           in_frame = so.in_frame;
-          high = high;
-          digits_small =
-              dots-small rule q.width p.row p.column gray p.begun p.corner work byte corner' work' (p.column % 8) 8 dotted
-              so.begun_small long;
-        })
-        (rw z (sym (mul-one byte))) in_row (omega arith)
+          begun_small = pow_pos ((p.column + 8) % 8);
+          ended = λ x t. record {
+            ends = inr (omega arith);
+            byte_is = rw z (let e : byte ≡ x = cc in sym e ∙ sym (mul-one byte));
+            begun_is = refl;
+          };
+          goes = λ t. zero_one (cc);
+          moves = λ s n ew eh a. at-inside s n p.frames p.row p.column a 8 left (omega arith);
+        }
 
     turn_one : Turn q p xs work 8 (byte ∷ []) (onwards p 8 corner') work'
     turn_one =
@@ -93,7 +81,7 @@ module _ (q : Quantizer) (high : q.height < 2 ^ 64) where
           begun = i;
           corner = corner';
         }) work') (sym none)
-        (turn_byte q p xs gray work so left 8 (omega arith) (omega arith) (omega arith) long same b byte work' next dotted advances refl)
+        (turn_byte q p xs gray work so left 8 (omega arith) (omega arith) (omega arith) long same b byte work' (Some byte) next dotted advances byte refl)
 
   module _ (samples : List ℕ) (work : List ℤ) (p : Place) (so : Standing p work) (left : 0 < p.frames) (b : Bytewise rule p.row) where
     bytes-turn : (k : ℕ) (bytes : List ℕ) (corner' : ℕ) (work' : List ℤ) → (0 < k → p.column % 8 ≡ 0) → 8 * k ≤ length samples
@@ -133,26 +121,24 @@ module _ (q : Quantizer) (high : q.height < 2 ^ 64) where
         rw (rest_out, Post-is written (length out) out in-out, drop-length, append-nil, drop-drop, ← e)
         (sym (append_assoc (take written out) bytes (drop (written + length bytes) out)))
 
-    pub loop-filled : (r : BytesFilled) (part : List ℕ) (work' : List ℤ)
+    pub loop-filled : (k : ℕ) (p' : Place) (part : List ℕ) (work' : List ℤ)
         → RowFilled q.rule q.width p (take (length samples - taken) (drop taken samples)) (mid_of written (length out - written) out)
-        work r part work'
-        → Loop q samples out₀ work₀ (put_mid written (length out - written) out part) work' (onwards p (8 * r.count) r.corner)
-        (taken + 8 * r.count) (written + r.count)
-    loop-filled r part work' F =
-        let k = r.count in
+        work k p' part work'
+        → Loop q samples out₀ work₀ (put_mid written (length out - written) out part) work' p' (taken + 8 * k) (written + k)
+    loop-filled k p' part work' F =
         let h = F.wholes in
         let there : 8 * k ≤ length samples - taken = omega (arith, h.there, ap length rest-samples, length-drop taken samples) in
         let room : k ≤ length out - written = omega (arith, h.fits, ap length rest_out, length-drop written out) in
         let c =
-        subst (λ (l : List ℕ). Bytes rule q.width p.row p.column l p.corner work k F.bytes r.corner work') rest-samples
+        subst (λ (l : List ℕ). Bytes rule q.width p.row p.column l p.corner work k F.bytes p'.corner work') rest-samples
         (F.fills q.table) in
-        let n = bytes-long rule q.width p.row p.column (drop taken samples) p.corner work k F.bytes r.corner work' c in
+        let n = bytes-long rule q.width p.row p.column (drop taken samples) p.corner work k F.bytes p'.corner work' c in
         let T =
-        bytes-turn (drop taken samples) work p L.turn.sound left b k F.bytes r.corner work' h.aligned
+        bytes-turn (drop taken samples) work p L.turn.sound left b k F.bytes p'.corner work' h.aligned
         (omega (arith, length-drop taken samples)) h.in_row c in
-        subst (λ (i : ℕ). Loop q samples out₀ work₀ (put_mid written (length out - written) out part) work' (onwards p (8 * k) r.corner)
-        (taken + 8 * k) (written + i)) n
-        (loop-turn q samples out₀ work₀ out work p taken written L (8 * k) F.bytes (onwards p (8 * k) r.corner) work' T
+        subst (λ (i : ℕ). Loop q samples out₀ work₀ (put_mid written (length out - written) out part) work' p' (taken + 8 * k) (written + i)) n
+        (loop-turn q samples out₀ work₀ out work p taken written L (8 * k) F.bytes p' work'
+        (subst (λ (o : Place). Turn q p (drop taken samples) work (8 * k) F.bytes o work') (sym F.place) T)
         (omega (arith, L.taken_fits)) (omega (arith, in-out))
         (put_mid written (length out - written) out part)
         (ap (put_mid written (length out - written) out) F.stored ∙ put_rest F.bytes k n))

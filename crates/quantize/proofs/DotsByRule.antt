@@ -11,13 +11,12 @@ use lib.ListN.{length, get_or, take}
 use Rattle.error.specs.Choice.{if}
 use Rattle.options.specs.declared.Quantize.{Quantize}
 use Rattle.options.specs.declared.Quantize.TheVariants.{Threshold, Dither, Ordered}
-use Rattle.dither.specs.declared.dots.RowDots.{RowDots}
 use Rattle.rules.specs.Bits.{bit, appended}
 use Rattle.rules.specs.Ordered.{bound, known_side}
 use Rattle.rules.specs.Rule.{threshold, ordered, known_rule, carries, enough_work, rule_named, rule_given}
 use Rattle.dither.specs.Internal.Carry.{Carry, machine_dot, next}
 use Rattle.rules.specs.Internal.Kernels.{threshold_bit}
-use Rattle.dither.specs.Internal.Kernels.{row_carry, row_bit, carry_of, Diffuses}
+use Rattle.dither.specs.Internal.Kernels.{row_carry, row_bit, carry_of}
 use Rattle.ordered.specs.Internal.Sides.{ordered_bit}
 use Rattle.quantize.specs.Internal.Turn.{rule_of, Dotted, Served}
 use Rattle.rules.proofs.DigitsAppended.{appended-ext}
@@ -60,12 +59,6 @@ module _ (rule : Quantize) (table : List ℕ) (w y x : ℕ) (gray : List ℕ) (b
         carry = threshold-carry w y x gray (carry_of corner work) t (length gray);
         small = h;
       })
-
-  pub dots-dither : (r : RowDots) (work' : List ℤ) → rule ≡ Dither → Diffuses w y x gray begun corner work r work'
-      → Gives rule r.digits r.corner work'
-  dots-dither r work' e d =
-      subst (λ (x : Quantize). Gives x r.digits r.corner work') (sym e)
-      (record { digits = d.digits; carry = d.carry; small = d.small })
 
   pub dots-ordered : (side digits : ℕ) → rule ≡ Ordered side → known_side side ≡ true → corner ≤ 256
       → digits ≡ appended begun (ordered_bit side table y x gray) (length gray) → Gives rule digits corner work

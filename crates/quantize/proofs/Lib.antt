@@ -1,7 +1,6 @@
 -- The laws that several proofs cite.
 pub mod Places
 pub mod BytePacked
-pub mod PlaceAdvanced
 pub mod DotsByRule
 pub mod TakenMost
 pub mod MachineSteps

@@ -1,7 +1,7 @@
 -- One frame's bytes as a plane of dots, each by its sample's number: what a plane that is written at once has to hold.
 -- Assumes nothing.
 use Prim.Native.Nat.{ℕ, ◌+◌, ◌*◌, ◌/◌, ◌%◌, ◌≤◌, ◌<◌}
-use mathlib.Core.Path.{◌≡◌, refl, sym, ap, ◌∙◌, fun_ext, subst, subst⁻¹}
+use mathlib.Core.Path.{◌≡◌, refl, sym, ap, ◌∙◌, fun_ext}
 use mathlib.Core.Logic.{⊎_elim}
 use mathlib.Core.List.{List, ◌++◌}
 use native.Mathlib.Nat.{div-lt_iff_lt-mul, div-eq_of_lt, mod-eq_of_lt, mul_comm}
@@ -10,19 +10,18 @@ use borrow.Author.Tests.{leb-true}
 use lib.IntN.{ℤ}
 use lib.ListN.{length, get_or, take, drop, take-append-drop}
 use lib.Seq.{length-take-le}
-use Rattle.error.specs.Answer.{Answer, gives}
+use Rattle.error.specs.Answer.{gives}
 use Rattle.laws.proofs.Products.{up_to}
 use Rattle.laws.proofs.Tests.{zero_one}
 use Rattle.image.specs.Geometry.{row_bytes, plane_bytes}
-use Rattle.options.specs.declared.Quantize.{Quantize}
 use Rattle.options.specs.declared.Quantize.TheVariants.{Threshold, Dither}
 use Rattle.rules.specs.Bits.{upto, bit}
 use Rattle.rules.specs.Diffusion.{white, value_at}
 use Rattle.rules.specs.Internal.Kernels.{threshold_bit}
 use Rattle.rules.specs.Internal.Planes.{plane_where, dither_bit}
-use Rattle.rules.specs.Rule.{Rule, threshold, dither, rightwards, dot, rule_named, rule_given}
+use Rattle.rules.specs.Rule.{Rule, threshold, dither, rightwards, dot}
 use Rattle.quantize.specs.Finished.{Setting, count, frame, dot_of, finished, setting}
-use Rattle.quantize.specs.Whole.{refused_by, Quantizes}
+use Rattle.quantize.specs.Whole.{scan_checked, Quantizes}
 use Rattle.rules.specs.Packed.{padded_bit, byte_at}
 use Rattle.laws.proofs.Tests.{lt-or-le}
 use Rattle.rules.proofs.DigitsAppended.{appended-ext}
@@ -83,17 +82,14 @@ threshold-plane t w h gray wide high enough =
     plane-by (threshold t) w h gray wide high enough _ (λ n l. ap (threshold_bit t gray) (sym (place_of w h n)))
 
 -- so the plane that the rule writes at once is what a whole call promises
-pub quantizes-threshold : (rule : Quantize) (t w h : ℕ) (gray out : List ℕ) (work : List ℤ) (code : ℕ) → rule ≡ Threshold t
-    → code ≡ refused_by rule w h (length gray) (length work) → code ≡ 0 → {n : ℕ} → n ≡ plane_bytes w h → n ≤ length out
-    → (out' : List ℕ) → out' ≡ plane_where w h (threshold_bit t gray) (length gray) out
-    → Quantizes rule w h gray out work (gives n) out' work
-quantizes-threshold rule t w h gray out work code r e z {n} b l out' o =
-    let p = passed rule w h (length gray) (length work) (sym z ∙ e) in
-    subst⁻¹ (λ (k : ℕ). Quantizes rule w h gray out work (gives k) out' work) b
-    (quantizes-plane rule w h gray out work code e z (subst (λ (k : ℕ). k ≤ length out) b l) (threshold_bit t gray) out' work
-    (ap (λ (q : Quantize). finished (setting (rule_given (rule_named q)) w h 1) (take (w * h) gray)) r
-    ∙ threshold-plane t w h gray p.wide p.high p.enough)
-    o refl (λ _. refl))
+pub quantizes-threshold : (t w h : ℕ) (gray out : List ℕ) (work : List ℤ)
+    → scan_checked (Threshold t) w h (length gray) (length work) ≡ gives tt → plane_bytes w h ≤ length out → (out' : List ℕ)
+    → out' ≡ plane_where w h (threshold_bit t gray) (length gray) out
+    → Quantizes (Threshold t) w h gray out work (gives (plane_bytes w h)) out' work
+quantizes-threshold t w h gray out work z l out' o =
+    let p = passed (Threshold t) w h (length gray) (length work) z in
+    quantizes-plane (Threshold t) w h gray out work z l (threshold_bit t gray) out' work (threshold-plane t w h gray p.wide p.high p.enough)
+    o refl (λ _. refl)
 
 frame-first : (w h : ℕ) (gray : List ℕ) → frame w h gray 0 ≡ (λ x y. get_or gray (y * w + x) 0)
 unfolding frame
@@ -112,26 +108,14 @@ dither-plane w h gray wide high enough =
     let q : n / w < h = (div-lt_iff_lt-mul wide).1 l in
     rw (div-eq_of_lt q, mod-eq_of_lt q, frame-first w h gray))
 
-pub quantizes-dither : (w h : ℕ) (gray out : List ℕ) (work : List ℤ) → 0 ≡ refused_by Dither w h (length gray) (length work)
-    → plane_bytes w h ≤ length out → (out' : List ℕ) (work' : List ℤ) → DitherPlane w h gray out work out' work' → {n : ℕ}
-    → n ≡ plane_bytes w h → Quantizes Dither w h gray out work (gives n) out' work'
-quantizes-dither w h gray out work e l out' work' d {n} b =
-    let p = passed Dither w h (length gray) (length work) e in
+pub quantizes-dither : (w h : ℕ) (gray out : List ℕ) (work : List ℤ) → scan_checked Dither w h (length gray) (length work) ≡ gives tt
+    → plane_bytes w h ≤ length out → (out' : List ℕ) (work' : List ℤ) → DitherPlane w h gray out work out' work'
+    → Quantizes Dither w h gray out work (gives (plane_bytes w h)) out' work'
+quantizes-dither w h gray out work z l out' work' d =
+    let p = passed Dither w h (length gray) (length work) z in
     let m = mul_comm (row_bytes w) h in
     let k : 2 * w ≤ length work = leb-true (2 * w) (length work) p.room in
-    subst⁻¹ (λ (q : ℕ). Quantizes Dither w h gray out work (gives q) out' work') b
-    (quantizes-plane Dither w h gray out work 0 e refl l (dither_bit w gray) out' work'
-    (dither-plane w h gray p.wide p.high p.enough)
+    quantizes-plane Dither w h gray out work z l (dither_bit w gray) out' work' (dither-plane w h gray p.wide p.high p.enough)
     (plane-dithered w h gray out work p.enough (omega arith) (omega arith) out' work' d
     ∙ sym (plane-in w h (dither_bit w gray) (length gray) out (p.enough, omega arith)))
-    d.beyond (λ f. zero_one (cc)))
-
--- what is asked and promised of the rule by its name
-pub dither-accepted : (rule : Quantize) (w h gray work out : ℕ) → rule ≡ Dither → {code : ℕ} → code ≡ refused_by rule w h gray work
-    → code ≡ 0 → {n : ℕ} → n ≡ plane_bytes w h → n ≤ out → (0 ≡ refused_by Dither w h gray work) × (plane_bytes w h ≤ out)
-dither-accepted rule w h gray work out r e z b l =
-    (subst (λ (q : Quantize). 0 ≡ refused_by q w h gray work) r (sym z ∙ e), subst (λ (k : ℕ). k ≤ out) b l)
-
-pub quantizes-as : (rule : Quantize) (w h : ℕ) (gray out : List ℕ) (work : List ℤ) (r : Answer ℕ) (out' : List ℕ) (work' : List ℤ)
-    → rule ≡ Dither → Quantizes Dither w h gray out work r out' work' → Quantizes rule w h gray out work r out' work'
-quantizes-as rule w h gray out work r out' work' e q = subst (λ (d : Quantize). Quantizes d w h gray out work r out' work') (sym e) q
+    d.beyond (λ f. zero_one (cc))

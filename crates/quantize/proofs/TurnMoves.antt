@@ -3,14 +3,14 @@
 -- Assumes nothing.
 use Prim.Native.Nat.{ℕ, ◌+◌, ◌%◌, ◌≤◌, ◌<◌}
 use mathlib.Core.Path.{◌≡◌, refl, sym, ap, ◌∙◌, subst}
-use mathlib.Core.Bool.{true, false}
+use Rattle.std.proofs.Common.{Option, Some, None}
+use mathlib.Core.Bool.{false}
 use mathlib.Core.List.{List, [], ◌∷◌, ◌++◌}
 use native.Mathlib.Nat.{add-zero, add_assoc}
 use native.Mathlib.Omega.{arith}
 use lib.IntN.{ℤ}
 use lib.ListN.{length, get_or, drop}
 use Rattle.quantize.specs.declared.engine.Quantizer.{Quantizer}
-use Rattle.quantize.specs.declared.turn.ByteTaken.{ByteTaken}
 use Rattle.quantize.specs.declared.turn.Place.{Place}
 use Rattle.rules.specs.Bits.{appended}
 use Rattle.rules.specs.Rule.{Rule, carries, rule_named, rule_given}
@@ -84,10 +84,10 @@ module _ (q : Quantizer) (p : Place) (xs gray : List ℕ) (work : List ℤ)
     (left : 0 < p.frames) (m : ℕ) (some : 0 < m) (in_row : p.column + m ≤ q.width) (in_byte : p.column % 8 + m ≤ 8)
     (graylong : length gray ≡ m)
     (same : (i : ℕ) → i < m → get_or xs i 0 ≡ get_or gray i 0) (b : Bytewise (rule_of q.rule q.table) p.row)
-    (digits : ℕ) (work' : List ℤ) (nx : ByteTaken)
+    (digits : ℕ) (work' : List ℤ) (byte : Option ℕ) (p' : Place)
     (dt : Dotted q.rule q.table q.width p.row p.column gray p.begun p.corner work
-    (record { digits = digits; corner = nx.place.corner }) work')
-    (ad : AdvancesPlace q.width q.height p.frames p.row p.column m digits nx) where
+    (record { digits = digits; corner = p'.corner }) work')
+    (ad : AdvancesPlace q.width q.height p.frames p.row p.column m digits byte p') where
   abbrev rule : Rule
   rule = rule_of q.rule q.table
 
@@ -98,8 +98,8 @@ module _ (q : Quantizer) (p : Place) (xs gray : List ℕ) (work : List ℤ)
   long-is = sym (ap length kept-is) ∙ row-long rule q.width p.row p.column gray (carry_of p.corner work) (length gray)
 
   turned : (bytes : List ℕ)
-      → ((s : Setting) (n : ℕ) → Suits q s → At s n p.frames p.row p.column → Moved s n p xs work m bytes nx.place work')
-      → Turn q p xs work m bytes nx.place work'
+      → ((s : Setting) (n : ℕ) → Suits q s → At s n p.frames p.row p.column → Moved s n p xs work m bytes p' work')
+      → Turn q p xs work m bytes p' work'
   turned bytes moves =
       record {
         sound = record {
@@ -129,7 +129,7 @@ module _ (q : Quantizer) (p : Place) (xs gray : List ℕ) (work : List ℤ)
     by : Bytewise s.rule p.row
     by = subst (λ (x : Rule). Bytewise x p.row) (sym t.rule) b
 
-    carry-is : row_carry s.rule s.width p.row p.column gray (carry_of p.corner work) m ≡ carry_of nx.place.corner work'
+    carry-is : row_carry s.rule s.width p.row p.column gray (carry_of p.corner work) m ≡ carry_of p'.corner work'
     carry-is = rw (t.rule, t.width, ← graylong) dt.carry
 
     digits_are : appended p.begun (row_bit s.rule s.width p.row p.column gray (carry_of p.corner work)) m ≡ digits
@@ -141,11 +141,11 @@ module _ (q : Quantizer) (p : Place) (xs gray : List ℕ) (work : List ℤ)
           carry = row_carry s.rule s.width p.row p.column gray (carry_of p.corner work) m;
         }) (record {
           begun = y;
-          carry = carry_of nx.place.corner work';
+          carry = carry_of p'.corner work';
         })
     state-is x y e = let c = carry-is in cc
 
-    moved_on : nx.whole ≡ false → Moved s n p xs work m [] nx.place work'
+    moved_on : byte ≡ None → Moved s n p xs work m [] p' work'
     moved_on h =
         let g = ad.goes h in
         let P =
@@ -157,20 +157,20 @@ module _ (q : Quantizer) (p : Place) (xs gray : List ℕ) (work : List ℤ)
           keeps = P.keeps ∙ state-is _ _ (digits_are ∙ sym g.begun_is);
         }
 
-    moved-byte : nx.whole ≡ true → Moved s n p xs work m (nx.byte ∷ []) nx.place work'
-    moved-byte h =
-        let g = ad.ended h in
+    moved-byte : (x : ℕ) → byte ≡ Some x → Moved s n p xs work m (x ∷ []) p' work'
+    moved-byte x h =
+        let g = ad.ended x h in
         let P = part-last s n st xs gray p.frames p.row p.column a left m in-row in_byte same by some (rw t.width g.ends) in
         record {
           at = ad.moves s n t.width t.height a;
           emits = P.emits ∙ ap (λ (x : ℕ). x ∷ []) (rw digits_are (sym g.byte_is));
-          keeps = P.keeps ∙ state-is 0 nx.place.begun (sym g.begun_is);
+          keeps = P.keeps ∙ state-is 0 p'.begun (sym g.begun_is);
         }
 
   -- no byte is finished
-  pub turn_on : nx.whole ≡ false → Turn q p xs work m [] nx.place work'
+  pub turn_on : byte ≡ None → Turn q p xs work m [] p' work'
   turn_on h = turned [] (λ s n t a. moved_on s n t a h)
 
   -- a byte is finished
-  pub turn_byte : nx.whole ≡ true → Turn q p xs work m (nx.byte ∷ []) nx.place work'
-  turn_byte h = turned (nx.byte ∷ []) (λ s n t a. moved-byte s n t a h)
+  pub turn_byte : (x : ℕ) → byte ≡ Some x → Turn q p xs work m (x ∷ []) p' work'
+  turn_byte x h = turned (x ∷ []) (λ s n t a. moved-byte s n t a x h)

@@ -2,15 +2,14 @@
 -- Assumes nothing.
 use Prim.Native.Nat.{ℕ, ◌+◌, ◌-◌, ◌^◌, ◌≤◌, ◌<◌}
 use mathlib.Core.Path.{◌≡◌, ◌∙◌, subst}
-use mathlib.Core.Bool.{true, false}
+use Rattle.std.proofs.Common.{Option, Some, None}
 use mathlib.Core.List.{List}
-use mathlib.Core.Logic.{◌⊎◌, ⊎_elim}
+use mathlib.Core.Logic.{⊎_elim}
 use native.Mathlib.Omega.{arith}
 use lib.IntN.{ℤ}
 use lib.ListN.{length, get_or, drop, set}
 use lib.Seq.{get_or-drop}
 use Rattle.quantize.specs.declared.engine.Quantizer.{Quantizer}
-use Rattle.quantize.specs.declared.turn.ByteTaken.{ByteTaken}
 use Rattle.quantize.specs.declared.turn.Place.{Place}
 use Rattle.quantize.specs.Finished.{Bytewise}
 use Rattle.quantize.specs.Internal.Turn.{rule_of, SamplesForByte, AdvancesPlace, Taking, Takes}
@@ -55,31 +54,31 @@ module _ (q : Quantizer) (samples out₀ : List ℕ) (work₀ : List ℤ) (out :
         begun_small = so.begun_small;
       }
 
-  module _ (t : ByteTaken) (work' : List ℤ) (T : Takes q.rule q.table q.width q.height p samples-for-byte work t work') where
-    advances : AdvancesPlace q.width q.height p.frames p.row p.column m T.digits t
-    advances = subst (λ (n : ℕ). AdvancesPlace q.width q.height p.frames p.row p.column n T.digits t) long T.advances
+  module _ (byte : Option ℕ) (p' : Place) (work' : List ℤ)
+      (T : Takes q.rule q.table q.width q.height p samples-for-byte work byte p' work') where
+    advances : AdvancesPlace q.width q.height p.frames p.row p.column m T.digits byte p'
+    advances = subst (λ (n : ℕ). AdvancesPlace q.width q.height p.frames p.row p.column n T.digits byte p') long T.advances
 
     -- a byte is finished only where there is room for it
-    pub took-room : t.whole ≡ true → written < length out
-    took-room h =
+    pub took-room : (x : ℕ) → byte ≡ Some x → written < length out
+    took-room x h =
         ⊎_elim (λ l. l)
         (λ (l : length out ≤ written).
         let z = sh.fits (omega arith) in
         ⊎_elim (λ e. let f : ⊥ = omega (arith, z.0) in absurd f) (λ e. let f : ⊥ = omega (arith, z.1) in absurd f)
-        (advances.ended h).ends)
+        (advances.ended x h).ends)
         (lt-or-le written (length out))
 
     -- the row is finished byte after byte
     module _ (b : Bytewise (rule_of q.rule q.table) p.row) where
-      pub loop-took : (out' : List ℕ) (written' : ℕ)
-          → ((t.whole ≡ true) × (out' ≡ set out written t.byte) × (written' ≡ written + 1))
-          ⊎ ((t.whole ≡ false) × (out' ≡ out) × (written' ≡ written))
-          → Loop q samples out₀ work₀ out' work' t.place (taken + m) written'
-      loop-took out' written' =
-          ⊎_elim
-          (λ v. rw (v.1, v.2) (loop-byte q samples out₀ work₀ out work p taken written L m t.byte t.place work'
+      pub loop-took-byte : (x : ℕ) → byte ≡ Some x → Loop q samples out₀ work₀ (set out written x) work' p' (taken + m) (written + 1)
+      loop-took-byte x h =
+          loop-byte q samples out₀ work₀ out work p taken written L m x p' work'
           (turn_byte q p (drop taken samples) samples-for-byte work L.turn.sound left m (omega (arith, some)) sh.in_row sh.in_byte
-          long (piece-same samples taken m) b T.digits work' t T.dotted advances v.0) end_fits (took-room v.0)))
-          (λ v. rw (v.1, v.2) (loop-on q samples out₀ work₀ out work p taken written L m t.place work'
+          long (piece-same samples taken m) b T.digits work' byte p' T.dotted advances x h) end_fits (took-room x h)
+
+      pub loop-took-none : byte ≡ None → Loop q samples out₀ work₀ out work' p' (taken + m) written
+      loop-took-none h =
+          loop-on q samples out₀ work₀ out work p taken written L m p' work'
           (turn_on q p (drop taken samples) samples-for-byte work L.turn.sound left m (omega (arith, some)) sh.in_row sh.in_byte
-          long (piece-same samples taken m) b T.digits work' t T.dotted advances v.0) end_fits))
+          long (piece-same samples taken m) b T.digits work' byte p' T.dotted advances h) end_fits

@@ -1,5 +1,7 @@
 -- Whole planes: the refusals in their order, and that one frame takes all of its samples.
 -- Assumes nothing.
+use Rattle.std.proofs.Common.{Err}
+use Rattle.error.specs.declared.WbmpError.{WbmpError}
 use Prim.Native.Nat.{ℕ, ◌+◌, ◌-◌, ◌*◌, ◌≤◌, ◌<◌, min}
 use mathlib.Core.Path.{◌≡◌, refl, sym, ap, ap₂, ◌∙◌, subst}
 use mathlib.Core.Bool.{Bool, true, false, ◌||◌}
@@ -12,23 +14,20 @@ use lib.Dec.{eqb, leb}
 use lib.IntN.{ℤ}
 use lib.ListN.{length, take, drop, length-take}
 use Rattle.error.specs.Choice.{if}
-use Rattle.error.specs.Answer.{Answer, gives, refuses, bind, map, code_of, written}
-use Rattle.error.specs.declared.Written.{Written}
-use Rattle.error.specs.Emits.{Emits}
+use Rattle.error.specs.Answer.{Answer, gives, refuses, map, number, refusal, checked, written}
+use Rattle.error.specs.Emits.{Emits, emitted, output}
 use Rattle.laws.proofs.Tests.{if-true, zero_one}
 use Rattle.laws.proofs.Writers.{emits_none, emits-all}
 use Rattle.options.specs.declared.Quantize.{Quantize}
-use Rattle.options.specs.declared.Quantize.TheVariants.{Ordered}
 use Rattle.image.specs.Geometry.{row_bytes, plane_bytes}
 use Rattle.quantize.specs.declared.engine.Quantizer.{Quantizer}
 use Rattle.quantize.specs.declared.engine.RunEnded.{RunEnded}
 use Rattle.quantize.specs.Finished.{Setting, count, dot_of, finished, takes, setting}
 use Rattle.rules.specs.Packed.{byte_at}
-use Rattle.rules.specs.Ordered.{known_side}
-use Rattle.rules.specs.Rule.{Rule, meaning, known_rule, carries, enough_work, rule_named, rule_given}
+use Rattle.rules.specs.Rule.{Rule, known_rule, carries, enough_work, rule_named, rule_given}
 use Rattle.rules.specs.Internal.Planes.{plane, plane_where}
 use Rattle.quantize.specs.Internal.Engine.{NewQuantizer, QuantizerAfter, Runs}
-use Rattle.quantize.specs.Whole.{check_scan, refused_by, quantized, Quantizes}
+use Rattle.quantize.specs.Whole.{check_scan, scan_checked, quantized, Quantizes}
 use Rattle.quantize.proofs.Places.{count-rows}
 use Rattle.quantize.proofs.TakenMost.{most-is}
 use Rattle.rules.proofs.PlaneWritten.{plane-in}
@@ -50,9 +49,9 @@ module _ (asked : Quantize) (w h gray work : ℕ) where
       ap (λ (a : Answer Rule). if (eqb w 0 || eqb h 0) (refuses 8 0) a)
       (named-if asked (λ (r : Rule). if (enough_work r w work) (if (leb (w * h) gray) (gives r) (refuses 22 0)) (refuses 28 0)))
 
-  checked : (a b c d f : Bool) → eqb w 0 ≡ a → eqb h 0 ≡ b → known_rule asked ≡ c → enough_work rule w work ≡ d → leb (w * h) gray ≡ f
+  by_tests : (a b c d f : Bool) → eqb w 0 ≡ a → eqb h 0 ≡ b → known_rule asked ≡ c → enough_work rule w work ≡ d → leb (w * h) gray ≡ f
       → check_scan asked w h gray work ≡ tests a b c d f
-  checked a b c d f p q r s t =
+  by_tests a b c d f p q r s t =
       check-is
       ∙ ap₂ (λ (x y : Bool). tests x y (known_rule asked) (enough_work rule w work) (leb (w * h) gray)) p q
       ∙ ap₂ (λ (x y : Bool). tests a b x y (leb (w * h) gray)) r s
@@ -61,21 +60,7 @@ module _ (asked : Quantize) (w h gray work : ℕ) where
   module _ (pw : w ≡ 0 → ⊥) (ph : h ≡ 0 → ⊥) (known : known_rule asked ≡ true) (room : enough_work rule w work ≡ true) where
     pub given-rule : w * h ≤ gray → check_scan asked w h gray work ≡ gives rule
     given-rule l =
-        checked false false true true true (ne_eqb w 0 pw) (ne_eqb h 0 ph) known room (le-leb (w * h) gray l)
-
-  -- a refusal has place 0
-  pub refused-place : (code : ℕ) → code ≡ refused_by asked w h gray work → (code ≡ 0 → ⊥) → check_scan asked w h gray work ≡ refuses code 0
-  refused-place code e n =
-      check-is
-      ∙ go (eqb w 0) (eqb h 0) (known_rule asked) (enough_work rule w work) (leb (w * h) gray) (e ∙ ap code_of check-is)
-    where
-      go : (a b c d f : Bool) → code ≡ code_of (tests a b c d f) → tests a b c d f ≡ refuses code 0
-      go true b c d f z = ap (λ (k : ℕ). refuses k 0) (sym z)
-      go false true c d f z = ap (λ (k : ℕ). refuses k 0) (sym z)
-      go false false false d f z = ap (λ (k : ℕ). refuses k 0) (sym z)
-      go false false true false f z = ap (λ (k : ℕ). refuses k 0) (sym z)
-      go false false true true false z = ap (λ (k : ℕ). refuses k 0) (sym z)
-      go false false true true true z = absurd (n z)
+        by_tests false false true true true (ne_eqb w 0 pw) (ne_eqb h 0 ph) known room (le-leb (w * h) gray l)
 
   -- where nothing is refused, all tests passed
   pub record Passed : Type 0 where
@@ -85,17 +70,21 @@ module _ (asked : Quantize) (w h gray work : ℕ) where
     pub room : enough_work rule w work ≡ true
     pub enough : w * h ≤ gray
 
-  pub passed : 0 ≡ refused_by asked w h gray work → Passed
+  abbrev nothing : Rule → Unit {0}
+  nothing r = tt
+
+  pub passed : scan_checked asked w h gray work ≡ gives tt → Passed
   passed e =
-      go (eqb w 0) (eqb h 0) (known_rule asked) (enough_work rule w work) (leb (w * h) gray) refl refl refl refl refl (e ∙ ap code_of check-is)
+      go (eqb w 0) (eqb h 0) (known_rule asked) (enough_work rule w work) (leb (w * h) gray) refl refl refl refl refl
+      (sym (ap (map nothing) check-is) ∙ e)
     where
       go : (a b c d f : Bool) → eqb w 0 ≡ a → eqb h 0 ≡ b → known_rule asked ≡ c → enough_work rule w work ≡ d → leb (w * h) gray ≡ f
-          → 0 ≡ code_of (tests a b c d f) → Passed
-      go true b c d f p q r s t z = let x : ⊥ = omega arith in absurd x
-      go false true c d f p q r s t z = let x : ⊥ = omega arith in absurd x
-      go false false false d f p q r s t z = let x : ⊥ = omega arith in absurd x
-      go false false true false f p q r s t z = let x : ⊥ = omega arith in absurd x
-      go false false true true false p q r s t z = let x : ⊥ = omega arith in absurd x
+          → map nothing (tests a b c d f) ≡ gives tt → Passed
+      go true b c d f p q r s t z = zero_one (cc)
+      go false true c d f p q r s t z = zero_one (cc)
+      go false false false d f p q r s t z = zero_one (cc)
+      go false false true false f p q r s t z = zero_one (cc)
+      go false false true true false p q r s t z = zero_one (cc)
       go false false true true true p q r s t z =
           let l = eqb-false w 0 p in
           let m = eqb-false h 0 q in
@@ -134,54 +123,33 @@ module _ (rule : Rule) (w h : ℕ) (wide : 0 < w) (high : 0 < h) where
   unfolding finished
   none-finished = length-upto (byte_at w (dot_of s [])) (count s 0) ∙ count_none
 
--- an ordered rule needs no work buffer
-pub ordered-workless : (side w h : ℕ) (gray out out' : List ℕ) (r : Answer ℕ) (m : ℕ)
-    → Emits (quantized (Ordered side) w h gray m) r out out' → Emits (quantized (Ordered side) w h gray 0) r out out'
-unfolding quantized
-ordered-workless side w h gray out out' r m e = subst (λ (a : Answer (List ℕ)). Emits a r out out') same e
-  where
-    behind : ℕ → Rule → Answer Rule
-    behind n x = if (enough_work x w n) (if (leb (w * h) (length gray)) (gives x) (refuses 22 0)) (refuses 28 0)
-
-    named : (b : Bool) → Answer Rule
-    named b = if b (gives (meaning (Ordered side))) (refuses 29 0)
-
-    by_side : (b : Bool) → bind (named b) (behind m) ≡ bind (named b) (behind 0)
-    by_side true = refl
-    by_side false = refl
-
-    same : quantized (Ordered side) w h gray m ≡ quantized (Ordered side) w h gray 0
-    same =
-        ap (λ (a : Answer Rule). map (λ (x : Rule). finished (setting x w h 1) (take (w * h) gray))
-        (if (eqb w 0 || eqb h 0) (refuses 8 0) a)) (by_side (known_side side))
-
 -- ---- the answers
 
-module _ (asked : Quantize) (w h : ℕ) (gray out : List ℕ) (work : List ℤ) (code : ℕ)
-    (e : code ≡ refused_by asked w h (length gray) (length work)) where
+module _ (asked : Quantize) (w h : ℕ) (gray out : List ℕ) (work : List ℤ) where
   abbrev named : Rule
   named = rule_given (rule_named asked)
 
   abbrev plane_of : Rule → List ℕ
   plane_of r = finished (setting r w h 1) (take (w * h) gray)
 
-  refused-is : (code ≡ 0 → ⊥) → quantized asked w h gray (length work) ≡ refuses code 0
-  unfolding quantized
-  refused-is n = ap (map plane_of) (refused-place asked w h (length gray) (length work) code e n)
+  refused-is : (x : Answer Rule) (code place : ℕ) → ◌≡◌ {A = Answer (Unit {0})} (map (λ r. tt) x) (refuses code place) → map plane_of x ≡ refuses code place
+  refused-is (gives r) code place e = zero_one (cc)
+  refused-is (refuses c p) code place e = cc
 
   -- nothing is altered
   unmade : (r : Answer ℕ) → Emits (quantized asked w h gray (length work)) r out out → Quantizes asked w h gray out work r out work
   unmade r e = record { emits = e; beyond = refl; spared = λ _. refl; refused = λ _ _ _. refl }
 
-  pub quantizes-refused : (code ≡ 0 → ⊥) → (r : Written) → r ≡ Written.Refused (record { code = code; offset = 0 })
-      → Quantizes asked w h gray out work (written r) out work
-  quantizes-refused n r f =
-      unmade (written r) (subst (λ (a : Answer (List ℕ)). Emits a (written r) out out) (sym (refused-is n))
-      (record { answer = ap written f; bytes = refl }))
+  pub quantizes-refused : (e : WbmpError) → checked (Err e) ≡ scan_checked asked w h (length gray) (length work)
+      → Quantizes asked w h gray out work (written (Err e)) out work
+  unfolding quantized
+  quantizes-refused e f =
+      let q = refused-is (check_scan asked w h (length gray) (length work)) (number e.kind) e.offset (sym f) in
+      unmade (refusal e) (record { answer = ap (λ (a : Answer (List ℕ)). emitted a out) (sym q); bytes = ap (λ (a : Answer (List ℕ)). output a out) (sym q) })
 
-  module _ (z : code ≡ 0) where
+  module _ (z : scan_checked asked w h (length gray) (length work) ≡ gives tt) where
     p : Passed asked w h (length gray) (length work)
-    p = passed asked w h (length gray) (length work) (sym z ∙ e)
+    p = passed asked w h (length gray) (length work) z
 
     given_is : quantized asked w h gray (length work) ≡ gives (plane_of named)
     unfolding quantized
@@ -190,15 +158,11 @@ module _ (asked : Quantize) (w h : ℕ) (gray out : List ℕ) (work : List ℤ) 
         (given-rule asked w h (length gray) (length work) (λ y. omega (arith, p.wide)) (λ y. omega (arith, p.high)) p.known p.room
         p.enough)
 
-    pub quantizes-short : {n : ℕ} → n ≡ plane_bytes w h → length out < n → (r : Written)
-        → r ≡ Written.Refused (record { code = 25; offset = 0 }) → Quantizes asked w h gray out work (written r) out work
-    quantizes-short b l r f =
-        let s = subst (λ (j : ℕ). length out < j) b l in
+    pub quantizes-short : length out < plane_bytes w h → Quantizes asked w h gray out work (refuses 25 0) out work
+    quantizes-short l =
         let k = plane-long named w h p.wide p.high gray p.enough in
         let m = mul_comm (row_bytes w) h in
-        let e : Emits (quantized asked w h gray (length work)) (refuses 25 0) out out =
-        subst (λ (a : Answer (List ℕ)). Emits a (refuses 25 0) out out) (sym given_is) (emits_none _ out (omega arith)) in
-        unmade (written r) (subst (λ (a : Answer ℕ). Emits (quantized asked w h gray (length work)) a out out) (sym (ap written f)) e)
+        unmade (refuses 25 0) (subst (λ (a : Answer (List ℕ)). Emits a (refuses 25 0) out out) (sym given_is) (emits_none _ out (omega arith)))
 
     -- a plane that was written at once, whatever gives its dots
     pub quantizes-plane : row_bytes w * h ≤ length out → (d : ℕ → ℕ) (out' : List ℕ) (work' : List ℤ)
@@ -249,11 +213,12 @@ module _ (asked : Quantize) (w h : ℕ) (gray out : List ℕ) (work : List ℤ) 
       bytes-are : out' ≡ finished sp (take (w * h) gray) ++ drop (length (finished sp (take (w * h) gray))) out
       bytes-are = (R.defined sp [] H).bytes ∙ rw (none-finished named w h p.wide p.high, taken_is, written_is, long)
 
-      pub quantizes-all : Quantizes asked w h gray out work (gives r.written) out' work'
+      pub quantizes-all : Quantizes asked w h gray out work (gives (row_bytes w * h)) out' work'
       quantizes-all =
+          let m = mul_comm (row_bytes w) h in
           record {
-            emits = subst (λ (a : Answer (List ℕ)). Emits a (gives r.written) out out') (sym given_is)
-                (emits-all _ out out' r.written (omega (arith, long, fits)) (written_is ∙ sym long) bytes-are);
+            emits = subst (λ (a : Answer (List ℕ)). Emits a (gives (row_bytes w * h)) out out') (sym given_is)
+                (emits-all _ out out' (row_bytes w * h) (omega (arith, long, fits)) (m ∙ sym long) bytes-are);
             beyond = subst (λ (n : ℕ). drop n work' ≡ drop n work) (sym H.stands.width) R.beyond;
             spared = λ n. R.spared (rw o.rule_is n);
             refused = λ code place f. zero_one (cc);

@@ -1,7 +1,7 @@
 -- Whole planes: `quantize_gray8` and its like (document 01: 8, 29, 28, 22 and then 25, place 0).
 use Rattle.std.specs.Prelude.{ℕ, ◌*◌, ◌≡◌, false, ◌||◌, List, leb, eqb, ℤ, length, take, drop}
 use Rattle.error.specs.Choice.{if}
-use Rattle.error.specs.Answer.{Answer, gives, refuses, bind, map, code_of}
+use Rattle.error.specs.Answer.{Answer, gives, refuses, bind, map}
 use Rattle.error.specs.Emits.{Emits}
 use Rattle.options.specs.declared.Quantize.{Quantize}
 use Rattle.quantize.specs.Finished.{finished, setting}
@@ -16,9 +16,9 @@ check_scan asked w h gray work =
     (if (leb (w * h) gray) (gives rule) (refuses 22 0))
     (refuses 28 0)))
 
--- the number of its refusal, 0 where there is none
-abbrev pub refused_by : Quantize → ℕ → ℕ → ℕ → ℕ → ℕ
-refused_by asked w h gray work = code_of (check_scan asked w h gray work)
+-- whether there is one
+abbrev pub scan_checked : Quantize → ℕ → ℕ → ℕ → ℕ → Answer (Unit {0})
+scan_checked asked w h gray work = map (λ rule. tt) (check_scan asked w h gray work)
 
 -- the plane of a scan of width × height samples; surplus gray is ignored
 unfoldable pub quantized : Quantize → ℕ → ℕ → List ℕ → ℕ → Answer (List ℕ)

@@ -10,8 +10,7 @@ pub fn known_rule(rule: Quantize) -> bool
     ensures { result ≡ known_rule rule }
 {
     match rule {
-        Quantize::Threshold(_) => true,
-        Quantize::Dither => true,
+        Quantize::Threshold(_) | Quantize::Dither => true,
         Quantize::Ordered(side) => known_side(side),
     }
 }
@@ -21,8 +20,7 @@ pub fn enough_work(rule: Quantize, width: usize, work: usize) -> bool
     ensures { result ≡ enough_work (rule_given (rule_named rule)) width work }
 {
     match rule {
-        Quantize::Threshold(_) => true,
+        Quantize::Threshold(_) | Quantize::Ordered(_) => true,
         Quantize::Dither => width <= work / 2,
-        Quantize::Ordered(_) => true,
     }
 }

@@ -1,42 +1,36 @@
 // Whole planes, one frame each: at once, or by the engine.
-ghost use Rattle.std.specs.Prelude.{◌≡◌, true, ◌≤◌, length};
-ghost use Rattle.error.specs.Answer.{written};
+ghost use Rattle.std.specs.Prelude.{◌≡◌, ◌≤◌, length};
+ghost use Rattle.error.specs.Answer.{gives, checked, written};
 ghost use Rattle.options.specs.declared.Quantize.TheVariants.{Threshold, Dither, Ordered};
 ghost use Rattle.error.specs.Emits.{Emits};
 ghost use Rattle.image.specs.Geometry.{plane_bytes};
-ghost use Rattle.quantize.specs.Whole.{refused_by, quantized, Quantizes};
+ghost use Rattle.quantize.specs.Whole.{scan_checked, quantized, Quantizes};
 
 use crate::asked::{enough_work, known_rule};
 use crate::engine::Quantizer;
 use diffusion::dither_plane;
-use error::{
-    BUFFER_TOO_SHORT, GRAY_TOO_SHORT, OUTPUT_TOO_SHORT, UNKNOWN_SETTING, Written, ZERO_DIMENSION,
-};
-use image::row_stride;
+use error::{Refusal, Result, WbmpError};
+use image::PlaneLayout;
 use options::Quantize;
 use rules::threshold_plane;
 
-// The refusal of so many samples and numbers of work, or 0.
-fn refused(width: u32, height: u32, gray: usize, rule: Quantize, work: usize) -> u8
-    ensures { result ≡ refused_by rule width height gray work }
+// Whether so many samples and numbers of work serve for a plane.
+fn check_scan(width: u32, height: u32, gray: usize, rule: Quantize, work: usize) -> Result<()>
+    ensures { checked result ≡ scan_checked rule width height gray work }
 {
-    if width == 0 {
-        return ZERO_DIMENSION;
-    }
-    if height == 0 {
-        return ZERO_DIMENSION;
+    if width == 0 || height == 0 {
+        return Err(WbmpError::new(Refusal::ZeroDimension, 0));
     }
     if !known_rule(rule) {
-        return UNKNOWN_SETTING;
+        return Err(WbmpError::new(Refusal::UnknownSetting, 0));
     }
     if !enough_work(rule, width as usize, work) {
-        return BUFFER_TOO_SHORT;
+        return Err(WbmpError::new(Refusal::BufferTooShort, 0));
     }
-    let area = width as usize * height as usize;
-    if gray < area {
-        return GRAY_TOO_SHORT;
+    if gray < width as usize * height as usize {
+        return Err(WbmpError::new(Refusal::GrayTooShort, 0));
     }
-    0
+    Ok(())
 }
 
 // The plane by the engine, where nothing is refused and there is room for it.
@@ -47,59 +41,36 @@ fn engine_plane(
     rule: Quantize,
     work: &mut [i16],
     out: &mut [u8],
-) -> Written
-    requires { (0 ≡ refused_by rule width height (length gray.now) (length work.old))
-        × (plane_bytes width height ≤ length out.old) }
-    ensures { Quantizes rule width height gray.now out.old work.old (written result) out.new
-        work.new }
+)
+    requires serves { scan_checked rule width height (length gray.now) (length work.old) ≡ gives tt }
+    requires room { plane_bytes width height ≤ length out.old }
+    ensures { Quantizes rule width height gray.now out.old work.old (gives (plane_bytes width height))
+        out.new work.new }
 {
-    let q = Quantizer::new(rule, width, height, 1);
-    let r = q.run(gray, out, work);
-    Written::Bytes(r.written)
+    Quantizer::new(rule, width, height, 1).run(gray, out, work);
 }
 
 // So many samples the engine dithers in the time in which `dither_plane` binds its tables.
 const FEW_SAMPLES: usize = 16;
 
 // Whether there are few samples and a gray one among them.
-fn few_grays(area: usize, gray: &[u8]) -> bool
-    ensures { result ≡ true → area ≤ 16 }
-{
-    if FEW_SAMPLES < area {
-        return false;
-    }
-    if gray.len() < area {
-        return false;
-    }
-    let mut i: usize = 0;
-    while i < area {
-        if gray[i] % 255 != 0 {
-            return true;
-        }
-        i += 1;
-    }
-    false
-}
-
-fn plane_bytes(width: u32, height: u32) -> usize
-    ensures { result ≡ plane_bytes width height }
-{
-    row_stride(width) * height as usize
+fn few_grays(samples: &[u8]) -> bool {
+    samples.len() <= FEW_SAMPLES && samples.iter().any(|gray| *gray % 255 != 0)
 }
 
 // The dithered plane, where nothing is refused and there is room for it.
-fn dithered_plane(width: u32, height: u32, gray: &[u8], work: &mut [i16], out: &mut [u8]) -> Written
-    requires { (0 ≡ refused_by Dither width height (length gray.now) (length work.old))
-        × (plane_bytes width height ≤ length out.old) }
-    ensures { Quantizes Dither width height gray.now out.old work.old (written result) out.new
-        work.new }
+fn dithered_plane(width: u32, height: u32, gray: &[u8], work: &mut [i16], out: &mut [u8])
+    requires serves { scan_checked Dither width height (length gray.now) (length work.old) ≡ gives tt }
+    requires room { plane_bytes width height ≤ length out.old }
+    ensures { Quantizes Dither width height gray.now out.old work.old (gives (plane_bytes width height))
+        out.new work.new }
 {
     let area = width as usize * height as usize;
-    if few_grays(area, gray) {
-        return engine_plane(width, height, gray, Quantize::Dither, work, out);
+    if few_grays(&gray[..area]) {
+        engine_plane(width, height, gray, Quantize::Dither, work, out);
+    } else {
+        dither_plane(width, height, gray, work, out);
     }
-    dither_plane(width, height, gray, work, out);
-    Written::Bytes(plane_bytes(width, height))
 }
 
 // Packs width × height gray samples into the plane's rows, at the front of the lent output.
@@ -110,28 +81,24 @@ pub fn quantize_gray8(
     rule: Quantize,
     work: &mut [i16],
     out: &mut [u8],
-) -> Written
+) -> Result<usize>
     ensures { Quantizes rule width height gray.now out.old work.old (written result) out.new
         work.new }
 {
-    let code = refused(width, height, gray.len(), rule, work.len());
-    if code != 0 {
-        return Written::refused(code);
-    }
-    let need = plane_bytes(width, height);
+    check_scan(width, height, gray.len(), rule, work.len())?;
+    let need = PlaneLayout::new(width, height).total_bytes;
     if out.len() < need {
-        return Written::refused(OUTPUT_TOO_SHORT);
+        return Err(WbmpError::new(Refusal::OutputTooShort, 0));
     }
     match rule {
-        Quantize::Threshold(bound) => {
-            threshold_plane(bound, width, height, gray, out);
-            Written::Bytes(need)
-        }
+        Quantize::Threshold(bound) => threshold_plane(bound, width, height, gray, out),
         Quantize::Dither => dithered_plane(width, height, gray, work, out),
         Quantize::Ordered(_) => engine_plane(width, height, gray, rule, work, out),
     }
+    Ok(need)
 }
 
+// The same; the Rust has both names.
 pub fn from_gray8(
     width: u32,
     height: u32,
@@ -139,7 +106,7 @@ pub fn from_gray8(
     quantize: Quantize,
     work: &mut [i16],
     out: &mut [u8],
-) -> Written
+) -> Result<usize>
     ensures { Quantizes quantize width height gray.now out.old work.old (written result)
         out.new work.new }
 {
@@ -153,17 +120,16 @@ pub fn threshold_bits(
     gray: &[u8],
     threshold: u8,
     out: &mut [u8],
-) -> Written
+) -> Result<usize>
     ensures { Emits (quantized (Threshold threshold) width height gray.now 0) (written result) out.old
         out.new }
 {
-    let mut work = [0i16; 1];
     quantize_gray8(
         width,
         height,
         gray,
         Quantize::Threshold(threshold),
-        &mut work,
+        &mut [],
         out,
     )
 }
@@ -175,7 +141,7 @@ pub fn dither_bits(
     gray: &[u8],
     work: &mut [i16],
     out: &mut [u8],
-) -> Written
+) -> Result<usize>
     ensures { Quantizes Dither width height gray.now out.old work.old (written result) out.new
         work.new }
 {
@@ -183,10 +149,9 @@ pub fn dither_bits(
 }
 
 // The ordered rule of this side. No work buffer is needed.
-pub fn ordered_bits(width: u32, height: u32, gray: &[u8], side: u8, out: &mut [u8]) -> Written
+pub fn ordered_bits(width: u32, height: u32, gray: &[u8], side: u8, out: &mut [u8]) -> Result<usize>
     ensures { Emits (quantized (Ordered side) width height gray.now 0) (written result) out.old
         out.new }
 {
-    let mut work = [0i16; 1];
-    quantize_gray8(width, height, gray, Quantize::Ordered(side), &mut work, out)
+    quantize_gray8(width, height, gray, Quantize::Ordered(side), &mut [], out)
 }

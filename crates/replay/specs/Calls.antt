@@ -1,10 +1,11 @@
 -- How numbers name calls and when a run ends, for both sessions; and what both write.
-use Rattle.std.specs.Prelude.{ℕ, ◌+◌, ◌-◌, ◌*◌, ◌≤◌, ◌≡◌, Bool, true, ◌&&◌, List, [], ◌∷◌, ◌++◌, leb, eqb, length, take, drop}
+use Rattle.std.specs.Prelude.{ℕ, ◌+◌, ◌-◌, ◌*◌, ◌≤◌, ◌≡◌, Bool, true, ◌&&◌, List, [], ◌∷◌, ◌++◌, leb, eqb, length, drop, Option, Some, None, Result, Ok, Err}
+use Rattle.error.specs.Answer.{number}
 use Rattle.error.specs.Choice.{if}
-use Rattle.replay.specs.declared.call.ThreeNumbers.{ThreeNumbers}
+use Rattle.error.specs.declared.Fed.{Fed}
+use Rattle.error.specs.declared.WbmpError.{WbmpError}
 use Rattle.replay.specs.declared.call.Named.{Named}
 use Rattle.replay.specs.declared.call.Named.TheVariants.{Close, Feed}
-use Rattle.replay.specs.declared.call.NextCall.{NextCall}
 use Rattle.replay.specs.declared.call.Lending.{Lending}
 
 -- 0 closes, and closing looks at no other number; any other number feeds
@@ -86,21 +87,17 @@ There Close samples room work = Unit {0}
 There (Feed p) samples room work = Fits p samples room work
 
 -- the run goes on with a call, and then with the numbers behind its five
-pub record Goes (numbers : List ℕ) (samples room work answers : ℕ) (c : Named) : Type 0 where
-  pub is : named numbers samples room work answers ≡ c ∷ named (drop 5 numbers) samples (room - room_of c) work (answers - 3)
-  pub long : 5 ≤ length numbers
-  pub told : 3 ≤ answers
+pub record Goes (numbers : List ℕ) (samples room work : ℕ) (c : Named) : Type 0 where
+  pub is : (answers : ℕ) → 3 ≤ answers
+      → named numbers samples room work answers ≡ c ∷ named (drop 5 numbers) samples (room - room_of c) work (answers - 3)
   pub there : There c samples room work
 
 -- what the next call is
-pub record Nexts (numbers : List ℕ) (samples room work answers : ℕ) (r : NextCall) : Type 0 where
-  pub ends : r ≡ NextCall.End → named numbers samples room work answers ≡ []
-  pub goes : (c : Named) → r ≡ NextCall.Call c → Goes numbers samples room work answers c
+abbrev pub Nexts : List ℕ → ℕ → ℕ → ℕ → Option Named → Type 0
+Nexts numbers samples room work (Some c) = Goes numbers samples room work c
+Nexts numbers samples room work None = (answers : ℕ) → named numbers samples room work answers ≡ []
 
--- the numbers that are stored
-abbrev pub three_of : ThreeNumbers → List ℕ
-three_of a = a.refusal ∷ a.taken ∷ a.written ∷ []
-
--- a list with a part of it, from an index on, replaced by one that is as long
-abbrev pub replaced : {A : Type 0} → List A → ℕ → List A → List A
-replaced l at part = take at l ++ (part ++ drop (at + length part) l)
+-- an answer's three numbers
+abbrev pub three_of : Result Fed WbmpError → List ℕ
+three_of (Ok f) = 0 ∷ f.taken ∷ f.written ∷ []
+three_of (Err e) = number e.kind ∷ e.offset ∷ 0 ∷ []

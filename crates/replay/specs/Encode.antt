@@ -1,20 +1,19 @@
 -- A run of calls on a making session: what the plain machine replies to the calls that the numbers name.
-use Rattle.std.specs.Prelude.{ℕ, ◌≡◌, true, false, List, [], ◌∷◌, ◌++◌, ℤ, length, take, drop}
+use Rattle.std.specs.Prelude.{ℕ, ◌≡◌, false, List, [], ◌∷◌, ℤ, length, take, drop, Result, Ok, Err}
 use Rattle.error.specs.Answer.{Answer, gives, refuses}
 use Rattle.rules.specs.Rule.{carries}
+use Rattle.error.specs.declared.Fed.{Fed}
+use Rattle.error.specs.declared.WbmpError.{WbmpError}
 use Rattle.quantize.specs.Internal.Machine.{MachineState, carried}
 use Rattle.quantize.specs.Internal.Turn.{state_of}
 use Rattle.encode_session.specs.Model.{setting_of, Model, Call, feed, close, Told, took, closed, Reply, outcome, replies, finally}
-use Rattle.encode_session.specs.Session.{Stands, Holds, Feeds}
+use Rattle.encode_session.specs.Session.{Stands, Holds, Feeds, Closes}
 use Rattle.encode_session.specs.Trace.{took_of}
-use Rattle.encode_session.specs.declared.EncodeFed.{EncodeFed}
 use Rattle.encode_session.specs.declared.EncodeSession.{EncodeSession}
-use Rattle.replay.specs.declared.EncodeReplayed.{EncodeReplayed}
+use Rattle.replay.specs.declared.Replayed.{Replayed}
 use Rattle.replay.specs.declared.call.Named.{Named}
 use Rattle.replay.specs.declared.call.Named.TheVariants.{Close, Feed}
-use Rattle.replay.specs.declared.call.Lending.{Lending}
-use Rattle.replay.specs.declared.encode.Called.{Called}
-use Rattle.replay.specs.Calls.{named, room_of, lent_of, concat_map, over, Spares, three_of, replaced}
+use Rattle.replay.specs.Calls.{named, room_of, concat_map, over, Spares}
 
 -- the three numbers that tell an answer
 abbrev pub numbers_of : Answer Told → List ℕ
@@ -51,13 +50,13 @@ kept_from m (c ∷ cs) st = kept_from (outcome m c).next cs (kept_by m c st)
 -- ---- the contract
 
 -- how many calls the machine replies to, what it answers, and the session after them
-pub record AnswersAs (m : Model) (cs : List Call) (answers : List ℕ) (r : EncodeReplayed) (answers' : List ℕ) : Type 0 where
+pub record AnswersAs (m : Model) (cs : List Call) (answers : List ℕ) (r : Replayed EncodeSession) (answers' : List ℕ) : Type 0 where
   pub calls : r.calls ≡ length (replies m cs)
   pub answered : answers' ≡ over (concat_map told (replies m cs)) answers
   pub stands : Stands r.session (finally m cs)
 
 -- what it writes, and the work buffer after it
-pub record WritesAs (m : Model) (cs : List Call) (out : List ℕ) (r : EncodeReplayed) (out' : List ℕ) (work' : List ℤ) : Type 0 where
+pub record WritesAs (m : Model) (cs : List Call) (out : List ℕ) (r : Replayed EncodeSession) (out' : List ℕ) (work' : List ℤ) : Type 0 where
   pub outputs : out' ≡ over (concat_map output (replies m cs)) out
   pub holds : Holds r.session work' (finally m cs)
 
@@ -72,7 +71,7 @@ pub record Leaves (m after : Model) (work work' : List ℤ) : Type 0 where
 -- numbers that the running machine keeps, call by call, from those found in it; no more of it is altered than `Leaves` allows. The outputs
 -- are the model's too where the buffer is as the last call left it. What stands behind the parts that are lent is as before for every
 -- session.
-pub record RunsCalls (s : EncodeSession) (cs : List Named) (samples : List ℕ) (work : List ℤ) (out answers : List ℕ) (r : EncodeReplayed)
+pub record RunsCalls (s : EncodeSession) (cs : List Named) (samples : List ℕ) (work : List ℤ) (out answers : List ℕ) (r : Replayed EncodeSession)
     (work' : List ℤ) (out' answers' : List ℕ) : Type 0 where
   pub counts : (m : Model) → Stands s m → AnswersAs m (calls_of cs samples out) answers r answers'
   pub keeps : (m : Model) → Stands s m → work' ≡ (kept_from m (calls_of cs samples out) (state_of s.quantizer.place work)).carry.kept
@@ -80,48 +79,21 @@ pub record RunsCalls (s : EncodeSession) (cs : List Named) (samples : List ℕ) 
   pub does : (m : Model) → Holds s work m → WritesAs m (calls_of cs samples out) out r out' work'
   pub spares : Spares cs r.calls out answers work out' answers' work'
 
-abbrev pub Replays : EncodeSession → List ℕ → List ℕ → List ℤ → List ℕ → List ℕ → EncodeReplayed → List ℤ → List ℕ → List ℕ → Type 0
+abbrev pub Replays : EncodeSession → List ℕ → List ℕ → List ℤ → List ℕ → List ℕ → Replayed EncodeSession → List ℤ → List ℕ → List ℕ → Type 0
 Replays s numbers samples work out answers r work' out' answers' =
     RunsCalls s (named numbers (length samples) (length out) (length work) (length answers)) samples work out answers r work' out' answers'
 
--- ---- one call
+-- ---- the calls of a session, with the answer of either as that of feeding
 
--- a feeding call that is lent the front of the work and a part of the output
-pub record FeedsPart (s : EncodeSession) (p : Lending) (samples : List ℕ) (work : List ℤ) (out : List ℕ) (at : ℕ) (r : EncodeFed)
-    (work' : List ℤ) (out' : List ℕ) : Type 0 where
-  pub front : List ℤ
-  pub part : List ℕ
-  pub does : Feeds s (take p.size (drop p.start samples)) (take p.room (drop at out)) (take p.lent work) r part front
-  pub lent_long : length (take p.lent work) ≡ p.lent
-  pub part_long : length part ≡ p.room
-  pub front_long : length front ≡ p.lent
-  pub work_is : work' ≡ front ++ drop p.lent work
-  pub out_is : out' ≡ replaced out at part
+abbrev pub Feeding : EncodeSession → List ℕ → List ℕ → List ℤ → Result Fed WbmpError → EncodeSession → List ℕ → List ℤ → Type 0
+Feeding s xs out work r s' out' work' = Feeds s xs out work (record { session = s'; answer = r }) out' work'
 
--- what the model says of a call: its numbers, and the model after it
-pub record Tells (m : Model) (call : Call) (r : Called) : Type 0 where
-  pub answer : numbers_of (outcome m call).reply.answer ≡ three_of r.answer
-  pub stands : Stands r.session (outcome m call).next
+-- closing takes nothing
+abbrev pub taken_by : Result (Unit {0}) WbmpError → Result Fed WbmpError
+taken_by (Ok u) = Ok (record { taken = 0; written = 0 })
+taken_by (Err e) = Err e
 
--- its output, and the work buffer after it
-pub record CallsAs (m : Model) (call : Call) (r : Called) (part : List ℕ) (work' : List ℤ) : Type 0 where
-  pub output : (outcome m call).reply.output ≡ part
-  pub holds : Holds r.session work' (outcome m call).next
-
--- what the running machine keeps is in the work buffer and, while the session is open, in its engine
-pub record Tracks (s : EncodeSession) (m : Model) (work : List ℤ) (st : MachineState) : Type 0 where
-  pub numbers : work ≡ st.carry.kept
-  pub state : m.live ≡ true → st ≡ state_of s.quantizer.place work
-
--- one call, named
-pub record MakesCall (s : EncodeSession) (c : Named) (samples : List ℕ) (work : List ℤ) (out : List ℕ) (at : ℕ) (r : Called)
-    (work' : List ℤ) (out' : List ℕ) : Type 0 where
-  pub part : List ℕ
-  pub counts : (m : Model) → Stands s m → Tells m (call_of c samples (drop at out)) r
-  pub keeps : (m : Model) → Stands s m → (st : MachineState) → Tracks s m work st
-      → Tracks r.session (outcome m (call_of c samples (drop at out))).next work' (kept_by m (call_of c samples (drop at out)) st)
-  pub leaves : (m : Model) → Stands s m → Leaves m (outcome m (call_of c samples (drop at out))).next work work'
-  pub does : (m : Model) → Holds s work m → CallsAs m (call_of c samples (drop at out)) r part work'
-  pub long : length part ≡ room_of c
-  pub out_is : out' ≡ replaced out at part
-  pub beyond : drop (lent_of c) work' ≡ drop (lent_of c) work
+pub record Closing (s : EncodeSession) (r : Result Fed WbmpError) (s' : EncodeSession) : Type 0 where
+  pub answer : Result (Unit {0}) WbmpError
+  pub is : r ≡ taken_by answer
+  pub does : Closes s (record { session = s'; answer = answer })

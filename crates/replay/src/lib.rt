@@ -12,25 +12,50 @@
 // where an answer's three numbers have no room.
 #![tactic(auto)]
 
+ghost use Rattle.replay.specs.Decode as Decode;
+ghost use Rattle.replay.specs.Encode as Encode;
+
+use crate::run::run;
 use decode_session::DecodeSession;
 use encode_session::EncodeSession;
 
 mod call;
-mod decode;
-mod encode;
-
-pub use decode::replay_decode;
-pub use encode::replay_encode;
+mod run;
+mod session;
 
 // The session after the run, and how many calls were made.
 #[derive(Clone, Copy)]
-pub struct EncodeReplayed {
-    pub session: EncodeSession,
+pub struct Replayed<S> {
+    pub session: S,
     pub calls: usize,
 }
 
-#[derive(Clone, Copy)]
-pub struct DecodeReplayed {
-    pub session: DecodeSession,
-    pub calls: usize,
+// Runs the calls on a reading session.
+pub fn replay_decode(
+    session: DecodeSession,
+    calls: &[usize],
+    file: &[u8],
+    out: &mut [u8],
+    ext: &mut [u8],
+    answers: &mut [usize],
+) -> Replayed<DecodeSession>
+    ensures { Decode.Replays session calls.now file.now out.old ext.old answers.old
+        result out.new ext.new answers.new }
+{
+    run(session, calls, file, ext, out, answers)
+}
+
+// Runs the calls on a making session.
+pub fn replay_encode(
+    session: EncodeSession,
+    calls: &[usize],
+    samples: &[u8],
+    work: &mut [i16],
+    out: &mut [u8],
+    answers: &mut [usize],
+) -> Replayed<EncodeSession>
+    ensures { Encode.Replays session calls.now samples.now work.old out.old
+        answers.old result work.new out.new answers.new }
+{
+    run(session, calls, samples, work, out, answers)
 }

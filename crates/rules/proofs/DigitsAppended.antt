@@ -9,12 +9,18 @@ use native.Mathlib.Omega.{arith}
 use lib.Pow.{pow_mono, pow-add, pow_pos, high}
 use lib.Dec.{leb}
 use borrow.Author.Tests.{le-leb, lt-leb}
+use Rattle.std.specs.Int.{from_bool}
 use Rattle.rules.specs.Bits.{bit, appended, digits}
 use Rattle.rules.specs.Internal.Kernels.{Packs}
 
 pub bit_le : (b : Bool) → bit b ≤ 1
 bit_le true = omega arith
 bit_le false = omega arith
+
+-- a test's number is its dot
+pub bit_is : (b : Bool) (n : ℕ) → n ≡ from_bool b → n ≡ bit b
+bit_is true n e = e
+bit_is false n e = e
 
 pub bit-yes : (a b : ℕ) → a ≤ b → 1 ≡ bit (leb a b)
 bit-yes a b h = rw (le-leb a b h)

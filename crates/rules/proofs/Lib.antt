@@ -2,7 +2,6 @@
 pub mod Differences
 pub mod DigitsAppended
 pub mod ListPiece
-pub mod BelowGrows
 pub mod UptoList
 pub mod EntryTold
 pub mod DotCauses

@@ -23,7 +23,7 @@ use Rattle.rules.proofs.DigitsAppended.{appended-ext}
 use Rattle.rules.proofs.EntryTold.{never}
 use Rattle.rules.proofs.PlainFront.{front-le, front-plain, front-least}
 use Rattle.rules.proofs.PlaneBytes.{bit_in, bit_past, byte-at}
-use Rattle.rules.proofs.UptoOverlaid.{overlaid, overlaid-none, overlaid-length, overlaid-next}
+use Rattle.rules.proofs.UptoOverlaid.{overlaid, overlaid-none, overlaid-next}
 use Rattle.rules.proofs.WordCompared.{ones}
 use Rattle.rules.proofs.WordPlain.{lows-are, plain-dot, sample_in, sample-past}
 
@@ -71,11 +71,6 @@ module _ (w : ℕ) (gray out₀ : List ℕ) where
 module _ {w : ℕ} {gray out₀ : List ℕ} (room : row_bytes w ≤ length out₀) {out : List ℕ} {k : ℕ} (p : PlainTo w gray out₀ out k) where
   abbrev d : ℕ → ℕ
   d = threshold_bit 128 gray
-
-  pub plain-length : length out ≡ length out₀
-  plain-length =
-      let l = p.within in
-      ap length p.out_is ∙ overlaid-length (byte_at w d) out₀ k (omega arith)
 
   -- so many of the row's samples are black or white, from the first on
   abbrev front : ℕ

@@ -1,7 +1,7 @@
 -- Planes of the threshold rule as their rows are written.
 -- Assumes nothing.
 use Prim.Native.Nat.{ℕ, ◌+◌, ◌-◌, ◌*◌, ◌/◌, ◌%◌, ◌^◌, ◌≤◌, ◌<◌}
-use mathlib.Core.Path.{◌≡◌, refl, sym, ap, ap₂, ◌∙◌, subst}
+use mathlib.Core.Path.{◌≡◌, sym, ap, ap₂, ◌∙◌, subst}
 use mathlib.Core.Bool.{◌&&◌}
 use mathlib.Core.List.{List}
 use native.Mathlib.Nat.{mul_comm, mul_assoc, add_assoc, add-mul, mul-le-mul_right, zero-add}
@@ -10,9 +10,9 @@ use native.Mathlib.Omega.{arith}
 use lib.Bits.{bit_and}
 use lib.Dec.{leb}
 use lib.ListN.{length, get_or, set}
-use borrow.Author.Tests.{le-leb, lt-leb}
+use borrow.Author.Tests.{le-leb}
 use Rattle.laws.proofs.Products.{up_to, some_size}
-use Rattle.laws.proofs.Tests.{if-true, if-false, and-false}
+use Rattle.laws.proofs.Tests.{if-true}
 use Rattle.image.specs.Geometry.{row_bytes, plane_bytes, padding_mask}
 use Rattle.rules.specs.Bits.{digits, appended}
 use Rattle.rules.specs.Packed.{byte_at}
@@ -29,15 +29,6 @@ use Rattle.rules.proofs.UptoOverlaid.{overlaid, overlaid-none, overlaid-length, 
 module _ (w h : ℕ) (d : ℕ → ℕ) (samples : ℕ) (out : List ℕ) where
   pub plane-in : PlaneFits w h samples (length out) → plane_where w h d samples out ≡ plane_onto w h d out
   plane-in f = if-true _ _ _ (ap₂ ◌&&◌ (le-leb (w * h) samples f.0) (le-leb (h * row_bytes w) (length out) f.1))
-
-  pub plane-unread : samples < w * h → plane_where w h d samples out ≡ out
-  plane-unread l = if-false _ _ _ (ap (λ t. t && leb (h * row_bytes w) (length out)) (lt-leb (w * h) samples l))
-
-  pub plane-unheld : length out < plane_bytes w h → plane_where w h d samples out ≡ out
-  plane-unheld l =
-      let e = mul_comm (row_bytes w) h in
-      let k = lt-leb (h * row_bytes w) (length out) (omega arith) in
-      if-false _ _ _ (ap (λ t. leb (w * h) samples && t) k ∙ and-false (leb (w * h) samples))
 
 module _ (t : ℕ) (gray : List ℕ) where
   abbrev dots : ℕ → ℕ
@@ -130,20 +121,6 @@ rows_none t w h gray out₀ =
       out_is = overlaid-none f out₀ ∙ ap (λ (n : ℕ). overlaid n f out₀) e;
     }
 
-pub rows-some : {t w h : ℕ} {gray out₀ out : List ℕ} {y : ℕ} → 0 < w % 8 → (y ≤ h) × (out ≡ plane_onto w y (threshold_bit t gray) out₀)
-    → RowsTo t w h gray out₀ out (y * w) (y * (w / 8 + 1)) y
-rows-some {t} {w} {h} {gray} {out₀} {out} {y} odd e =
-    record { within = e.0; at_is = refl; to_is = ap (λ (n : ℕ). y * n) (omega arith); out_is = e.1 }
-
--- their samples and bytes
-pub rows-there : (w h samples y : ℕ) → w * h ≤ samples → y ≤ h → y * w ≤ samples
-rows-there w h samples y k l = omega (arith, mul-le-mul_right w l, mul_comm w h)
-
-pub rows-room : (w h bytes y : ℕ) → h * row_bytes w ≤ bytes → y ≤ h → 0 < w % 8 → y * (w / 8 + 1) ≤ bytes
-rows-room w h bytes y k l odd =
-    let e : row_bytes w ≡ w / 8 + 1 = omega arith in
-    omega (arith, mul-le-mul_right (w / 8 + 1) l, subst (λ (n : ℕ). h * n ≤ bytes) e k)
-
 -- eight dots cut by the row's mask
 pub masked_row-is : (t w : ℕ) (gray : List ℕ) (at : ℕ) (out : List ℕ) (to mask : ℕ) → 0 < w % 8 → mask ≡ padding_mask w
     → masked_row t gray at out to (w / 8) mask ≡ ended_row t gray at out to (w / 8) (w % 8)
@@ -170,11 +147,6 @@ module _ {t w h : ℕ} {gray out₀ : List ℕ} (fits : PlaneFits w h (length gr
   rows-length =
       let l : y * row_bytes w ≤ h * row_bytes w = mul-le-mul_right (row_bytes w) r.within in
       ap length r.out_is ∙ overlaid-length (byte_at w (threshold_bit t gray)) out₀ (y * row_bytes w) (omega (arith, fits.1))
-
-  pub rows-ended : h ≤ y → out ≡ plane_onto w h (threshold_bit t gray) out₀
-  rows-ended l =
-      let e : y ≡ h = omega (arith, r.within) in
-      r.out_is ∙ ap (λ (n : ℕ). overlaid (n * row_bytes w) (byte_at w (threshold_bit t gray)) out₀) e
 
   -- the next row's samples and bytes
   pub row-there : y < h → at + w ≤ length gray
@@ -225,11 +197,6 @@ module _ {t w h : ℕ} {gray out₀ : List ℕ} (fits : PlaneFits w h (length gr
 
 module _ {t w h : ℕ} {gray out₀ : List ℕ} (fits : PlaneFits w h (length gray) (length out₀)) {out : List ℕ} {at y : ℕ}
     (r : RowsTo t w h gray out₀ out at y y) (wide : 2 < w) (narrow : w < 5) (l : 2 < h - y) where
-  pub two-room : y + 2 ≤ length out
-  two-room =
-      let e : h * row_bytes w ≡ h * 1 = ap (λ (n : ℕ). h * n) (omega arith) in
-      omega (arith, rows-length fits r, fits.1)
-
   first_byte : (b mask : ℕ) → mask ≡ padding_mask w → b ≡ digits (threshold_from t gray at) 8 → bit_and b mask ≡ ending_byte t gray at w
   first_byte b mask m e =
       let n : w % 8 ≡ w = omega arith in

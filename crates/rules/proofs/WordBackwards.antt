@@ -16,13 +16,6 @@ use Rattle.rules.proofs.DigitsAppended.{appended-lt}
 abbrev gather : ℕ → ℕ
 gather z = (z % 0x100000000 + z / 0x1000000000) * 0x8040201 / 0x8000000 % 256
 
--- its product fits
-pub halves_small : (z : ℕ) → z < 2 ^ 64 → z % 0x100000000 + z / 0x1000000000 < 0x110000000
-halves_small z h = omega arith
-
-pub product-fits : (n : ℕ) → n < 0x110000000 → n * 0x8040201 < 2 ^ 64
-product-fits n h = omega arith
-
 -- n values, a byte each, the first one the lowest
 unfoldable upwards : (ℕ → ℕ) → ℕ → ℕ
 upwards f zero = 0

@@ -1,13 +1,13 @@
 -- Numbers with a byte for each sample or dot.
 -- Assumes nothing.
-use Prim.Native.Nat.{ℕ, zero, suc, ◌+◌, ◌*◌, ◌/◌, ◌%◌, ◌^◌, ◌≤◌, ◌<◌}
-use mathlib.Core.Path.{◌≡◌, refl, sym, ap, ap₂, ◌∙◌}
+use Prim.Native.Nat.{ℕ, zero, suc, ◌+◌, ◌*◌, ◌/◌, ◌^◌, ◌≤◌, ◌<◌}
+use mathlib.Core.Path.{◌≡◌, refl, sym, ap, ◌∙◌}
 use mathlib.Core.Logic.{⊎_elim}
 use native.Mathlib.Nat.{mul_assoc, add-mul, zero-mul, one-mul, mul-one, add-zero, add-suc, mul_right_comm}
 use native.Mathlib.Numerals.{add-one}
 use native.Mathlib.Omega.{arith}
-use lib.Bits.{bit_and, bit_or, and_block, or_block, or_shifted}
-use lib.Pow.{pow-add, shl_lt, shl_exact, high}
+use lib.Bits.{bit_and, bit_or, and_block, or_block}
+use lib.Pow.{pow-add, high}
 use Rattle.rules.specs.Internal.Words.{bytes, Below}
 use Rattle.laws.proofs.Tests.{lt-or-le}
 
@@ -73,37 +73,6 @@ bytes-none f (suc n) h =
     let a = bytes-none f n (λ i l. h i (omega arith)) in
     let b = h n (omega arith) in
     omega arith
-
--- ---- bytes joined by shifts
-
-module _ (f : ℕ → ℕ) (small : Below 256 f) where
-  -- one byte more, above k bits
-  next : (a n k : ℕ) → 8 + k ≤ 64 → a ≡ bytes f n * 2 ^ (8 + k) → bit_or a (f n * 2 ^ k % 2 ^ 64) ≡ bytes f (suc n) * 2 ^ k
-  unfolding bytes
-  next a n k l e =
-      let up : bytes f n * 2 ^ (8 + k) ≡ bytes f n * 256 * 2 ^ k =
-      ap (λ (m : ℕ). bytes f n * m) (pow-add 2 8 k) ∙ sym (mul_assoc (bytes f n) 256 (2 ^ k)) in
-      ap₂ bit_or e (shl_exact 8 k 64 (small n) l)
-      ∙ or_shifted (bytes f n) (8 + k) (f n * 2 ^ k) (shl_lt 8 k (small n))
-      ∙ ap (λ (m : ℕ). m + f n * 2 ^ k) up
-      ∙ sym (add-mul (bytes f n * 256) (f n) (2 ^ k))
-
-  -- eight bytes, x the first and y the last, each shifted to its place
-  pub joined : (x y : ℕ) → x ≡ f 0 → y ≡ f 7
-      → bit_or (bit_or (bit_or (bit_or (bit_or (bit_or (bit_or (x * 2 ^ 56 % 2 ^ 64) (f 1 * 2 ^ 48 % 2 ^ 64)) (f 2 * 2 ^ 40 % 2 ^ 64))
-      (f 3 * 2 ^ 32 % 2 ^ 64)) (f 4 * 2 ^ 24 % 2 ^ 64)) (f 5 * 2 ^ 16 % 2 ^ 64)) (f 6 * 2 ^ 8 % 2 ^ 64)) y
-      ≡ bytes f 8
-  unfolding bytes
-  joined x y e l =
-      let s = small 0 in
-      let a1 : x * 2 ^ 56 % 2 ^ 64 ≡ bytes f 1 * 2 ^ 56 = omega arith in
-      let a2 = next _ 1 48 (omega arith) a1 in
-      let a3 = next _ 2 40 (omega arith) a2 in
-      let a4 = next _ 3 32 (omega arith) a3 in
-      let a5 = next _ 4 24 (omega arith) a4 in
-      let a6 = next _ 5 16 (omega arith) a5 in
-      let a7 = next _ 6 8 (omega arith) a6 in
-      ap₂ bit_or a7 l ∙ or_shifted (bytes f 7) 8 (f 7) (small 7)
 
 -- ---- bytes one by one
 

@@ -11,10 +11,7 @@ use crate::threshold::{threshold_bytes, threshold_dots};
 pub fn packs(begun: u32, n: usize) -> bool
     ensures { TrueExactly (Packs begun n) result }
 {
-    if 8 < n {
-        return false;
-    }
-    begun < 256
+    n <= 8 && begun < 256
 }
 
 // The digits of `begun`, and then a dot for each sample: 1 where it is at least `bound`. Answers `begun` where there are more than

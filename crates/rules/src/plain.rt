@@ -18,12 +18,8 @@ fn few(gray: &[u8], at: usize, count: usize) -> u64
     ensures { result ≡ bytes (samples_from gray.now at) count }
 {
     let mut samples: u64 = 0;
-    let mut i: usize = 0;
-    while i < count {
-        let j = at + i;
-        let sample = gray[j] as u64;
-        samples = samples * 256 + sample;
-        i += 1;
+    for i in 0..count {
+        samples = samples * 256 + u64::from(gray[at + i]);
     }
     samples
 }
@@ -47,21 +43,16 @@ fn ending_word(width: usize, gray: &[u8], at: usize) -> u64
 pub fn plain_row(width: usize, gray: &[u8], out: &mut [u8]) -> bool
     ensures { PlainRow width gray.now out.old result out.new }
 {
-    if gray.len() < width {
-        return false;
-    }
-    if out.len() < (width + 7) / 8 {
+    if gray.len() < width || out.len() < (width + 7) / 8 {
         return false;
     }
     let count = width / 8;
-    let mut k: usize = 0;
-    while k < count {
+    for k in 0..count {
         let samples = word(gray, 8 * k);
         if !plain_word(samples) {
             return false;
         }
         out[k] = gathered(samples & ONES);
-        k += 1;
     }
     if width % 8 == 0 {
         return true;

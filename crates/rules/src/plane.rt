@@ -20,10 +20,8 @@ fn threshold_ones(bound: u8, height: usize, gray: &[u8], out: &mut [u8])
     requires { PlaneFits 1 height (length gray.now) (length out.old) }
     ensures { out.new ≡ plane_onto 1 height (threshold_bit bound gray.now) out.old }
 {
-    let mut i: usize = 0;
-    while i < height {
+    for i in 0..height {
         out[i] = dot_bit(bound, gray, i, 128);
-        i += 1;
     }
 }
 
@@ -32,10 +30,8 @@ fn threshold_pairs(bound: u8, height: usize, gray: &[u8], out: &mut [u8])
     requires { PlaneFits 2 height (length gray.now) (length out.old) }
     ensures { out.new ≡ plane_onto 2 height (threshold_bit bound gray.now) out.old }
 {
-    let mut i: usize = 0;
-    while i < height {
+    for i in 0..height {
         out[i] = dot_bit(bound, gray, 2 * i, 128) + dot_bit(bound, gray, 2 * i + 1, 64);
-        i += 1;
     }
 }
 
@@ -50,7 +46,6 @@ fn ending_byte(bound: u8, gray: &[u8], at: usize, tail: usize) -> u8
 }
 
 // A row: so many bytes of the samples from index `at` on, and its last byte, cut from one by the mask, into the output from index `to` on.
-// It has a loop of its own, so that no row costs a call.
 fn threshold_row(
     bound: u8,
     gray: &[u8],
@@ -63,13 +58,7 @@ fn threshold_row(
     requires { (at + 8 * count + 8 ≤ length gray.now) × (to + count < length out.old) }
     ensures { out.new ≡ masked_row bound gray.now at out.old to count mask }
 {
-    let mut k: usize = 0;
-    while k < count {
-        let from = at + 8 * k;
-        let j = to + k;
-        out[j] = byte(bound, gray, from);
-        k += 1;
-    }
+    threshold_bytes(bound, gray, at, out, to, count);
     let end = to + count;
     out[end] = byte(bound, gray, at + 8 * count) & mask;
 }
@@ -86,7 +75,7 @@ fn last_row(bound: u8, width: usize, gray: &[u8], at: usize, out: &mut [u8], to:
 }
 
 // Rows of three samples or four, two of them from eight samples, which reach into the next row: the number of rows written, all but the
-// last two at most.
+// last two at most. Written as `for`, it makes rows of seven samples, in `wide_rows`, take 1.2 to 1.9 times as long.
 fn narrow_rows(
     bound: u8,
     width: usize,
@@ -113,7 +102,7 @@ fn narrow_rows(
 }
 
 // Rows that end inside a byte, one at a time, likewise: the last byte is cut from the dots of eight samples, which reach into the next two
-// rows.
+// rows. Written as `for`, rows of up to 17 samples take 1.2 to 1.3 times as long.
 fn wide_rows(bound: u8, width: usize, height: usize, mask: u8, gray: &[u8], out: &mut [u8]) -> usize
     requires { PlaneFits width height (length gray.now) (length out.old)
         × ((2 < width) × (0 < width % 8) × (mask ≡ padding_mask width)) }
@@ -152,6 +141,7 @@ fn front_rows(
 }
 
 // Rows that end inside a byte. The last dots of the last two rows are made one by one, as too few samples follow them.
+// Written as `for`, rows of three, four and nine samples take up to 1.1 times as long.
 fn threshold_rows(bound: u8, width: usize, height: usize, mask: u8, gray: &[u8], out: &mut [u8])
     requires { PlaneFits width height (length gray.now) (length out.old)
         × ((2 < width) × (0 < width % 8) × (mask ≡ padding_mask width)) }
@@ -177,10 +167,7 @@ pub fn threshold_plane(bound: u8, width: u32, height: u32, gray: &[u8], out: &mu
     let layout = PlaneLayout::new(width, height);
     let columns = width as usize;
     let rows = height as usize;
-    if gray.len() < columns * rows {
-        return;
-    }
-    if out.len() < layout.total_bytes {
+    if gray.len() < columns * rows || out.len() < layout.total_bytes {
         return;
     }
     if columns % 8 == 0 {

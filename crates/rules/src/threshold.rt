@@ -1,15 +1,8 @@
 // The threshold rule.
 ghost use Rattle.std.specs.Prelude.{◌≡◌, ◌+◌, ◌*◌, ◌≤◌, length};
-ghost use Rattle.rules.specs.Bits.{digits, appended};
+ghost use Rattle.rules.specs.Bits.{digits, appended, upto};
 ghost use Rattle.rules.specs.Internal.Words.{bytes, backwards, samples_from, Below, Compares, Gathers, GathersBackwards};
 ghost use Rattle.rules.specs.Internal.Kernels.{Packs, threshold_bit, threshold_from, stored};
-
-fn dot(bound: u8, gray: &[u8], at: usize) -> u32
-    requires { at + 1 ≤ length gray.now }
-    ensures { (result ≡ threshold_bit bound gray.now at) × (result ≤ 1) }
-{
-    if bound <= gray[at] { 1 } else { 0 }
-}
 
 // The digits of `begun`, and then a dot for each sample: 1 where it is at least `bound`.
 pub(crate) fn threshold_dots(bound: u8, gray: &[u8], begun: u32) -> u32
@@ -20,27 +13,34 @@ pub(crate) fn threshold_dots(bound: u8, gray: &[u8], begun: u32) -> u32
         return begun * 256 + byte(bound, gray, 0) as u32;
     }
     let mut digits = begun;
-    let mut i: usize = 0;
-    while i < gray.len() {
-        digits = digits * 2 + dot(bound, gray, i);
-        i += 1;
+    for sample in gray {
+        digits = digits * 2 + u32::from(bound <= *sample);
     }
     digits
 }
 
-// Eight samples as one number, a byte each, the first the highest. So written, they are one load to the compiler.
+fn eight(gray: &[u8], at: usize) -> [u8; 8]
+    requires { at + 8 ≤ length gray.now }
+    ensures { result ≡ upto 8 (samples_from gray.now at) }
+{
+    [
+        gray[at],
+        gray[at + 1],
+        gray[at + 2],
+        gray[at + 3],
+        gray[at + 4],
+        gray[at + 5],
+        gray[at + 6],
+        gray[at + 7],
+    ]
+}
+
+// Eight samples as one number, a byte each, the first the highest.
 pub(crate) fn word(gray: &[u8], at: usize) -> u64
     requires { at + 8 ≤ length gray.now }
     ensures { (result ≡ bytes (samples_from gray.now at) 8) × Below 256 (samples_from gray.now at) }
 {
-    (gray[at] as u64) << 56
-        | (gray[at + 1] as u64) << 48
-        | (gray[at + 2] as u64) << 40
-        | (gray[at + 3] as u64) << 32
-        | (gray[at + 4] as u64) << 24
-        | (gray[at + 5] as u64) << 16
-        | (gray[at + 6] as u64) << 8
-        | gray[at + 7] as u64
+    u64::from_be_bytes(eight(gray, at))
 }
 
 // The same, the first the lowest: then they are one load and no more.
@@ -48,14 +48,7 @@ fn word_backwards(gray: &[u8], at: usize) -> u64
     requires { at + 8 ≤ length gray.now }
     ensures { (result ≡ bytes (backwards (samples_from gray.now at)) 8) × Below 256 (samples_from gray.now at) }
 {
-    (gray[at + 7] as u64) << 56
-        | (gray[at + 6] as u64) << 48
-        | (gray[at + 5] as u64) << 40
-        | (gray[at + 4] as u64) << 32
-        | (gray[at + 3] as u64) << 24
-        | (gray[at + 2] as u64) << 16
-        | (gray[at + 1] as u64) << 8
-        | gray[at] as u64
+    u64::from_le_bytes(eight(gray, at))
 }
 
 // The highest bit of each byte.
@@ -114,11 +107,7 @@ pub(crate) fn threshold_bytes(
     requires { (at + 8 * count ≤ length gray.now) × (to + count ≤ length out.old) }
     ensures { out.new ≡ stored bound gray.now at out.old to count }
 {
-    let mut k: usize = 0;
-    while k < count {
-        let from = at + 8 * k;
-        let j = to + k;
-        out[j] = byte(bound, gray, from);
-        k += 1;
+    for k in 0..count {
+        out[to + k] = byte(bound, gray, at + 8 * k);
     }
 }

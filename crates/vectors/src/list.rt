@@ -1,141 +1,66 @@
-// Reading a block of the list, whose form tools/oracle/src/list.rs tells. Past its end stand zeros.
-use crate::parts::{least, put_number};
+// Reading a block of the list, whose form tools/oracle/src/list.rs tells.
+use crate::bytes::{Bytes, front};
 
 // The longest text.
 pub(crate) const TEXT: usize = 8192;
 
-// A number, and where it ends.
-#[derive(Drop)]
-pub(crate) struct Entry {
-    pub value: usize,
-    pub next: usize,
-}
-
-// The length of a text, and where it ends in the list.
-#[derive(Drop)]
-pub(crate) struct Stretch {
-    pub len: usize,
-    pub next: usize,
-}
-
-pub(crate) fn byte_at(list: &[u8], at: usize) -> u8 {
-    if at < list.len() { list[at] } else { 0 }
-}
-
-pub(crate) fn after(list: &[u8], at: usize) -> usize {
-    if at < list.len() { at + 1 } else { at }
-}
-
-pub(crate) fn skip(list: &[u8], at: usize, n: usize) -> usize {
-    let next = std::num::wrapping_add_usize(at, n);
-    if next < list.len() { next } else { list.len() }
-}
-
-// Where the line after the first one starts.
-pub(crate) fn after_line(list: &[u8]) -> usize {
-    let mut at = 0;
-    while at < list.len() && list[at] != 10 {
-        at += 1;
+impl Bytes<'_> {
+    pub(crate) fn number(&mut self) -> usize {
+        let more = self.rest.iter().take_while(|b| **b >= 128).count();
+        let high = self
+            .take(more)
+            .iter()
+            .fold(0usize, |value, b| (value << 7) | usize::from(b & 127));
+        (high << 7) | usize::from(self.byte())
     }
-    after(list, at)
-}
 
-pub(crate) fn wide(x: u8) -> usize {
-    x as usize
-}
+    // How many entries follow, each of a byte or more: no more than there are bytes.
+    pub(crate) fn count(&mut self) -> usize {
+        self.number().min(self.rest.len())
+    }
 
-pub(crate) fn number(list: &[u8], start: usize) -> Entry {
-    let mut value: usize = 0;
-    let mut at = start;
-    while at < list.len() && list[at] >= 128 {
-        value = (value << 7) | wide(list[at] & 127);
-        at += 1;
+    // The numbers that follow their count, at the front of `out`. Where they do not fit, nothing is left of the list.
+    pub(crate) fn numbers(&mut self, out: &mut [usize]) {
+        let count = self.number();
+        for to in out.iter_mut().take(count) {
+            *to = self.number();
+        }
+        if count > out.len() {
+            self.rest = &[];
+        }
     }
-    Entry {
-        value: (value << 7) | wide(byte_at(list, at)),
-        next: after(list, at),
-    }
-}
 
-// How many entries follow, each of a byte or more: no more than there are bytes.
-pub(crate) fn count(list: &[u8], start: usize) -> Entry {
-    let n = number(list, start);
-    Entry {
-        value: least(n.value, list.len()),
-        next: n.next,
+    // A text, its parts repeated, at the front of `out`, and its length. Where it does not fit, nothing is left of the list.
+    pub(crate) fn text(&mut self, out: &mut [u8]) -> usize {
+        let mut len = 0;
+        for _ in 0..self.count() {
+            len = self.part(out, len);
+        }
+        len
     }
-}
 
-// The numbers that follow their count, at the front of `out`, and where they end: at the list's end
-// where they do not fit.
-pub(crate) fn numbers(list: &[u8], start: usize, out: &mut [usize]) -> usize {
-    let head = number(list, start);
-    let size = least(head.value, out.len());
-    let mut next = head.next;
-    let mut i = 0;
-    while i < size {
-        let n = number(list, next);
-        put_number(out, i, n.value);
-        next = n.next;
-        i += 1;
+    // Puts a part behind the first `from` bytes, and says where it ends.
+    fn part(&mut self, out: &mut [u8], from: usize) -> usize {
+        let times = self.number();
+        let size = self.number();
+        let part = self.take(size);
+        let len = part.len().saturating_mul(times);
+        let from = from.min(out.len());
+        let end = from.saturating_add(len);
+        let bytes = part.iter().cycle().take(len);
+        for (to, byte) in out[from..].iter_mut().zip(bytes) {
+            *to = *byte;
+        }
+        if end > out.len() {
+            self.rest = &[];
+        }
+        end.min(out.len())
     }
-    past_if(size < head.value, list, next)
-}
 
-// The list's end where something does not fit, or `at`.
-fn past_if(cut: bool, list: &[u8], at: usize) -> usize {
-    if cut { list.len() } else { at }
-}
-
-// A text, its parts repeated, at the front of `out`; the list's end is its end where it does not fit.
-pub(crate) fn text(list: &[u8], start: usize, out: &mut [u8]) -> Stretch {
-    let head = count(list, start);
-    let parts = head.value;
-    let mut next = head.next;
-    let mut len = 0;
-    let mut i = 0;
-    while i < parts {
-        let t = part(list, next, out, len);
-        next = t.next;
-        len = t.len;
-        i += 1;
+    // Whether the next text is `bytes`.
+    pub(crate) fn is_text(&mut self, bytes: &[u8]) -> bool {
+        let mut want = [0; TEXT];
+        let len = self.text(&mut want);
+        bytes == front(&want, len)
     }
-    Stretch { len, next }
-}
-
-fn part(list: &[u8], start: usize, out: &mut [u8], from: usize) -> Stretch {
-    let head = number(list, start);
-    let size = number(list, head.next);
-    let times = least(head.value, out.len());
-    let mut len = from;
-    let mut i = 0;
-    while i < times && len < out.len() {
-        len = copy(list, size.next, size.value, out, len);
-        i += 1;
-    }
-    let end = skip(list, size.next, size.value);
-    Stretch {
-        len,
-        next: past_if(i < head.value, list, end),
-    }
-}
-
-// Copies bytes of the list to the output from `from` on, and says where they end there.
-pub(crate) fn copy(list: &[u8], start: usize, size: usize, out: &mut [u8], from: usize) -> usize {
-    let mut len = from;
-    let mut i = 0;
-    while i < size && len < out.len() {
-        let b = byte_at(list, std::num::wrapping_add_usize(start, i));
-        len = push(out, len, b);
-        i += 1;
-    }
-    len
-}
-
-fn push(out: &mut [u8], len: usize, b: u8) -> usize {
-    if len < out.len() {
-        out[len] = b;
-        return len + 1;
-    }
-    len
 }

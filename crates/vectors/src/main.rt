@@ -5,21 +5,19 @@
 ghost use Rattle.std.specs.Prelude.{◌≤◌, length, IfOk};
 
 mod answer;
+mod bytes;
 mod card;
 mod case;
 mod encoders;
+mod fields;
 mod files;
 mod group;
-mod input;
 mod list;
 mod making;
-mod parts;
 mod planes;
 mod readers;
 mod reading;
-mod records;
 mod report;
-mod same;
 mod scans;
 mod settings;
 mod stages;
@@ -34,25 +32,21 @@ use tally::Tally;
 
 fn main(rt: HostRuntime) -> io::Result<()> {
     let mut input = rt.stdin();
-    let mut tally = block(&rt, &mut input, Tally::new())?;
-    let mut turns: usize = 65536;
-    while turns > 0 && tally.next > 0 {
-        tally = block(&rt, &mut input, tally)?;
-        turns -= 1;
+    let mut tally = Tally::default();
+    let mut block = [0; 65536];
+    for _ in 0..65537 {
+        let n = read_full(&mut input, &mut block)?;
+        if n == 0 {
+            break;
+        }
+        group::replay_all(&rt, &block[..n], &mut tally)?;
     }
-    let ended = tally.with_group();
-    report::count(&rt, b"all", ended.all)?;
-    report::count(&rt, b"wrong", ended.all_wrong)
+    tally.end_group();
+    report::count(&rt, b"all", tally.all)?;
+    report::count(&rt, b"wrong", tally.all_wrong)
 }
 
-// Reads a block and replays it; after the last one `next` is 0.
-fn block(rt: &impl Print, input: &mut impl Read, tally: Tally) -> io::Result<Tally> {
-    let mut space = [0u8; 65536];
-    let n = read_full(input, &mut space)?;
-    group::replay_all(rt, &space[..n], tally)
-}
-
-// Reads until `buf` is full or the input ends, and says how many bytes it read.
+// Reads until `buf` is full or the input ends, and says how many bytes it read. A turn takes as many as come, so no iterator fits.
 fn read_full(input: &mut impl Read, buf: &mut [u8]) -> io::Result<usize>
     ensures { IfOk result (λ n. n ≤ length buf.new) }
 {

@@ -1,5 +1,5 @@
 // What the program prints.
-use crate::parts::front;
+use crate::bytes::front;
 use std::io;
 
 // A name and a number, on a line.
@@ -16,11 +16,15 @@ pub(crate) fn wrong(
     case: usize,
     input: &[u8],
 ) -> io::Result<()> {
-    let length = input.len();
     print!(rt; "WRONG ")?;
     rt.write_all(name)?;
-    print!(rt; ", sweep {sweep}, case {case}, length {length}, input")?;
-    bytes(rt, front(input, 32))?;
+    print!(rt;
+        ", sweep {sweep}, case {case}, length {}, input",
+        input.len()
+    )?;
+    for byte in front(input, 32) {
+        print!(rt; " {byte:02x}")?;
+    }
     println!(rt; "")
 }
 
@@ -29,11 +33,4 @@ pub(crate) fn damaged(rt: &impl Print, name: &[u8], sweep: usize) -> io::Result<
     print!(rt; "WRONG ")?;
     rt.write_all(name)?;
     println!(rt; ", sweep {sweep}: the list is damaged")
-}
-
-fn bytes(rt: &impl Print, input: &[u8]) -> io::Result<()> {
-    for b in input {
-        print!(rt; " {b:02x}")?;
-    }
-    Ok(())
 }

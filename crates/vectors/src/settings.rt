@@ -1,58 +1,76 @@
-// The test of the limits. A case's input is which limits, width and height in four bytes each,
-// the plane's bytes in eight, the offset in two, and a letter for each limit. Where a file is read,
-// the offset's place holds the format and 1 for strict.
-use crate::answer::checked;
-use crate::input::{byte, long, longest, short};
+// Settings of reading, and the test of their limits.
+use crate::answer::{Answer, checked};
+use crate::bytes::Bytes;
 use crate::planes::format_of;
 use options::limits::WbmpLimits;
 use options::{DecodeOptions, Limit};
 
-pub(crate) fn check(input: &[u8]) -> [usize; 11] {
-    let width = long(input, 1);
-    let height = long(input, 5);
-    let bytes = longest(input, 9);
-    let offset = short(input, 17);
-    checked(options_of(input, width, height, bytes).check(width, height, bytes, offset))
+// A case's input: which limits, width and height in four bytes each, the plane's bytes in eight,
+// the offset in two, and a letter for each limit. Where a file is read, the offset's place holds
+// the format and 1 for strict.
+#[derive(Clone, Copy)]
+pub(crate) struct Settings {
+    kind: u8,
+    width: u32,
+    height: u32,
+    bytes: u64,
+    place: [u8; 2],
+    letters: [u8; 4],
 }
 
-// The settings of reading a file.
-pub(crate) fn reading(input: &[u8]) -> DecodeOptions {
-    let options = options_of(input, long(input, 1), long(input, 5), longest(input, 9));
-    options
-        .with_format(format_of(byte(input, 17)))
-        .with_strict(byte(input, 18) == 1)
-}
-
-fn options_of(input: &[u8], width: u32, height: u32, bytes: u64) -> DecodeOptions {
-    match byte(input, 0) {
-        0 => limited(input, width, height, bytes),
-        1 => DecodeOptions::new(),
-        2 => WbmpLimits::default().into_options(),
-        3 => WbmpLimits::unbounded().into_options(),
-        _ => DecodeOptions::new().unlimited(),
+impl Settings {
+    pub(crate) fn read(input: &mut Bytes) -> Settings {
+        Settings {
+            kind: input.byte(),
+            width: input.long(),
+            height: input.long(),
+            bytes: input.longest(),
+            place: input.array(),
+            letters: input.array(),
+        }
     }
-}
 
-fn limited(input: &[u8], width: u32, height: u32, bytes: u64) -> DecodeOptions {
-    DecodeOptions::new()
-        .with_max_width(limit(byte(input, 19), width as u64))
-        .with_max_height(limit(byte(input, 20), height as u64))
-        .with_max_pixels(limit(byte(input, 21), pixels(width, height)))
-        .with_max_bytes(limit(byte(input, 22), bytes))
-}
+    // The settings of reading a file.
+    pub(crate) fn reading(self) -> DecodeOptions {
+        let [format, strict] = self.place;
+        self.limits()
+            .with_format(format_of(format))
+            .with_strict(strict == 1)
+    }
 
-fn pixels(width: u32, height: u32) -> u64 {
-    let w = width as u64;
-    let h = height as u64;
-    w * h
+    fn limits(self) -> DecodeOptions {
+        match self.kind {
+            0 => self.limited(),
+            1 => DecodeOptions::new(),
+            2 => WbmpLimits::default().into_options(),
+            3 => WbmpLimits::unbounded().into_options(),
+            _ => DecodeOptions::new().unlimited(),
+        }
+    }
+
+    fn limited(self) -> DecodeOptions {
+        let [width, height, pixels, bytes] = self.letters;
+        let (w, h) = (u64::from(self.width), u64::from(self.height));
+        DecodeOptions::new()
+            .with_max_width(limit(width, w))
+            .with_max_height(limit(height, h))
+            .with_max_pixels(limit(pixels, w * h))
+            .with_max_bytes(limit(bytes, self.bytes))
+    }
 }
 
 // 0 stands for no limit, 1 for one below `n`, 2 for `n`, 3 for one above.
-fn limit(letter: usize, n: u64) -> Limit {
+fn limit(letter: u8, n: u64) -> Limit {
     match letter {
-        0 => Limit::absent(),
-        1 => Limit::at_most(std::num::wrapping_sub_u64(n, 1)),
-        2 => Limit::at_most(n),
-        _ => Limit::at_most(std::num::wrapping_add_u64(n, 1)),
+        0 => None,
+        1 => Some(n.wrapping_sub(1)),
+        2 => Some(n),
+        _ => Some(n.wrapping_add(1)),
     }
+}
+
+pub(crate) fn check(mut input: Bytes) -> Answer {
+    let s = Settings::read(&mut input);
+    let offset = usize::from(u16::from_be_bytes(s.place));
+    checked(s.limits().check(s.width, s.height, s.bytes, offset))
 }

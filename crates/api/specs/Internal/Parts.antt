@@ -1,5 +1,5 @@
 -- What the private functions ask and promise.
-use Rattle.std.specs.Prelude.{ℕ, ◌+◌, ◌*◌, ◌<◌, ◌≤◌, ◌≡◌, Bool, true, List, get_or}
+use Rattle.std.specs.Prelude.{ℕ, ◌+◌, ◌*◌, ◌<◌, ◌≤◌, ◌≡◌, Bool, true, List, get_or, Option, Some, None}
 use Rattle.std.specs.Int.Bits.{bit_or}
 use Rattle.error.specs.Answer.{Answer, gives, refuses, map}
 use Rattle.mbi.specs.Read.{read_mbi}
@@ -9,9 +9,6 @@ use Rattle.header.specs.Read.{Outline, outline, outline_height, read_header}
 use Rattle.image.specs.Geometry.{row_bytes, padding_mask}
 use Rattle.api.specs.Sniff.{are_clear}
 use Rattle.api.specs.declared.front.Front.{Front}
-use Rattle.api.specs.declared.front.Front.TheVariants.{Sizes, Unread}
-use Rattle.api.specs.declared.front.Short.{Short}
-use Rattle.api.specs.declared.front.Short.TheVariants.{Value, Longer}
 
 -- the bytes and the mask of rows of a width
 pub record Rows (width row mask : ℕ) : Type 0 where
@@ -44,29 +41,29 @@ pub record Sized (width height start size : ℕ) : Type 0 where
   pub within : start ≤ size
 
 -- an integer that was told is the one at the offset
-abbrev pub ShortReads : List ℕ → ℕ → Short → Type 0
-ShortReads s at (Value value next) = read_mbi true s at ≡ gives (value, next)
-ShortReads s at Longer = Unit {0}
+abbrev pub ShortReads : List ℕ → ℕ → Option (ℕ × ℕ) → Type 0
+ShortReads s at (Some i) = read_mbi true s at ≡ gives i
+ShortReads s at None = Unit {0}
 
 -- the header without fields
 abbrev pub plain : ℕ → ℕ → ℕ → Outline
 plain w h b = record { width = w; height = h; fix = 0; fields = absent; body = b }
 
 -- sizes that were told are those of the header
-abbrev pub Heights : List ℕ → ℕ → ℕ → Front → Type 0
-Heights s width at (Sizes w h b) = outline_height true s 0 absent (width, at) ≡ gives (plain w h b)
-Heights s width at Unread = Unit {0}
+abbrev pub Heights : List ℕ → ℕ → ℕ → Option Front → Type 0
+Heights s width at (Some f) = outline_height true s 0 absent (width, at) ≡ gives (plain f.width f.height f.start)
+Heights s width at None = Unit {0}
 
 -- those of a short header; of another one nothing is told
-abbrev pub Fronts : List ℕ → Front → Type 0
-Fronts s (Sizes w h b) = map outline (read_header (inner true) s) ≡ gives (plain w h b)
-Fronts s Unread = Unit {0}
+abbrev pub Fronts : List ℕ → Option Front → Type 0
+Fronts s (Some f) = map outline (read_header (inner true) s) ≡ gives (plain f.width f.height f.start)
+Fronts s None = Unit {0}
 
 -- the sizes of a header that was read; a refused one has none
-abbrev pub front_of : Answer Outline → Front
-front_of (gives h) = Sizes h.width h.height h.body
-front_of (refuses code offset) = Unread
+abbrev pub front_of : Answer Outline → Option Front
+front_of (gives h) = Some (record { width = h.width; height = h.height; start = h.body })
+front_of (refuses code offset) = None
 
 -- the sizes of a file's header
-abbrev pub front_in : List ℕ → Front
+abbrev pub front_in : List ℕ → Option Front
 front_in s = front_of (map outline (read_header (inner true) s))

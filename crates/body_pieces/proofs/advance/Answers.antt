@@ -13,17 +13,15 @@ returns-then-ceiling-whole c = c.fed-then-ceiling-whole.ensures ∙ full _ _ _ _
 
 pub returns-then-most-left : goal.returns-then-most-left
 returns-then-most-left c =
-    let e = c.least-most.ensures in
     c.fed-then-most-left.ensures
-    ∙ inside _ _ _ _ _ _ c.if-plane-begun.false _ e.0 e.1.0 e.1.1 c.if-ceiling-whole.false c.if-most-left.true
+    ∙ inside _ _ _ _ _ _ c.if-plane-begun.false _ c.min-most.ensures c.if-ceiling-whole.false c.if-most-left.true
 
 -- the planes that are left are within what is given
 there : (c : Then-ahead-further)
     → let a = c.args in
-    a.plane - a.begun + (a.ceiling - 1 - a.whole) * a.plane ≤ c.least-most.result
+    a.plane - a.begun + (a.ceiling - 1 - a.whole) * a.plane ≤ c.min-most.result
 there c =
-    let e = c.least-most.ensures in
-    all_there _ _ _ _ _ _ c.if-plane-begun.false _ e.0 e.1.0 e.1.1 c.if-ceiling-whole.false c.if-most-left.false
+    all_there _ _ _ _ _ _ c.if-plane-begun.false _ c.min-most.ensures c.if-ceiling-whole.false c.if-most-left.false
     c.if-ahead-further.true
 
 pub overflow_mul-ahead : goal.overflow_mul-ahead
@@ -34,14 +32,12 @@ overflow_add-left c = omega (arith, there c)
 
 pub returns-then-ahead-further : goal.returns-then-ahead-further
 returns-then-ahead-further c =
-    let e = c.least-most.ensures in
     c.fed-then-ahead-further.ensures
-    ∙ reaches _ _ _ _ _ _ c.if-plane-begun.false _ e.0 e.1.0 e.1.1 c.if-ceiling-whole.false
+    ∙ reaches _ _ _ _ _ _ c.if-plane-begun.false _ c.min-most.ensures c.if-ceiling-whole.false
     c.if-most-left.false c.if-ahead-further.true
 
 pub returns : goal.returns
 returns c =
-    let e = c.least-most.ensures in
     c.fed-2.ensures
-    ∙ goes_on _ _ _ _ _ _ c.if-plane-begun.false _ e.0 e.1.0 e.1.1 c.if-ceiling-whole.false
+    ∙ goes_on _ _ _ _ _ _ c.if-plane-begun.false _ c.min-most.ensures c.if-ceiling-whole.false
     c.if-most-left.false c.if-ahead-further.false

@@ -34,8 +34,8 @@ convert-requires c = length-take-le _ _ (given (goal.at.convert-requires c).Afte
 pub returns : goal.returns
 returns c =
     let a = c.args in
-    let plane : c.new-layout.result.total_bytes ≡ plane_bytes a.place.width a.place.height =
-    ap (λ (l : PlaneLayout). l.total_bytes) c.new-layout.ensures in
+    let plane : c.new-plane.result.total_bytes ≡ plane_bytes a.place.width a.place.height =
+    ap (λ (l : PlaneLayout). l.total_bytes) c.new-plane.ensures in
     record {
       advances =
           subst (λ n. c.advance-next.result ≡ advanced a.ceiling n a.place.whole a.place.begun (length a.piece.now)

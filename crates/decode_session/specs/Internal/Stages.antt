@@ -1,35 +1,46 @@
 -- What the calls of a session promise in each stage.
-use Rattle.std.specs.Prelude.{ℕ, ◌+◌, ◌*◌, ◌≤◌, ◌≡◌, true, List, ◌++◌, length, take}
+use Rattle.std.specs.Prelude.{ℕ, ◌+◌, ◌*◌, ◌≤◌, ◌<◌, ◌≡◌, true, List, ◌++◌, length, take, Result, Ok, Err}
 use Rattle.error.specs.Answer.{gives}
+use Rattle.error.specs.declared.Refusal.TheVariants.{BufferTooShort}
 use Rattle.error.specs.declared.WbmpError.{WbmpError}
+use Rattle.ext.specs.Kinds.{longest_fields}
 use Rattle.header.specs.Read.{Outline, parsed}
 use Rattle.header_reader.specs.declared.FieldsSeen.{FieldsSeen}
 use Rattle.header.specs.declared.ParsedHeader.{ParsedHeader}
+use Rattle.header_pieces.specs.Internal.Head.{TellsFields}
+use Rattle.header_pieces.specs.declared.HeadReading.{HeadReading}
 use Rattle.options.specs.Limits.{decoding, ceiling_of}
 use Rattle.options.specs.declared.DecodeOptions.{DecodeOptions}
 use Rattle.decoder.specs.Body.{plane_of}
 use Rattle.decoder.specs.Image.{header_of}
 use Rattle.decode_session.specs.Sequence.{sequence}
 use Rattle.decode_session.specs.Model.{nothing, Model, Outcome, fed_by, meets, stored, closing}
-use Rattle.decode_session.specs.Session.{fed_meaning, closed_meaning, InBody, BeforeHeader, StageOf, Settled, Stands}
+use Rattle.decode_session.specs.Session.{fed_meaning, closed_meaning, InBody, BeforeHeader, StageOf, Settled, Stands, Feeds}
 use Rattle.decode_session.specs.declared.Stage.{Stage}
-use Rattle.decode_session.specs.declared.DecodeFeed.{DecodeFeed}
-use Rattle.decode_session.specs.declared.DecodeFeed.TheVariants.{Took}
+use Rattle.error.specs.declared.Fed.{Fed}
 use Rattle.decode_session.specs.declared.DecodeFed.{DecodeFed}
-use Rattle.decode_session.specs.declared.DecodeClose.{DecodeClose}
 
 -- a reply and a session that are a plain machine's
 pub record FedAs (r : DecodeFed) (out' ext' : List ℕ) (x : Outcome) : Type 0 where
   pub reply : x.reply ≡ record { answer = fed_meaning r.answer; output = out'; extension = ext' }
   pub stands : Stands r.session x.next
 
--- an open session after a call that takes and writes so many bytes, and after one that meets a refusal of the file, with what was known of
--- the fields before it
-abbrev pub taken_in : DecodeOptions → Stage → ℕ → ℕ → DecodeFed
-taken_in o stage taken written = record { session = record { options = o; stage = stage; live = true }; answer = Took taken written }
+-- an open session after a call that comes to a stage, and after one that meets a refusal of the file, with what was known of the fields
+-- before it
+abbrev pub taken_in : DecodeOptions → Stage → Fed → DecodeFed
+taken_in o stage fed = record { session = record { options = o; stage = stage; live = true }; answer = Ok fed }
 
 abbrev pub met_in : DecodeOptions → WbmpError → FieldsSeen → DecodeFed
-met_in o e f = record { session = record { options = o; stage = Stage.Refused e f; live = true }; answer = DecodeFeed.Refused e }
+met_in o e f = record { session = record { options = o; stage = Stage.Refused e f; live = true }; answer = Err e }
+
+abbrev pub fed_in : DecodeOptions → FieldsSeen → Result (Stage × Fed) WbmpError → DecodeFed
+fed_in o f (Ok x) = taken_in o x.0 x.1
+fed_in o f (Err e) = met_in o e f
+
+-- an extension buffer of so many bytes passes its test, or is too short
+abbrev pub ChecksBuffer : ℕ → Result (Unit {0}) WbmpError → Type 0
+ChecksBuffer n (Ok u) = longest_fields ≤ n
+ChecksBuffer n (Err e) = (n < longest_fields) × (e ≡ record { kind = BufferTooShort; offset = 0 })
 
 -- a plain machine with other bytes taken
 abbrev pub having : Model → List ℕ → Model
@@ -53,12 +64,18 @@ pub record Ended (m : Model) (piece : List ℕ) (from : ℕ) (h : Outline) : Typ
   pub body : h.body ≡ length m.bytes + from
   pub none : length (sequence (ceiling_of m.options) m.options m.bytes) ≡ 0
 
-pub record Begins (o : DecodeOptions) (f : FieldsSeen) (h : ParsedHeader) (from : ℕ) (piece out : List ℕ) (r : DecodeFed) (out' : List ℕ)
-    : Type 0 where
-  pub does : (m : Model) (ext : List ℕ) → Settled m.options → decoding o ≡ m.options
+pub record Begins (o : DecodeOptions) (h : ParsedHeader) (from : ℕ) (piece out : List ℕ) (r : Result (Stage × Fed) WbmpError)
+    (out' : List ℕ) : Type 0 where
+  pub does : (f : FieldsSeen) (m : Model) (ext : List ℕ) → Settled m.options → decoding o ≡ m.options
       → BeforeHeader m f → Ended m piece from (parsed h)
-      → FedAs r out' (stored m (m.bytes ++ piece) ext) (fed_by m piece out ext (meets m piece))
+      → FedAs (fed_in o f r) out' (stored m (m.bytes ++ piece) ext) (fed_by m piece out ext (meets m piece))
+
+-- a piece for a session in the header, which tells what is known of the fields
+pub record FeedsHead (o : DecodeOptions) (h : HeadReading) (piece out ext : List ℕ) (r : Result (Stage × Fed) WbmpError)
+    (out' ext' : List ℕ) : Type 0 where
+  pub does : (f : FieldsSeen) → TellsFields h f
+      → Feeds (record { options = o; stage = Stage.Header h; live = true }) piece out ext (fed_in o f r) out' ext'
 
 -- what closing answers
-pub record Finishes (s : Stage) (r : DecodeClose) : Type 0 where
+pub record Finishes (s : Stage) (r : Result ℕ WbmpError) : Type 0 where
   pub does : (m : Model) → Settled m.options → StageOf s m → closed_meaning r ≡ closing m m.met

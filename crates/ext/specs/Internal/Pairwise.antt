@@ -1,10 +1,11 @@
 -- What reading one pair answers.
-use Rattle.std.specs.Prelude.{ℕ, ◌+◌, Bool, List, eqb}
+use Rattle.std.specs.Prelude.{ℕ, ◌+◌, Bool, List, eqb, Result, Ok, Err}
 use Rattle.error.specs.Choice.{if}
 use Rattle.error.specs.Answer.{Answer, gives, refuses, refusal}
 use Rattle.ext.specs.Read.{PairAt, pair_parts}
 use Rattle.ext.specs.declared.PairHeader.{PairHeader}
-use Rattle.ext.specs.declared.PairRead.{PairRead}
+use Rattle.ext.specs.declared.PairEnd.{PairEnd}
+use Rattle.error.specs.declared.WbmpError.{WbmpError}
 
 -- the pair of a file s behind its header byte, where the identifier starts at a
 unfoldable pub pair_behind : Bool → List ℕ → ℕ → PairHeader → Answer PairAt
@@ -17,6 +18,6 @@ pair_behind strict s a h =
 abbrev pub pair_step : PairAt → Bool × ℕ
 pair_step p = (p.more, p.end)
 
-abbrev pub pair_meaning : PairRead → Answer (Bool × ℕ)
-pair_meaning (PairRead.Pair more end) = gives (more, end)
-pair_meaning (PairRead.Refused e) = refusal e
+abbrev pub pair_meaning : Result PairEnd WbmpError → Answer (Bool × ℕ)
+pair_meaning (Ok p) = gives (p.more, p.end)
+pair_meaning (Err e) = refusal e

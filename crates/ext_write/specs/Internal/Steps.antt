@@ -3,21 +3,21 @@
 use Rattle.std.specs.Prelude.{ℕ, ◌+◌, ◌/◌, ◌<◌, Bool, false, ◌&&◌, List, [], ◌∷◌, ltb, leb, eqb, length, take, drop, get_or}
 use Rattle.std.proofs.lemmas.List.Edits.{sets}
 use Rattle.error.specs.Choice.{if}
-use Rattle.error.specs.Answer.{Answer, gives, refuses, code_of, refusal}
+use Rattle.error.specs.Answer.{Answer, gives, refuses, code_of, number_or_0}
 use Rattle.ext.specs.Kinds.{Pair}
 use Rattle.ext_write.specs.Write.{check_pair, pair_bytes}
 use Rattle.ext_write.specs.declared.PairsCheck.{PairsCheck}
 use Rattle.ext_write.specs.declared.PairsPut.{PairsPut}
-use Rattle.ext_write.specs.declared.FieldsCheck.{FieldsCheck}
-use Rattle.ext_write.specs.declared.FieldsCheck.TheVariants.{Length}
 
--- what a check of fields means: how many bytes they are
-abbrev pub fields_length : FieldsCheck → Answer ℕ
-fields_length (Length n) = gives n
-fields_length (FieldsCheck.Refused e) = refusal e
+-- A check of pairs on its way, as `PairsCheck` has it: where the next pair stands in the text, where it starts in the fields, and the number
+-- of the first refusal, 0 for none.
+pub record Checking : Type 0 where
+  pub at : ℕ
+  pub start : ℕ
+  pub code : ℕ
 
-abbrev pub refused_with : ℕ → FieldsCheck
-refused_with code = FieldsCheck.Refused (record { code = code; offset = 0 })
+abbrev pub checking : PairsCheck → Checking
+checking s = record { at = s.at; start = s.start; code = number_or_0 s.refusal }
 
 -- the pair whose identifier of i bytes starts at an offset of the text, before its value of v bytes
 abbrev pub lent_pair : List ℕ → ℕ → ℕ → ℕ → Pair
@@ -32,7 +32,7 @@ abbrev pub first_code : Bool → ℕ → Pair → ℕ
 first_code strict code p = if (eqb code 0) (code_of (check_pair strict p)) code
 
 -- One pair more: 31 where it runs past the text, whatever was refused before; else the first refusal stays.
-unfoldable pub check_step : Bool → List ℕ → PairsCheck → ℕ → ℕ → PairsCheck
+unfoldable pub check_step : Bool → List ℕ → Checking → ℕ → ℕ → Checking
 check_step strict text s i v =
     if (leb (s.at + i + v) (length text))
     (record {
@@ -42,22 +42,22 @@ check_step strict text s i v =
     })
     (record { at = s.at; start = s.start; code = 31 })
 
-abbrev pub check_start : PairsCheck
+abbrev pub check_start : Checking
 check_start = record { at = 0; start = 0; code = 0 }
 
-unfoldable pub check_pairs : Bool → List ℕ → List ℕ → PairsCheck → PairsCheck
+unfoldable pub check_pairs : Bool → List ℕ → List ℕ → Checking → Checking
 check_pairs strict text [] s = s
 check_pairs strict text (i ∷ []) s = check_step strict text s i 0
 check_pairs strict text (i ∷ v ∷ lengths) s = check_pairs strict text lengths (check_step strict text s i v)
 
 -- What the end of a run says of a text of so many bytes and so many lengths: "31, 23", then the first pair's refusal; accepted pairs have a
 -- header byte more each.
-abbrev pub pairs_length : ℕ → ℕ → PairsCheck → FieldsCheck
+abbrev pub pairs_length : ℕ → ℕ → Checking → Answer ℕ
 pairs_length size number s =
     if (eqb s.at size)
-    (if (eqb number 0) (refused_with 23)
-    (if (eqb s.code 0) (Length (size + number / 2)) (refused_with s.code)))
-    (refused_with 31)
+    (if (eqb number 0) (refuses 23 0)
+    (if (eqb s.code 0) (gives (size + number / 2)) (refuses s.code 0)))
+    (refuses 31 0)
 
 -- whether a pair can be put: its lengths have room in a header byte, and its bytes in the text and in the output
 unfoldable pub can_put : List ℕ → List ℕ → PairsPut → ℕ → ℕ → Bool

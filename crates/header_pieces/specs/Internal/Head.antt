@@ -1,7 +1,7 @@
 -- What the header's part of a piece comes to.
-use Rattle.std.specs.Prelude.{◌≡◌, ℕ, ◌+◌, ◌<◌, ◌≤◌, Bool, true, false, ◌&&◌, List, ◌++◌, length, drop, nat_lt, slice_set}
+use Rattle.std.specs.Prelude.{◌≡◌, ℕ, ◌+◌, ◌<◌, ◌≤◌, Bool, true, false, ◌&&◌, List, ◌++◌, length, drop, nat_lt, slice_set, Result, Ok, Err}
 use Rattle.std.proofs.lemmas.List.Edits.{sets}
-use Rattle.error.specs.Answer.{gives, refuses, refusal, map, is_end}
+use Rattle.error.specs.Answer.{gives, refuses, refusal, map, is_end, number}
 use Rattle.error.specs.declared.WbmpError.{WbmpError}
 use Rattle.ext.specs.Kinds.{longest_fields}
 use Rattle.header.specs.Settings.{Settings}
@@ -37,27 +37,27 @@ abbrev pub TellsEnd : HeadReading → WbmpError → Type 0
 TellsEnd h e = (o : Settings) (bytes : List ℕ) → HasRead o bytes h → refusal e ≡ map outline (read_header o bytes)
 
 -- the reading goes on behind the piece, or has ended in it with the header or a refusal
-abbrev pub Ends : Settings → List ℕ → List ℕ → HeadFed → Type 0
-Ends o bytes piece (HeadFed.More next) = HasRead o (bytes ++ piece) next
-Ends o bytes piece (HeadFed.Done h taken) =
+abbrev pub Ends : Settings → List ℕ → List ℕ → Result HeadFed WbmpError → Type 0
+Ends o bytes piece (Ok (HeadFed.More next)) = HasRead o (bytes ++ piece) next
+Ends o bytes piece (Ok (HeadFed.Done h taken)) =
     (map outline (read_header o (bytes ++ piece)) ≡ gives (parsed h)) × (h.data_offset ≡ length bytes + taken)
-Ends o bytes piece (HeadFed.Refused e) =
-    (map outline (read_header o (bytes ++ piece)) ≡ refuses e.code e.offset) × (is_end e.code ≡ false)
+Ends o bytes piece (Err e) =
+    (map outline (read_header o (bytes ++ piece)) ≡ refuses (number e.kind) e.offset) × (is_end (number e.kind) ≡ false)
 
 -- for whatever bytes the reading has taken; the extension bytes of the piece are stored behind those kept, and over a buffer that is
 -- short of them nothing is done
-pub record Heads (h₀ : HeadReading) (piece ext : List ℕ) (r : HeadFed) (ext' : List ℕ) : Type 0 where
-  pub within : (h : ParsedHeader) (taken : ℕ) → r ≡ HeadFed.Done h taken → taken ≤ length piece
-  pub short : length ext < longest_fields → (r ≡ HeadFed.More h₀) × (ext' ≡ ext)
+pub record Heads (h₀ : HeadReading) (piece ext : List ℕ) (r : Result HeadFed WbmpError) (ext' : List ℕ) : Type 0 where
+  pub within : (h : ParsedHeader) (taken : ℕ) → r ≡ Ok (HeadFed.Done h taken) → taken ≤ length piece
+  pub short : length ext < longest_fields → (r ≡ Ok (HeadFed.More h₀)) × (ext' ≡ ext)
   pub does : longest_fields ≤ length ext → (o : Settings) (bytes : List ℕ) → HasRead o bytes h₀ → Ends o bytes piece r
   pub stores : longest_fields ≤ length ext → (o : Settings) (bytes : List ℕ) → HasRead o bytes h₀
       → ext' ≡ sets ext h₀.kept (drop h₀.kept (field_bytes o (bytes ++ piece)))
 
 -- whether a byte at an offset is stored: one of the fields, and before the place of its refusal
-abbrev pub is_kept : Bool → ℕ → HeaderStep → Bool
-is_kept inside at (HeaderStep.More r) = inside
-is_kept inside at (HeaderStep.Done h) = false
-is_kept inside at (HeaderStep.Refused e) = inside && nat_lt at e.offset
+abbrev pub is_kept : Bool → ℕ → Result HeaderStep WbmpError → Bool
+is_kept inside at (Ok (HeaderStep.More r)) = inside
+is_kept inside at (Ok (HeaderStep.Done h)) = false
+is_kept inside at (Err e) = inside && nat_lt at e.offset
 
 -- a byte is stored behind those kept, where it is wanted and has room
 pub record Keeps (kept byte : ℕ) (wanted : Bool) (ext : List ℕ) (r : ℕ) (ext' : List ℕ) : Type 0 where

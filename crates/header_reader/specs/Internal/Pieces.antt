@@ -1,5 +1,5 @@
 -- Readings in pieces.
-use Rattle.std.specs.Prelude.{ℕ, List, [], ◌∷◌, ◌++◌}
+use Rattle.std.specs.Prelude.{ℕ, List, [], ◌∷◌, ◌++◌, Result, Ok, Err}
 use Rattle.error.specs.Answer.{Answer, gives, refusal}
 use Rattle.error.specs.declared.WbmpError.{WbmpError}
 use Rattle.header.specs.Settings.{Settings}
@@ -22,22 +22,22 @@ onward o (refused code offset) σ = refused code offset
 
 -- A reader that is fed a piece: each byte goes to what the one before it left, by a `step` that meets its contract, and none is looked at
 -- after the header's end or a refusal.
-pub data Fed : HeaderReader → List ℕ → HeaderStep → Type 0 where
-  nothing : {r : HeaderReader} → Fed r [] (HeaderStep.More r)
-  byte : {r r' : HeaderReader} {b : ℕ} {σ : List ℕ} {x : HeaderStep}
-      → ReaderStepped r b (HeaderStep.More r') → Fed r' σ x → Fed r (b ∷ σ) x
+pub data Fed : HeaderReader → List ℕ → Result HeaderStep WbmpError → Type 0 where
+  nothing : {r : HeaderReader} → Fed r [] (Ok (HeaderStep.More r))
+  byte : {r r' : HeaderReader} {b : ℕ} {σ : List ℕ} {x : Result HeaderStep WbmpError}
+      → ReaderStepped r b (Ok (HeaderStep.More r')) → Fed r' σ x → Fed r (b ∷ σ) x
   last : {r : HeaderReader} {b : ℕ} {σ : List ℕ} {p : ParsedHeader}
-      → ReaderStepped r b (HeaderStep.Done p) → Fed r (b ∷ σ) (HeaderStep.Done p)
+      → ReaderStepped r b (Ok (HeaderStep.Done p)) → Fed r (b ∷ σ) (Ok (HeaderStep.Done p))
   bad : {r : HeaderReader} {b : ℕ} {σ : List ℕ} {e : WbmpError}
-      → ReaderStepped r b (HeaderStep.Refused e) → Fed r (b ∷ σ) (HeaderStep.Refused e)
+      → ReaderStepped r b (Err e) → Fed r (b ∷ σ) (Err e)
 
 -- A reader that is fed pieces, and what the reading answers: the header, the refusal that was met, or, where it is still open after the
 -- last piece, that of `ended`.
 pub data Run : HeaderReader → List (List ℕ) → Answer Outline → Type 0 where
   closed : {r : HeaderReader} {e : WbmpError} → ReaderEnded r e → Run r [] (refusal e)
   piece : {r r' : HeaderReader} {σ : List ℕ} {σs : List (List ℕ)} {a : Answer Outline}
-      → Fed r σ (HeaderStep.More r') → Run r' σs a → Run r (σ ∷ σs) a
+      → Fed r σ (Ok (HeaderStep.More r')) → Run r' σs a → Run r (σ ∷ σs) a
   whole : {r : HeaderReader} {σ : List ℕ} {σs : List (List ℕ)} {p : ParsedHeader}
-      → Fed r σ (HeaderStep.Done p) → Run r (σ ∷ σs) (gives (parsed p))
+      → Fed r σ (Ok (HeaderStep.Done p)) → Run r (σ ∷ σs) (gives (parsed p))
   met : {r : HeaderReader} {σ : List ℕ} {σs : List (List ℕ)} {e : WbmpError}
-      → Fed r σ (HeaderStep.Refused e) → Run r (σ ∷ σs) (refusal e)
+      → Fed r σ (Err e) → Run r (σ ∷ σs) (refusal e)

@@ -1,46 +1,13 @@
 -- What the code's reader stands for, and what its calls promise.
-use Rattle.std.specs.Prelude.{ℕ, ◌+◌, ◌≤◌, ◌<◌, ◌≡◌, false, []}
-use Rattle.error.specs.Answer.{is_end, refusal}
+use Rattle.std.specs.Prelude.{ℕ, ◌≡◌, [], Result, Ok, Err}
+use Rattle.error.specs.Answer.{refusal, number}
 use Rattle.error.specs.declared.WbmpError.{WbmpError}
-use Rattle.ext.specs.Kinds.{longest_fields}
 use Rattle.header.specs.Settings.{Settings, settings}
-use Rattle.header.specs.Read.{ext_span, parsed}
-use Rattle.header_reader.specs.Internal.Machine.{State, in_type, at_fix, in_octets, at_octet, at_pair, in_identifier, in_value, in_width}
-use Rattle.header_reader.specs.Internal.Machine.{in_height, Step, more, done, refused, step_of, resume}
-use Rattle.header_reader.specs.declared.phase.FieldsPhase.{FieldsPhase}
-use Rattle.header_reader.specs.declared.phase.Phase.{Phase}
+use Rattle.header.specs.Read.{parsed}
+use Rattle.header_reader.specs.Internal.Machine.{State, Step, more, done, refused, step_of, resume}
+pub use Rattle.header_reader.specs.Internal.Standing.{fields_state, state, Reachable}
 use Rattle.header_reader.specs.declared.reader.HeaderReader.{HeaderReader}
 use Rattle.header_reader.specs.declared.reader.HeaderStep.{HeaderStep}
-
-abbrev pub fields_state : FieldsPhase → State
-fields_state (FieldsPhase.InOctets fix start at) = in_octets fix start at
-fields_state (FieldsPhase.AtOctet fix at) = at_octet fix at
-fields_state (FieldsPhase.AtPair c) = at_pair c.fix c.start c.at c.pairs
-fields_state (FieldsPhase.InIdentifier c p size) =
-    in_identifier c.fix c.start c.at c.pairs p.begun p.left size p.more p.fault
-fields_state (FieldsPhase.InValue c p) = in_value c.fix c.start c.at c.pairs p.begun p.left p.more p.fault
-
-abbrev pub state : Phase → State
-state (Phase.InType i) = in_type i.at i.value i.count
-state (Phase.AtFix at) = at_fix at
-state (Phase.InFields p) = fields_state p
-state (Phase.InWidth fix f i) = in_width fix (ext_span f) i.at i.value i.count
-state (Phase.InHeight fix f w i) = in_height fix (ext_span f) w i.at i.value i.count
-
--- How far a reading can have come: an integer has at most 7 bytes that are accepted, the FixHeader byte is one, and fields are at most
--- 4,118 bytes, so the width starts at 4,128 or before and the height 8 bytes later or before. A waiting fault is no end of input.
-abbrev pub Reachable : State → Type 0
-Reachable (in_type at v n) = (at ≤ n) × (n ≤ 7)
-Reachable (at_fix at) = at ≤ 8
-Reachable (in_octets fix start at) = (start ≤ 9) × (at ≤ start + 4096) × (start ≤ at)
-Reachable (at_octet fix at) = at ≤ 9
-Reachable (at_pair fix start at pairs) = (start ≤ 9) × (at ≤ start + longest_fields) × (pairs ≤ at) × (start ≤ at)
-Reachable (in_identifier fix start at pairs begun left size again fault) =
-    (start ≤ 9) × (at + left + size ≤ start + longest_fields) × (pairs < at) × (1 ≤ left) × (1 ≤ size) × (start ≤ at) × (is_end fault ≡ false)
-Reachable (in_value fix start at pairs begun left again fault) =
-    (start ≤ 9) × (at + left ≤ start + longest_fields) × (pairs < at) × (1 ≤ left) × (start ≤ at) × (is_end fault ≡ false)
-Reachable (in_width fix f at v n) = (at ≤ 4128 + n) × (n ≤ 7)
-Reachable (in_height fix f w at v n) = (at ≤ 4136 + n) × (n ≤ 7)
 
 pub record Represents (r : HeaderReader) (o : Settings) (st : State) : Type 0 where
   pub mode_is : settings r.mode ≡ o
@@ -48,19 +15,19 @@ pub record Represents (r : HeaderReader) (o : Settings) (st : State) : Type 0 wh
   pub reachable : Reachable st
 
 -- the code's step answers as a step of the definitions
-abbrev pub Answers : Settings → HeaderStep → Step → Type 0
-Answers o (HeaderStep.More r) (more st) = Represents r o st
-Answers o (HeaderStep.More r) (done h) = ⊥
-Answers o (HeaderStep.More r) (refused code offset) = ⊥
-Answers o (HeaderStep.Done p) (more st) = ⊥
-Answers o (HeaderStep.Done p) (done h) = parsed p ≡ h
-Answers o (HeaderStep.Done p) (refused code offset) = ⊥
-Answers o (HeaderStep.Refused e) (more st) = ⊥
-Answers o (HeaderStep.Refused e) (done h) = ⊥
-Answers o (HeaderStep.Refused e) (refused code offset) = (e.code ≡ code) × (e.offset ≡ offset)
+abbrev pub Answers : Settings → Result HeaderStep WbmpError → Step → Type 0
+Answers o (Ok (HeaderStep.More r)) (more st) = Represents r o st
+Answers o (Ok (HeaderStep.More r)) (done h) = ⊥
+Answers o (Ok (HeaderStep.More r)) (refused code offset) = ⊥
+Answers o (Ok (HeaderStep.Done p)) (more st) = ⊥
+Answers o (Ok (HeaderStep.Done p)) (done h) = parsed p ≡ h
+Answers o (Ok (HeaderStep.Done p)) (refused code offset) = ⊥
+Answers o (Err e) (more st) = ⊥
+Answers o (Err e) (done h) = ⊥
+Answers o (Err e) (refused code offset) = (number e.kind ≡ code) × (e.offset ≡ offset)
 
 -- `step`: for whatever the reader stands for
-pub record ReaderStepped (r : HeaderReader) (b : ℕ) (x : HeaderStep) : Type 0 where
+pub record ReaderStepped (r : HeaderReader) (b : ℕ) (x : Result HeaderStep WbmpError) : Type 0 where
   pub does : (o : Settings) (st : State) → Represents r o st → Answers o x (step_of o st b)
 
 -- `ended`: the reading of an input that ends here

@@ -3,7 +3,8 @@ use Rattle.std.specs.Prelude.{ℕ, ◌+◌, ◌/◌, ◌%◌, ◌≤◌, ◌<◌
 use Rattle.header.specs.Settings.{Settings}
 use Rattle.header_reader.specs.Internal.Machine.{State, in_type, at_fix, in_octets, at_octet, at_pair, in_identifier, in_value, in_width}
 use Rattle.header_reader.specs.Internal.Machine.{in_height, in_fields, more, steps}
-use Rattle.header_reader.specs.Internal.Represents.{fields_state, Represents}
+use Rattle.header_reader.specs.Internal.Standing.{fields_state}
+use Rattle.header_reader.specs.Internal.Represents.{Represents}
 use Rattle.header_reader.specs.declared.run.PairsRun.{PairsRun}
 use Rattle.header_reader.specs.declared.run.FieldsRun.{FieldsRun}
 use Rattle.header_reader.specs.declared.reader.HeaderReader.{HeaderReader}
@@ -44,12 +45,6 @@ pub record FieldsRuns (o : Settings) (st : State) (piece : List ℕ) (r : Fields
   pub within : r.taken ≤ length piece
   pub reached : steps o st (take r.taken piece) ≡ more (fields_state r.phase)
   pub inside : (r.taken ≡ 0) ⊎ Inside st (fields_state r.phase)
-
--- octets behind which others come, from any place that is `most` bytes or more before the ceiling
-pub record OctetsAhead (most : ℕ) (piece : List ℕ) (n : ℕ) : Type 0 where
-  pub within : n ≤ length piece
-  pub reached : (o : Settings) (fix start at : ℕ) → at + most ≤ start + 4096
-      → steps o (in_octets fix start at) (take n piece) ≡ more (in_octets fix start (at + n))
 
 -- the first byte of a pair that another follows, and the size of that pair
 pub record Continued (b size : ℕ) : Type 0 where

@@ -1,20 +1,13 @@
 -- What the private functions give.
-use Rattle.std.specs.Prelude.{ℕ, zero, suc, ◌+◌, ◌-◌, ◌*◌, ◌≡◌, List, leb, length, get_or, set}
+use Rattle.std.specs.Prelude.{ℕ, zero, suc, ◌+◌, ◌-◌, ◌*◌, List, leb, length, get_or, set, Option, Some, None}
 use Rattle.std.specs.Int.Bits.{bit_and}
 use Rattle.error.specs.Choice.{if}
-use Rattle.image.specs.Geometry.{row_bytes, padding_bits, layout_of}
+use Rattle.image.specs.Geometry.{row_bytes, padding_bits}
 use Rattle.image.specs.Rows.{clear_low}
-use Rattle.image.specs.declared.PlaneLayout.{PlaneLayout}
-use Rattle.image.specs.declared.RowStart.{RowStart}
-use Rattle.image.specs.declared.RowStart.TheVariants.{At, Missing}
-
--- a layout is that of its size
-abbrev pub Laid : PlaneLayout → Type 0
-Laid l = l ≡ layout_of l.width l.height
 
 -- where the first bytes of row y start, if they are all among the bytes of a plane
-abbrev pub row_start : ℕ → ℕ → ℕ → ℕ → RowStart
-row_start bytes stride y count = if (leb (y * stride + count) bytes) (At (y * stride)) Missing
+abbrev pub row_start : ℕ → ℕ → ℕ → ℕ → Option ℕ
+row_start bytes stride y count = if (leb (y * stride + count) bytes) (Some (y * stride)) None
 
 -- a row whose last byte is masked
 abbrev pub mask_last : ℕ → List ℕ → List ℕ

@@ -1,6 +1,7 @@
 -- What the one-byte step promises: the definition's answer with its offset kept in 64 bits. No byte of a slice stands at the last `usize`,
 -- so at the offset of a byte it is the definition's answer itself.
-use Rattle.std.specs.Prelude.{◌≡◌, ℕ, ◌%◌, Bool}
+use Rattle.std.specs.Prelude.{◌≡◌, ℕ, ◌%◌, Bool, Result}
+use Rattle.error.specs.declared.WbmpError.{WbmpError}
 use Rattle.mbi.specs.declared.MbiStep.{MbiStep}
 use Rattle.mbi.specs.Read.{ByteRead, goes, ends, wrong, read_byte, step_meaning}
 
@@ -9,5 +10,5 @@ in_word (goes v) = goes v
 in_word (ends v) = ends v
 in_word (wrong code offset) = wrong code (offset % 18446744073709551616)
 
-pub record MbiStepped (strict : Bool) (at value count byte : ℕ) (r : MbiStep) : Type 0 where
+pub record MbiStepped (strict : Bool) (at value count byte : ℕ) (r : Result MbiStep WbmpError) : Type 0 where
   pub does : step_meaning r ≡ in_word (read_byte strict at value count byte)

@@ -1,15 +1,13 @@
 -- What the functions of a turn and the tests at the entry of `run` ask and promise.
-use Rattle.std.specs.Prelude.{ℕ, ◌+◌, ◌-◌, ◌*◌, ◌%◌, ◌^◌, ◌≤◌, ◌<◌, ◌≡◌, Bool, true, false, ◌⊎◌, List, ◌++◌, ℤ, length, take, drop}
+use Rattle.std.specs.Prelude.{ℕ, ◌+◌, ◌-◌, ◌*◌, ◌%◌, ◌^◌, ◌≤◌, ◌<◌, ◌≡◌, Bool, true, false, ◌⊎◌, List, ◌++◌, ℤ, length, take, drop, Option, Some, None}
 use Rattle.options.specs.declared.Quantize.{Quantize}
 use Rattle.options.specs.declared.Quantize.TheVariants.{Threshold, Dither, Ordered}
 use Rattle.dither.specs.declared.dots.RowDots.{RowDots}
-use Rattle.quantize.specs.declared.turn.ByteTaken.{ByteTaken}
 use Rattle.quantize.specs.declared.turn.Place.{Place}
 use Rattle.rules.specs.Rule.{Rule, threshold, dither, ordered, known_rule, enough_work, rule_named, rule_given}
 use Rattle.quantize.specs.Finished.{Setting}
 use Rattle.quantize.specs.Internal.Machine.{MachineState}
 use Rattle.quantize.specs.Internal.Place.{At}
-use Rattle.quantize.specs.declared.turn.BytesFilled.{BytesFilled}
 use Rattle.rules.specs.Internal.Kernels.{Packs}
 use Rattle.dither.specs.Internal.Kernels.{Dots, carry_of}
 use Rattle.dither.specs.Internal.Row.{Bytes}
@@ -28,12 +26,6 @@ abbrev pub rule_of : Quantize → List ℕ → Rule
 rule_of (Threshold t) table = threshold t
 rule_of Dither table = dither
 rule_of (Ordered side) table = ordered side (take (side * side) table)
-
--- the rules whose bytes are written at once
-abbrev pub AtOnce : Quantize → Type 0
-AtOnce (Threshold t) = Unit {0}
-AtOnce Dither = Unit {0}
-AtOnce (Ordered side) = ⊥
 
 pub record Sound (rule : Quantize) (w h row column begun corner work : ℕ) : Type 0 where
   pub in_row : column < w
@@ -83,26 +75,28 @@ pub record Advancing (w h frames row column m digits : ℕ) : Type 0 where
   pub digits_small : digits < 2 ^ (column % 8 + m)
 
 -- they end the row or the byte: it is written, its digits first, and none is begun
-pub record ByteEnded (w column m digits : ℕ) (r : ByteTaken) : Type 0 where
+pub record ByteEnded (w column m digits byte begun : ℕ) : Type 0 where
   pub ends : (w ≤ column + m) ⊎ (8 ≤ column % 8 + m)
-  pub byte_is : r.byte ≡ digits * 2 ^ (8 - (column % 8 + m))
-  pub begun_is : r.place.begun ≡ 0
+  pub byte_is : byte ≡ digits * 2 ^ (8 - (column % 8 + m))
+  pub begun_is : begun ≡ 0
 
 -- the byte goes on
-pub record ByteGoesOn (w column m digits : ℕ) (r : ByteTaken) : Type 0 where
+pub record ByteGoesOn (w column m digits begun : ℕ) : Type 0 where
   pub in_row : column + m < w
   pub in_byte : column % 8 + m < 8
-  pub begun_is : r.place.begun ≡ digits
+  pub begun_is : begun ≡ digits
 
--- the place after them, where n were taken before, and the byte
-pub record AdvancesPlace (w h frames row column m digits : ℕ) (r : ByteTaken) : Type 0 where
-  pub in_row : r.place.column < w
-  pub in_frame : r.place.row < h
-  pub begun_small : r.place.begun < 2 ^ (r.place.column % 8)
-  pub ended : r.whole ≡ true → ByteEnded w column m digits r
-  pub goes : r.whole ≡ false → ByteGoesOn w column m digits r
-  pub moves : (s : Setting) (n : ℕ) → s.width ≡ w → s.height ≡ h → At s n frames row column
-      → At s (n + m) r.place.frames r.place.row r.place.column
+-- the place p' after them, where n were taken before, and the byte, if they end it
+pub record AdvancesPlace (w h frames row column m digits : ℕ) (byte : Option ℕ) (p' : Place) : Type 0 where
+  pub in_row : p'.column < w
+  pub in_frame : p'.row < h
+  pub begun_small : p'.begun < 2 ^ (p'.column % 8)
+  pub ended : (b : ℕ) → byte ≡ Some b → ByteEnded w column m digits b p'.begun
+  pub goes : byte ≡ None → ByteGoesOn w column m digits p'.begun
+  pub moves : (s : Setting) (n : ℕ) → s.width ≡ w → s.height ≡ h → At s n frames row column → At s (n + m) p'.frames p'.row p'.column
+
+abbrev pub Advances : ℕ → ℕ → Place → ℕ → ℕ → Option ℕ → Place → Type 0
+Advances w h p m digits byte p' = AdvancesPlace w h p.frames p.row p.column m digits byte p' × (p'.corner ≡ p.corner)
 
 -- n samples, which end no later than the begun byte
 pub record Taking (rule : Quantize) (w h : ℕ) (p : Place) (n work : ℕ) : Type 0 where
@@ -113,21 +107,13 @@ pub record Taking (rule : Quantize) (w h : ℕ) (p : Place) (n work : ℕ) : Typ
   pub high : h < 2 ^ 64
   pub begun_small : p.begun < 2 ^ (p.column % 8)
 
-pub record Takes (rule : Quantize) (table : List ℕ) (w h : ℕ) (p : Place) (gray : List ℕ) (work : List ℤ) (r : ByteTaken)
+pub record Takes (rule : Quantize) (table : List ℕ) (w h : ℕ) (p : Place) (gray : List ℕ) (work : List ℤ) (byte : Option ℕ) (p' : Place)
     (work' : List ℤ) : Type 0 where
   -- the digits of the begun byte after them
   pub digits : ℕ
   pub dotted : Dotted rule table w p.row p.column gray p.begun p.corner work
-      (record { digits = digits; corner = r.place.corner }) work'
-  pub advances : AdvancesPlace w h p.frames p.row p.column (length gray) digits r
-
--- samples and room for so many bytes, which do not end the row
-pub record BytesFilling (rule : Quantize) (w : ℕ) (p : Place) (samples count work : ℕ) : Type 0 where
-  pub there : 8 * count ≤ samples
-  pub in_row : p.column + 8 * count < w
-  pub small : p.corner ≤ 256
-  pub served : Served rule w work
-  pub at_once : 0 < count → AtOnce rule
+      (record { digits = digits; corner = p'.corner }) work'
+  pub advances : AdvancesPlace w h p.frames p.row p.column (length gray) digits byte p'
 
 -- so many bytes, one after the other, of the rule that the code's values stand for, with any table
 abbrev pub Fills : Quantize → ℕ → ℕ → ℕ → List ℕ → ℕ → List ℤ → ℕ → List ℕ → ℕ → List ℤ → Type 0
@@ -140,10 +126,15 @@ pub record RowFilling (rule : Quantize) (w : ℕ) (p : Place) (work : ℕ) : Typ
   pub small : p.corner ≤ 256
   pub served : Served rule w work
 
--- whole bytes stand at the output's front
-pub record RowFilled (rule : Quantize) (w : ℕ) (p : Place) (samples out : List ℕ) (work : List ℤ) (r : BytesFilled) (out' : List ℕ)
-    (work' : List ℤ) : Type 0 where
-  pub wholes : Wholes w p.column (length samples) (length out) r.count
+-- so many columns on, with this corner
+abbrev pub onwards : Place → ℕ → ℕ → Place
+onwards p k corner = record { frames = p.frames; row = p.row; column = p.column + k; begun = p.begun; corner = corner }
+
+-- whole bytes stand at the output's front, and the place is p'
+pub record RowFilled (rule : Quantize) (w : ℕ) (p : Place) (samples out : List ℕ) (work : List ℤ) (count : ℕ) (p' : Place)
+    (out' : List ℕ) (work' : List ℤ) : Type 0 where
+  pub wholes : Wholes w p.column (length samples) (length out) count
   pub bytes : List ℕ
-  pub fills : Fills rule w p.row p.column samples p.corner work r.count bytes r.corner work'
-  pub stored : out' ≡ bytes ++ drop r.count out
+  pub fills : Fills rule w p.row p.column samples p.corner work count bytes p'.corner work'
+  pub stored : out' ≡ bytes ++ drop count out
+  pub place : p' ≡ onwards p (8 * count) p'.corner

@@ -27,15 +27,6 @@ overflow_mul-to c = omega (arith, (there c).0, c.well_formed)
 pub overflow_add-from : goal.overflow_add-from
 overflow_add-from c = omega (arith, (there c).0, c.well_formed)
 
-pub overflow_add-end : goal.overflow_add-end
-overflow_add-end c = omega (arith, (there c).0, c.well_formed)
-
-pub slice_bounds-write_plane-count : goal.slice_bounds-write_plane-count
-slice_bounds-write_plane-count c = omega arith
-
-pub slice_bounds-write_plane-start : goal.slice_bounds-write_plane-start
-slice_bounds-write_plane-start c = omega arith
-
 pub slice_bounds-write_plane-end : goal.slice_bounds-write_plane-end
 slice_bounds-write_plane-end c = (there c).0
 
@@ -55,9 +46,6 @@ write_plane-requires c =
     let k = c.loop-k.k in
     lent-room (a.h.data_offset + k * plane) plane (k * plane) a.bytes.now c.loop-k.out (there (goal.at.write_plane-requires c).In-loop-k).0 (there (goal.at.write_plane-requires c).In-loop-k).1
 
-pub loop-k-smaller : goal.loop-k-smaller
-loop-k-smaller c = omega (arith, c.loop-k-test.true)
-
 pub loop-k-preserved : goal.loop-k-preserved
 loop-k-preserved c = planed c.loop-k.invariant _ _ _ c.loop-k-test.true refl (source_is c.loop-k.invariant _ refl) c.write_plane.ensures
 
@@ -65,4 +53,4 @@ pub shape_of-out : goal.shape_of-out
 shape_of-out c = kept-length c.loop-k.invariant
 
 pub returns : goal.returns
-returns c = ended c.loop-k.invariant c.loop-k-test.false
+returns c = ended c.loop-k.invariant (omega arith)

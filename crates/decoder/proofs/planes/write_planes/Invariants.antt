@@ -1,10 +1,6 @@
-use Prim.Native.Nat.{◌-◌}
 use Rattle.header.specs.Read.{parsed}
 use Rattle.decoder.proofs.Planed.{Planing}
 use Rattle.decoder.proofs.planes.write_planes.Given as goal
 
 abbrev pub invariant-loop-k : goal.invariant-loop-k
 invariant-loop-k l = Planing l.format l.bytes (parsed l.h) l.initial.out l.plane l.frames l.out l.k
-
-abbrev pub decreases-loop-k : goal.decreases-loop-k
-decreases-loop-k l = l.frames - l.k

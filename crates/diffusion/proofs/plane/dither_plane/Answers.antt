@@ -2,22 +2,24 @@ use Prim.Native.Nat.{ℕ}
 use mathlib.Core.Path.{◌≡◌, refl, sym, subst}
 use mathlib.Core.List.{List}
 use lib.IntN.{ℤ}
-use native.Mathlib.Omega.{arith}
 use lib.ListN.{length, drop}
-use Rattle.diffusion.specs.Internal.Rows.{DitherPlane}
-use Rattle.diffusion.specs.Internal.RowByRow.{PlaneLent, RowsWritten}
-use Rattle.diffusion.proofs.PlaneServed.{plane-served, no-columns}
+use Rattle.diffusion.specs.Internal.Rows.{served, DitherPlane}
+use Rattle.diffusion.specs.Internal.RowByRow.{RowsWritten}
+use Rattle.diffusion.proofs.PlaneServed.{refused, plane-served, no-columns}
 use Rattle.diffusion.proofs.PlaneServed.{rows-joined, rows-plain}
+use borrow.Author.Tests.{le-leb, lt-leb}
+use mathlib.Core.Bool.{false}
 use Rattle.diffusion.proofs.plane.dither_plane.Goals as goal
-use Rattle.diffusion.proofs.plane.dither_plane.Goals.{Else-columns-eq0, Else-work-columns}
+use Rattle.diffusion.proofs.plane.dither_plane.Goals.{Else-work-columns}
+use Rattle.diffusion.proofs.plane.dither_plane.Goals.{then-gray-columns-via-then-gray-columns, then-gray-columns-via-else-gray-columns+then-out-rows, then-gray-columns-via-else-gray-columns+else-out-rows+then-work-columns, then-gray-columns-via-else-gray-columns+else-out-rows+else-work-columns+then-columns-eq0}
 
 -- the plane is served
-served : (e : Else-work-columns) (out' : List ℕ) (work' : List ℤ)
+all-there : (e : Else-work-columns) (out' : List ℕ) (work' : List ℤ)
     → let a = e.args in
     RowsWritten a.width a.height a.gray.now a.out.now a.height out'
     → drop a.width work' ≡ drop a.width a.work.now
     → DitherPlane a.width a.height a.gray.now a.out.now a.work.now out' work'
-served e out' work' r b =
+all-there e out' work' r b =
     let a = e.args in
     plane-served a.width a.height a.gray.now a.out.now a.work.now e.if-gray-columns.false e.if-out-rows.false
     e.if-work-columns.false out' work' r b
@@ -30,13 +32,25 @@ columns e n is out' r =
     let a = e.args in
     subst (λ (w : ℕ). RowsWritten w a.height a.gray.now a.out.now a.height out') (sym is) r
 
-pub returns-then-columns-eq0 : goal.returns-then-columns-eq0
-returns-then-columns-eq0 c =
+pub returns-then-gray-columns : goal.returns-then-gray-columns
+returns-then-gray-columns c =
     let a = c.args in
-    served (goal.at.returns-then-columns-eq0 c).Else-work-columns _ _ (no-columns a.width a.height a.gray.now a.out.now c.if-columns-eq0.true) refl
+    let h = a.height in
+    let none : served a.width h (length a.gray.now) (length a.out.now) (length a.work.now) ≡ false → DitherPlane a.width h a.gray.now a.out.now a.work.now a.out.now a.work.now =
+    refused a.width h a.gray.now a.out.now a.work.now in
+    elim c.then-gray-columns.branch [
+      | then-gray-columns-via-then-gray-columns w ↦ none (rw (lt-leb _ _ w.if-gray-columns.true))
+      | then-gray-columns-via-else-gray-columns+then-out-rows w ↦
+          none (rw (le-leb _ _ w.if-gray-columns.false, lt-leb _ _ w.if-out-rows.true))
+      | then-gray-columns-via-else-gray-columns+else-out-rows+then-work-columns w ↦
+          none (rw (le-leb _ _ w.if-gray-columns.false, le-leb _ _ w.if-out-rows.false, lt-leb _ _ w.if-work-columns.true))
+      | then-gray-columns-via-else-gray-columns+else-out-rows+else-work-columns+then-columns-eq0 w ↦
+          plane-served a.width h a.gray.now a.out.now a.work.now w.if-gray-columns.false w.if-out-rows.false w.if-work-columns.false _ _
+          (no-columns a.width h a.gray.now a.out.now w.if-columns-eq0.true) refl
+    ]
 
 pub returns-then-first-rows : goal.returns-then-first-rows
-returns-then-first-rows c = served (goal.at.returns-then-first-rows c).Else-work-columns _ _ (rows-joined c.plain_rows-first.ensures _ c.rows_from.ensures.rows_written) c.rows_from.ensures.work_unchanged
+returns-then-first-rows c = all-there (goal.at.returns-then-first-rows c).Else-work-columns _ _ (rows-joined c.plain_rows-first.ensures _ c.rows_from.ensures.rows_written) c.rows_from.ensures.work_unchanged
 
 pub returns-else-first-rows : goal.returns-else-first-rows
-returns-else-first-rows c = served (goal.at.returns-else-first-rows c).Else-work-columns _ _ (rows-plain c.plain_rows-first.ensures c.if-first-rows.false) refl
+returns-else-first-rows c = all-there (goal.at.returns-else-first-rows c).Else-work-columns _ _ (rows-plain c.plain_rows-first.ensures c.if-first-rows.false) refl

@@ -12,14 +12,14 @@ some : (w : ℕ) → ((w - 1) / 8 ≡ 0 → ⊥) → 8 * 0 + 8 ≤ w
 some w h = omega arith
 
 pub returns-then-last-eq0 : goal.returns-then-last-eq0
-returns-then-last-eq0 c = bytes-start _ _ _ c.requires.1.1 (λ i. let f = c.type_inv.gray i in omega arith) _ c.args.out.now c.if-last-eq0.true refl
+returns-then-last-eq0 c = bytes-start _ _ _ c.requires (λ i. let f = c.type_inv.gray i in omega arith) _ c.args.out.now c.if-last-eq0.true refl
 
 pub dots-f-requires : goal.dots-f-requires
-dots-f-requires c = (c.requires.0, (c.requires.1.0, byte-lent _ _ 0 _ _ _ _ (bytes-start _ _ _ c.requires.1.1 (λ i. let f = c.type_inv.gray i in omega arith) 0 c.args.out.now refl refl) c.requires.1.1.kept (some _ c.if-last-eq0.false)))
+dots-f-requires c = byte-lent _ _ 0 _ _ _ _ (bytes-start _ _ _ c.requires (λ i. let f = c.type_inv.gray i in omega arith) 0 c.args.out.now refl refl) c.requires.kept (some _ c.if-last-eq0.false)
 
 pub overflow_cast-out : goal.overflow_cast-out
 overflow_cast-out c =
-    let p = bytes-start _ _ _ c.requires.1.1 (λ i. let f = c.type_inv.gray i in omega arith) 0 c.args.out.now refl refl in
+    let p = bytes-start _ _ _ c.requires (λ i. let f = c.type_inv.gray i in omega arith) 0 c.args.out.now refl refl in
     omega (arith, digits-byte _ _ 0 _ _ _ _ p _ _ (c.dots-f.ensures _ p.at))
 
 -- the bytes so far
@@ -27,9 +27,9 @@ made : (l : At-loop-j) →
     let a = l.args in
     BytesPassed a.gray.now a.work.now l.loop-j.j (length a.out.now) l.loop-j.f l.loop-j.out l.loop-j.work
 made l =
-    let p = bytes-start _ _ _ l.requires.1.1 (λ i. let f = l.type_inv.gray i in omega arith) 0 l.args.out.now refl refl in
+    let p = bytes-start _ _ _ l.requires (λ i. let f = l.type_inv.gray i in omega arith) 0 l.args.out.now refl refl in
     l.loop-j.invariant.passed l.args.work.now (length l.args.out.now)
-    (bytes-more _ _ 0 _ _ _ _ p _ _ (l.dots-f.ensures _ p.at) (some _ l.if-last-eq0.false) (omega (arith, some _ l.if-last-eq0.false, l.requires.1.1.room)))
+    (bytes-more _ _ 0 _ _ _ _ p _ _ (l.dots-f.ensures _ p.at) (some _ l.if-last-eq0.false) (omega (arith, some _ l.if-last-eq0.false, l.requires.room)))
 
 -- there are the dots of a byte more
 there : (l : At-loop-j) →
@@ -39,15 +39,15 @@ there l h = omega arith
 
 pub eight_dots_or_level-f-requires : goal.eight_dots_or_level-f-requires
 eight_dots_or_level-f-requires c =
-    let q = byte-lent _ _ _ _ _ _ _ (made (goal.at.eight_dots_or_level-f-requires c).At-loop-j) c.requires.1.1.kept (there (goal.at.eight_dots_or_level-f-requires c).At-loop-j c.loop-j-test.true) in
-    (c.requires.0, (c.requires.1.0, (q, omega (arith, c.loop-j.invariant.from))))
+    let q = byte-lent _ _ _ _ _ _ _ (made (goal.at.eight_dots_or_level-f-requires c).At-loop-j) c.requires.kept (there (goal.at.eight_dots_or_level-f-requires c).At-loop-j c.loop-j-test.true) in
+    (q, omega (arith, c.loop-j.invariant.from))
 
 pub overflow_cast-out-in-loop-j : goal.overflow_cast-out-in-loop-j
 overflow_cast-out-in-loop-j c = omega (arith, digits-byte _ _ _ _ _ _ _ (made (goal.at.overflow_cast-out-in-loop-j c).At-loop-j) _ _ (c.eight_dots_or_level-f.ensures _ (made (goal.at.overflow_cast-out-in-loop-j c).At-loop-j).at))
 
 -- there is room for a byte more
 fits : (l : At-loop-j) → l.loop-j.j < (length l.args.gray.now - 1) / 8 → l.loop-j.j < length l.loop-j.out
-fits l h = omega (arith, (made l).out_long, l.requires.1.1.room, h)
+fits l h = omega (arith, (made l).out_long, l.requires.room, h)
 
 pub loop-j-preserved : goal.loop-j-preserved
 loop-j-preserved c =

@@ -1,4 +1,3 @@
-use Prim.Native.Nat.{◌-◌}
 use Rattle.diffusion.proofs.RowBytes.{BytesRun}
 use Rattle.diffusion.proofs.row.bytes.Given as goal
 
@@ -6,6 +5,3 @@ use Rattle.diffusion.proofs.row.bytes.Given as goal
 -- Assumes nothing.
 abbrev pub invariant-loop-j : goal.invariant-loop-j
 invariant-loop-j l = BytesRun l.gray l.last l.initial.j l.initial.f l.initial.out l.initial.work l.j l.f l.out l.work
-
-abbrev pub decreases-loop-j : goal.decreases-loop-j
-decreases-loop-j l = l.last - l.j

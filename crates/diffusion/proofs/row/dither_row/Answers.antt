@@ -9,11 +9,11 @@ pub overflow_cast-out : goal.overflow_cast-out
 overflow_cast-out c =
     let p = c.bytes-f.ensures in
     let q = c.dots-s.ensures _ p.at in
-    rw (shifted-is _ _ _ c.requires.1.1 _ _ _ p _ _ q) (record { fits = shifted-small _ _ _ c.requires.1.1 _ _ _ p _ _ q })
+    rw (shifted-is _ _ _ c.requires _ _ _ p _ _ q) (record { fits = shifted-small _ _ _ c.requires _ _ _ p _ _ q })
 
 pub returns : goal.returns
 returns c =
     let p = c.bytes-f.ensures in
     let q = c.dots-s.ensures _ p.at in
-    let l = c.requires.1.1 in
+    let l = c.requires in
     row-dithered _ _ _ l _ _ _ p _ _ q _ _ (shifted-is _ _ _ l _ _ _ p _ _ q) (to_z_pos w16 _ (omega arith)) _ (eqb-true _ 0)

@@ -19,10 +19,10 @@ abbrev index : Start → ℕ
 index s = s.args.gray + nat_abs (to_z w16 (of_z w16 s.args.sum)) + s.args.f.right
 
 below : (s : Start) → index s < 512
-below s = let a = s.args in index_in a.rights.now a.downs.now a.f a.gray _ a.sum (same s) s.requires.1.1 (omega arith)
+below s = let a = s.args in index_in a.tables.now.rights a.tables.now.downs a.f a.gray _ a.sum (same s) s.requires (omega arith)
 
-entry : (s : Start) → get_or s.args.downs.now (index s) 0 < 1069105
-entry s = omega (arith, s.requires.1.0 (index s) (below s), parts-lt (index s) (below s))
+entry : (s : Start) → get_or s.args.tables.now.downs (index s) 0 < 1069105
+entry s = omega (arith, s.args.tables.now.downs_are (index s) (below s), parts-lt (index s) (below s))
 
 pub overflow_add-result : goal.overflow_add-result
 overflow_add-result c = omega (arith, entry (goal.at.overflow_add-result c).Start)
@@ -30,5 +30,4 @@ overflow_add-result c = omega (arith, entry (goal.at.overflow_add-result c).Star
 pub returns : goal.returns
 returns c =
     let a = c.args in
-    let p = c.requires in
-    dot-passed a.rights.now a.downs.now a.f a.gray _ a.sum (same (goal.at.returns c).Start) p.1.1 (omega arith) p.0 p.1.0
+    dot-passed a.tables.now.rights a.tables.now.downs a.f a.gray _ a.sum (same (goal.at.returns c).Start) c.requires (omega arith) a.tables.now.rights_are a.tables.now.downs_are

@@ -1,4 +1,3 @@
-use Prim.Native.Nat.{◌-◌}
 use Rattle.diffusion.proofs.RowGrows.{DotsRun}
 use Rattle.diffusion.proofs.row.dots.Given as goal
 
@@ -6,6 +5,3 @@ use Rattle.diffusion.proofs.row.dots.Given as goal
 -- Assumes nothing.
 abbrev pub invariant-loop-i : goal.invariant-loop-i
 invariant-loop-i l = DotsRun l.gray l.x l.end l.initial.s l.initial.work l.i l.s l.work
-
-abbrev pub decreases-loop-i : goal.decreases-loop-i
-decreases-loop-i l = l.end - l.i

@@ -1,4 +1,6 @@
-use mathlib.Core.Path.{◌∙◌}
+use Prim.Native.Nat.{ℕ, ◌<◌}
+use mathlib.Core.Path.{refl, ◌∙◌, subst}
+use lib.IntN.{pos}
 use lib.Seq.{length-take-le}
 use Rattle.diffusion.proofs.RowHanded.{begun-plain, begun-level}
 use Rattle.diffusion.proofs.rows.begin_row.Goals as goal
@@ -12,6 +14,6 @@ returns-then-plain_row c =
 pub returns : goal.returns
 returns c =
     let a = c.args in
-    let k = c.level_sums.auto.sums ∙ length-take-le _ a.work.now c.requires.kept in
-    begun-level a.gray.now a.work.now _ c.level_sums.new.sums k c.level_sums.ensures a.level
+    let k = c.fill.ensures.len ∙ length-take-le _ a.work.now c.requires.kept in
+    begun-level a.gray.now a.work.now _ _ k (λ x l. c.fill.ensures.clones x (pos 0) (subst (λ (n : ℕ). x < n) c.fill.ensures.len l) refl) a.level
     c.if-not-level.false

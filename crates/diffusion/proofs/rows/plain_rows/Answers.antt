@@ -1,11 +1,17 @@
+use Prim.Native.Nat.{ℕ, ◌+◌, ◌*◌}
+use mathlib.Core.Path.{◌≡◌, subst}
+use native.Mathlib.Nat.{add-mul}
 use native.Mathlib.Omega.{arith}
+use Rattle.image.specs.Geometry.{row_bytes}
+use Rattle.diffusion.specs.Internal.RowByRow.{PlainRows}
 use Rattle.diffusion.proofs.RowsGoing.{plain-begun, plain_more, plain_end}
+use Rattle.diffusion.proofs.RowsLoop.{rows-moved}
 use Rattle.diffusion.proofs.rows.plain_rows.Goals as goal
 
 pub loop-y-init : goal.loop-y-init
 loop-y-init c =
     let a = c.args in
-    plain-begun a.width a.height a.gray.now a.out.now
+    rows-moved (0 * a.width) (0 * row_bytes a.width) (plain-begun a.width a.height a.gray.now a.out.now) (omega arith) (omega arith)
 
 pub returns-then-not-plain_row : goal.returns-then-not-plain_row
 returns-then-not-plain_row c =
@@ -14,10 +20,17 @@ returns-then-not-plain_row c =
 
 pub loop-y-preserved : goal.loop-y-preserved
 loop-y-preserved c =
-    plain_more c.requires c.loop-y.invariant c.loop-y-test.true _ _ (λ i. let f = c.type_inv.gray i in omega arith)
-    c.if-not-plain_row.false c.plain_row.ensures
+    let w = c.args.width in
+    let y = c.loop-y.y in
+    rows-moved ((y + 1) * w) ((y + 1) * row_bytes w)
+    (plain_more c.requires c.loop-y.invariant c.loop-y-test.true _ _ (λ i. let f = c.type_inv.gray i in omega arith)
+    c.if-not-plain_row.false c.plain_row.ensures)
+    (omega (arith, add-mul y 1 w)) (omega (arith, add-mul y 1 (row_bytes w)))
 
 pub returns : goal.returns
 returns c =
+    let a = c.args in
     let i = c.loop-y.invariant in
-    record { most = i.most; level = i.given.are; written = i.written }
+    let e : c.loop-y.y ≡ a.height = omega (arith, i.most, c.loop-y-test.false) in
+    subst (λ (y : ℕ). PlainRows a.width a.height a.gray.now a.out.now y c.loop-y.out) e
+    (record { most = i.most; level = i.given.are; written = i.written })

@@ -1,5 +1,3 @@
-use Prim.Native.Nat.{◌-◌}
-use lib.ListN.{length}
 use Rattle.dither.proofs.DitherDotsLoop.{Inv}
 use Rattle.dither.proofs.row.dither_byte.Given as goal
 
@@ -7,6 +5,3 @@ use Rattle.dither.proofs.row.dither_byte.Given as goal
 -- Assumes nothing.
 abbrev pub invariant-loop-i : goal.invariant-loop-i
 invariant-loop-i l = Inv l.width l.y l.column l.gray 0 l.initial.corner l.initial.work l.work l.left l.digits l.corner l.above l.i
-
-abbrev pub decreases-loop-i : goal.decreases-loop-i
-decreases-loop-i l = length l.gray - l.i

@@ -1,4 +1,3 @@
-use Prim.Native.Nat.{◌-◌}
 use Rattle.dither.proofs.DitherBytesLoop.{Chain}
 use Rattle.dither.proofs.row.dither_bytes.Given as goal
 
@@ -6,6 +5,3 @@ use Rattle.dither.proofs.row.dither_bytes.Given as goal
 -- Assumes nothing.
 abbrev pub invariant-loop-k : goal.invariant-loop-k
 invariant-loop-k l = Chain l.width l.y l.column l.samples l.corner l.initial.work l.count l.out l.work l.near l.k
-
-abbrev pub decreases-loop-k : goal.decreases-loop-k
-decreases-loop-k l = l.count - l.k

@@ -2,6 +2,4 @@ use Rattle.ext_write.proofs.Begun.{begun-put}
 use Rattle.encoder.proofs.planes.encode_images.Goals as goal
 
 pub returns : goal.returns
-returns c =
-    begun-put _ _ _ _ _ _ _ _ _ (c.begin_images-begun.ensures _ c.check_parameters-found.ensures)
-    c.put_parameters.ensures
+returns g c = begun-put _ _ _ _ _ _ _ _ _ (c.begin_images-begun.ensures _ c.check_pairs-found.ensures) c.put_pairs.ensures

@@ -1,4 +1,5 @@
-use Prim.Native.Nat.{◌-◌, ◌≤◌}
+use Prim.Native.Nat.{◌≤◌}
+use Rattle.std.proofs.Common.{max}
 use mathlib.Core.Path.{◌≡◌}
 use mathlib.Core.Bool.{true, false}
 use lib.ListN.{length, drop}
@@ -11,8 +12,5 @@ use Rattle.ext.proofs.read.parse_bitfield00.Given as goal
 
 abbrev pub invariant-loop-at : goal.invariant-loop-at
 invariant-loop-at l =
-    (l.offset ≤ l.at)
+    (l.at ≤ max l.offset (length l.bytes))
     × (map (span_of l.offset) (read_fields false true 0 l.bytes l.offset) ≡ octets (drop l.at l.bytes) l.offset l.at (span_to 0 l.offset))
-
-abbrev pub decreases-loop-at : goal.decreases-loop-at
-decreases-loop-at l = length l.bytes - l.at

@@ -1,13 +1,10 @@
-use native.Mathlib.Omega.{arith}
-use mathlib.Core.Path.{◌∙◌}
+use Rattle.std.proofs.Common.{◌∙◌, arith}
+use Rattle.error.specs.Answer.{number_or_0}
 use Rattle.ext_write.proofs.PairSteps.{step_past, step-within, parts-pair}
 use Rattle.ext_write.proofs.pairs.check_pair.Goals as goal
 
 pub returns-then-text-at : goal.returns-then-text-at
 returns-then-text-at c = step_past _ _ _ _ _ (omega arith)
-
-pub returns-then-text-at-2 : goal.returns-then-text-at-2
-returns-then-text-at-2 c = step_past _ _ _ _ _ (omega arith)
 
 pub returns-then-text-value : goal.returns-then-text-value
 returns-then-text-value c = step_past _ _ _ _ _ (omega arith)
@@ -16,4 +13,4 @@ pub returns : goal.returns
 returns c =
     let a = c.args in
     step-within _ _ _ _ _ (omega arith) _ _ c.start_after-start.ensures
-    (c.first_code-code.ensures ∙ parts-pair a.strict a.s.code a.text.now a.s.at a.identifier_len a.value_len)
+    (c.first_refusal-refusal.ensures ∙ parts-pair a.strict (number_or_0 a.s.refusal) a.text.now a.s.at a.identifier_len a.value_len)

@@ -1,20 +1,32 @@
-use mathlib.Core.Path.{◌∙◌, sym, ap}
-use native.Mathlib.Omega.{arith}
-use lib.ListN.{length}
-use Rattle.error.specs.Answer.{map}
-use Rattle.ext_write.specs.Internal.Steps.{fields_length}
-use Rattle.ext_write.proofs.OctetsWritten.{octets-none, octets-bad, octets-length}
+use Rattle.std.proofs.Common.{◌≡◌, Bool, true, false, ◌∙◌, sym, ap, length, nat_lt, rules, arith}
+use Rattle.std.proofs.lemmas.Iterator.{YieldsList-from_slice}
+use Rattle.std.proofs.lemmas.Iterator.Search.{all_from_yields_List}
+use borrow.Author.Tests.{tests}
+use Rattle.error.specs.Choice.{if}
+use Rattle.error.specs.Answer.{map, gives, refuses}
+use Rattle.ext.specs.Classes.{all}
+use Rattle.ext_write.specs.Write.{octets_bytes}
+use Rattle.ext_write.proofs.OctetsWritten.{octets-none, octets-tested}
 use Rattle.ext_write.proofs.write.check_octets.Goals as goal
+use Rattle.ext_write.proofs.write.check_octets.Goals.{After-all}
+
+-- what the test of all octets says
+tested : (c : After-all) → map length (octets_bytes c.args.text.now) ≡ if c.all.result (gives (length c.args.text.now)) (refuses 24 0)
+unfolding all
+tested c =
+    octets-tested c.args.text.now (omega (arith, c.if-text-eq0.false))
+    ∙ ap (λ (b : Bool). if b (gives (length c.args.text.now)) (refuses 24 0))
+    (sym (all_from_yields_List (λ o. nat_lt o 128) _ _ _ c.all.ensures.ran (YieldsList-from_slice c.args.text.now cc) (λ x b q k. search (rules, tests))))
 
 pub returns-then-text-eq0 : goal.returns-then-text-eq0
-returns-then-text-eq0 c = ap fields_length c.refused.ensures ∙ sym (ap (map length) (octets-none _ (omega arith)))
+returns-then-text-eq0 c = rw c.new.ensures (sym (ap (map length) (octets-none _ (omega (arith, c.if-text-eq0.true)))))
 
-pub returns-then-text-i-ge128 : goal.returns-then-text-i-ge128
-returns-then-text-i-ge128 c =
-    let l = c.loop-i in
-    ap fields_length c.refused-then-text-i-ge128.ensures ∙ sym (ap (map length) (octets-bad _ l.i (omega arith) l.invariant.2 c.if-text-i-ge128.true))
+pub returns-then-not-all : goal.returns-then-not-all
+returns-then-not-all c =
+    let t = tested (goal.at.returns-then-not-all c).After-all in
+    rw c.new-then-not-all.ensures (sym (rw c.if-not-all.true at t))
 
 pub returns : goal.returns
 returns c =
-    let l = c.loop-i in
-    sym (octets-length _ l.invariant.0 (λ k h. l.invariant.2 k (omega arith)))
+    let t = tested (goal.at.returns c).After-all in
+    sym (rw c.if-not-all.false at t)

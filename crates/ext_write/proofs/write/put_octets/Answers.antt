@@ -1,4 +1,4 @@
-use native.Mathlib.Omega.{arith}
+use Rattle.std.proofs.Common.{arith}
 use Rattle.ext_write.proofs.OctetsWritten.{octet-put, octets-put}
 use Rattle.ext_write.proofs.write.put_octets.Goals as goal
 

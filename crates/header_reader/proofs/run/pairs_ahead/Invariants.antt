@@ -1,10 +1,9 @@
-use Prim.Native.Nat.{◌≤◌, ◌-◌}
-use lib.ListN.{length}
+use Rattle.std.proofs.Common.{◌-◌, ◌≤◌, length}
 use Rattle.header_reader.specs.Internal.Run.{PairsAhead}
 use Rattle.header_reader.proofs.run.pairs_ahead.Given as goal
 
-abbrev pub invariant-loop-i : goal.invariant-loop-i
-invariant-loop-i l = (l.end ≤ l.most) × (l.end ≤ length l.piece) × PairsAhead l.most l.piece (record { taken = l.i; pairs = l.pairs })
+abbrev pub invariant-loop-run : goal.invariant-loop-run
+invariant-loop-run l = record { few : l.end ≤ l.most; inside : l.end ≤ length l.piece; ahead : PairsAhead l.most l.piece l.run }
 
-abbrev pub decreases-loop-i : goal.decreases-loop-i
-decreases-loop-i l = l.end - l.i
+abbrev pub decreases-loop-run : goal.decreases-loop-run
+decreases-loop-run l = l.end - l.run.taken

@@ -1,34 +1,18 @@
-use mathlib.Core.Path.{subst}
-use Rattle.header_reader.specs.Internal.Represents.{fields_state}
-use Rattle.header_reader.specs.Internal.Phase.{Bounded}
-use Rattle.header_reader.specs.declared.phase.FieldsPhase.{FieldsPhase}
+use Rattle.std.proofs.Common.{◌≡◌, false, rules, sym, ◌∙◌}
+use Rattle.header.specs.Settings.{settings}
 use Rattle.header_reader.proofs.RunSteps.{stayed, phased}
 use Rattle.header_reader.proofs.run.run_fields.Goals as goal
-
-pub run_octets-requires : goal.run_octets-requires
-run_octets-requires c =
-    subst (λ (p : FieldsPhase). Bounded (fields_state p)) c.in-InOctets.is
-    c.requires
-
-pub returns-then-mode : goal.returns-then-mode
-returns-then-mode c = phased c.in-AtPair.is (stayed c.stay-then-mode.ensures _)
-
-pub run_pairs-requires : goal.run_pairs-requires
-run_pairs-requires c =
-    subst (λ (p : FieldsPhase). Bounded (fields_state p)) c.in-AtPair.is
-    c.requires
+use Rattle.header_reader.proofs.run.run_fields.Goals.{in_default-via-in-AtPair+else-not-mode, in_default-via-in_default}
 
 pub returns-in-InOctets : goal.returns-in-InOctets
 returns-in-InOctets c = phased c.in-InOctets.is (c.run_octets.ensures _)
 
-pub returns-in-AtOctet : goal.returns-in-AtOctet
-returns-in-AtOctet c = stayed c.stay.ensures _
+pub returns-in-AtPair : goal.returns-in-AtPair
+returns-in-AtPair c =
+    let off : c.args.mode.classes ≡ false = search rules in
+    phased c.in-AtPair.is (c.run_pairs.ensures (settings c.args.mode) off)
 
-pub returns-else-mode : goal.returns-else-mode
-returns-else-mode c = phased c.in-AtPair.is (c.run_pairs.ensures _ c.if-mode.false)
-
-pub returns-in-InIdentifier : goal.returns-in-InIdentifier
-returns-in-InIdentifier c = stayed c.stay-in-InIdentifier.ensures _
-
-pub returns-in-InValue : goal.returns-in-InValue
-returns-in-InValue c = stayed c.stay-in-InValue.ensures _
+pub returns-in_default : goal.returns-in_default
+returns-in_default c =
+    let kept : c.in_default.phase ≡ c.args.phase = elim c.in_default.branch [ in_default-via-in-AtPair+else-not-mode w ↦ w.phase-is ∙ sym w.in-AtPair.is | in_default-via-in_default w ↦ w.phase-is ] in
+    phased (sym kept) (stayed c.stay.ensures _)

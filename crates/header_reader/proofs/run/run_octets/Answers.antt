@@ -1,10 +1,12 @@
 use native.Mathlib.Omega.{arith}
-use Rattle.header_reader.specs.declared.phase.FieldsPhase.{FieldsPhase}
-use Rattle.header_reader.proofs.RunSteps.{stayed, octets-run}
+use Prim.Native.Nat.{◌+◌, ◌-◌}
+use Rattle.header_reader.proofs.RunSteps.{octets-ahead, octets-run}
 use Rattle.header_reader.proofs.run.run_octets.Goals as goal
 
-pub returns-then-start-at : goal.returns-then-start-at
-returns-then-start-at c = stayed {p = FieldsPhase.InOctets _ _ _} c.stay.ensures
+pub overflow_add-result : goal.overflow_add-result
+overflow_add-result c =
+    let a = c.args in
+    omega (arith, (octets-ahead (a.start + 4096 - a.at) a.piece.now _ c.octets_ahead-taken.ensures).within, c.well_formed)
 
 pub returns : goal.returns
-returns c = octets-run c.octets_ahead-taken.ensures (omega arith)
+returns c = octets-run (c.args.start + 4096 - c.args.at) c.octets_ahead-taken.ensures (omega arith)

@@ -3,7 +3,6 @@ use Prim.Native.Nat.{ℕ}
 use mathlib.Core.List.{List, ◌++◌}
 use native.Mathlib.Omega.{arith}
 use lib.ListN.{length, drop}
-use lib.Seq.{length-take-le}
 use Rattle.laws.proofs.Writers.{emits_none, emits-all}
 use Rattle.image.specs.Geometry.{row_bytes}
 use Rattle.image.specs.Rows.{convert_format}
@@ -18,13 +17,7 @@ long : (c : Start) → length (whole c) ≡ length c.args.plane.now
 long c = let a = c.args in format-length a.from a.to a.width a.height (row_bytes a.width) a.plane.now
 
 pub returns-then-out-n : goal.returns-then-out-n
-returns-then-out-n c = rw c.refused.ensures (emits_none (whole (goal.at.returns-then-out-n c).Start) c.args.out.now (omega (arith, long (goal.at.returns-then-out-n c).Start, c.if-out-n.true)))
-
-pub slice_bounds-convert_from-end-2 : goal.slice_bounds-convert_from-end-2
-slice_bounds-convert_from-end-2 c = sym (length-take-le _ c.args.out.now c.if-out-n.false)
-
-pub convert_from-requires : goal.convert_from-requires
-convert_from-requires c = sym (length-take-le _ c.args.out.now c.if-out-n.false)
+returns-then-out-n c = rw c.new.ensures (emits_none (whole (goal.at.returns-then-out-n c).Start) c.args.out.now (omega (arith, long (goal.at.returns-then-out-n c).Start, c.if-out-n.true)))
 
 pub returns : goal.returns
 returns c =

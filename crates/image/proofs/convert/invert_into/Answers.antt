@@ -3,7 +3,6 @@ use mathlib.Core.Path.{◌≡◌, ap, sym, ◌∙◌}
 use mathlib.Core.List.{List, ◌++◌}
 use native.Mathlib.Omega.{arith}
 use lib.ListN.{length, drop}
-use lib.Seq.{length-take-le}
 use Rattle.laws.proofs.Writers.{emits_none, emits-all}
 use Rattle.image.specs.Rows.{invert}
 use Rattle.image.proofs.InvertedBytes.{invert-length}
@@ -17,13 +16,7 @@ long : (c : Start) → length (whole c) ≡ length c.args.bytes.now
 long c = invert-length c.args.bytes.now
 
 pub returns-then-out-n : goal.returns-then-out-n
-returns-then-out-n c = rw c.refused.ensures (emits_none (whole (goal.at.returns-then-out-n c).Start) c.args.out.now (omega (arith, long (goal.at.returns-then-out-n c).Start, c.if-out-n.true)))
-
-pub slice_bounds-invert_from-end-2 : goal.slice_bounds-invert_from-end-2
-slice_bounds-invert_from-end-2 c = sym (length-take-le _ c.args.out.now c.if-out-n.false)
-
-pub invert_from-requires : goal.invert_from-requires
-invert_from-requires c = sym (length-take-le _ c.args.out.now c.if-out-n.false)
+returns-then-out-n c = rw c.new.ensures (emits_none (whole (goal.at.returns-then-out-n c).Start) c.args.out.now (omega (arith, long (goal.at.returns-then-out-n c).Start, c.if-out-n.true)))
 
 pub returns : goal.returns
 returns c =

@@ -9,7 +9,6 @@ use lib.ListN.{length, get_or, set}
 use Rattle.image.specs.Geometry.{row_bytes, plane_bytes}
 use Rattle.image.specs.Internal.Parts.{clear_rows}
 use Rattle.image.proofs.PackedAsRows.{clear-length, clear_none, clear_next}
-use Rattle.image.proofs.PlaneSizes as sizes
 use Rattle.image.proofs.packed.clear_rows.Invariants.{Clearing}
 use Rattle.image.proofs.packed.clear_rows.Goals as goal
 
@@ -47,10 +46,10 @@ pub loop-y-init : goal.loop-y-init
 unfolding clear_rows
 loop-y-init c =
     record {
-      row_is = sizes.stride-is c.requires.laid;
-      mask_is = sizes.mask_is c.requires.laid;
-      wide = omega (arith, sizes.stride-is c.requires.laid, c.if-layout-eq0.false);
-      room = c.requires.height_in_bounds;
+      row_is = c.args.layout.stride_is;
+      mask_is = c.args.layout.mask_is;
+      wide = omega (arith, c.args.layout.stride_is, c.if-layout-eq0.false);
+      room = c.requires;
       within = omega arith;
       now_is = refl;
     }
@@ -69,12 +68,6 @@ bounds-plane-last c = last-in c.loop-y.invariant c.loop-y-test.true
 
 pub bounds-plane-last-in-loop-y : goal.bounds-plane-last-in-loop-y
 bounds-plane-last-in-loop-y c = last-in c.loop-y.invariant c.loop-y-test.true
-
-pub overflow_add-y : goal.overflow_add-y
-overflow_add-y c = omega arith
-
-pub loop-y-smaller : goal.loop-y-smaller
-loop-y-smaller c = omega arith
 
 pub loop-y-preserved : goal.loop-y-preserved
 loop-y-preserved c =

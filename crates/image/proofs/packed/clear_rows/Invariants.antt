@@ -1,4 +1,4 @@
-use Prim.Native.Nat.{ℕ, ◌-◌, ◌≤◌, ◌<◌}
+use Prim.Native.Nat.{ℕ, ◌≤◌, ◌<◌}
 use mathlib.Core.Path.{◌≡◌}
 use mathlib.Core.List.{List}
 use lib.ListN.{length}
@@ -16,7 +16,4 @@ pub record Clearing (plane₀ : List ℕ) (w h row mask : ℕ) (plane : List ℕ
   pub now_is : plane ≡ clear_rows w y plane₀
 
 abbrev pub invariant-loop-y : goal.invariant-loop-y
-invariant-loop-y l = Clearing l.initial.plane l.layout.width l.layout.height l.row l.mask l.plane l.y
-
-abbrev pub decreases-loop-y : goal.decreases-loop-y
-decreases-loop-y l = l.layout.height - l.y
+invariant-loop-y l = Clearing l.initial.plane l.fn.layout.width l.fn.layout.height l.row l.mask l.plane l.y

@@ -13,10 +13,10 @@ use Rattle.ordered.proofs.dots.ordered_dots.Goals.{After-ordered_dot, At-loop-i}
 low : (l : At-loop-i) → l.loop-i.digits < 65536
 low l =
     let a = l.args in
-    subst (λ (n : ℕ). n < 65536) (sym l.loop-i.invariant.1)
+    subst (λ (n : ℕ). n < 65536) (sym l.loop-i.invariant)
     (appended-fits a.begun (ordered_bit a.side a.table.now a.y a.column a.gray.now)
     (λ i. bit_le (leb (bound a.side (cell a.side a.table.now (a.column + i) a.y)) (get_or a.gray.now i 0)))
-    (length a.gray.now) l.loop-i.i l.requires.packs l.loop-i.invariant.0)
+    (length a.gray.now) l.loop-i.i l.requires.packs l.loop-i.auto.i-end)
 
 dot-is : (c : After-ordered_dot) →
     let a = c.args in
@@ -34,7 +34,7 @@ dot-le c =
 
 pub loop-i-init : goal.loop-i-init
 unfolding appended
-loop-i-init c = (omega arith, refl)
+loop-i-init c = refl
 
 pub overflow_mul-digits : goal.overflow_mul-digits
 overflow_mul-digits c = omega (arith, low (goal.at.overflow_mul-digits c).At-loop-i)
@@ -45,6 +45,5 @@ overflow_add-digits c = omega (arith, low (goal.at.overflow_add-digits c).At-loo
 pub loop-i-preserved : goal.loop-i-preserved
 loop-i-preserved c =
     let a = c.args in
-    let more = one_more a.begun (ordered_bit a.side a.table.now a.y a.column a.gray.now) c.loop-i.i c.loop-i.digits
-    c.ordered_dot.result c.loop-i.invariant.1 (dot-is c) in
-    (omega arith, more)
+    one_more a.begun (ordered_bit a.side a.table.now a.y a.column a.gray.now) c.loop-i.i c.loop-i.digits
+    c.ordered_dot.result c.loop-i.invariant (dot-is c)

@@ -1,6 +1,4 @@
-use Prim.Native.Nat.{◌-◌, ◌≤◌}
 use mathlib.Core.Path.{◌≡◌}
-use lib.ListN.{length}
 use Rattle.rules.specs.Bits.{appended}
 use Rattle.ordered.specs.Internal.Sides.{ordered_bit}
 use Rattle.ordered.proofs.dots.ordered_dots.Given as goal
@@ -8,7 +6,4 @@ use Rattle.ordered.proofs.dots.ordered_dots.Given as goal
 -- `ordered::dots::ordered_dots` meets its contract: a dot more with each sample.
 -- Assumes nothing.
 abbrev pub invariant-loop-i : goal.invariant-loop-i
-invariant-loop-i l = (l.i ≤ length l.gray) × (l.digits ≡ appended l.begun (ordered_bit l.side l.table l.y l.column l.gray) l.i)
-
-abbrev pub decreases-loop-i : goal.decreases-loop-i
-decreases-loop-i l = length l.gray - l.i
+invariant-loop-i l = l.digits ≡ appended l.begun (ordered_bit l.side l.table l.y l.column l.gray) l.i

@@ -1,4 +1,4 @@
-use Prim.Native.Nat.{ℕ, ◌-◌, ◌/◌, ◌%◌, ◌^◌, ◌≤◌}
+use Prim.Native.Nat.{ℕ, ◌/◌, ◌%◌, ◌^◌}
 use mathlib.Core.Path.{◌≡◌}
 use lib.ListN.{length, replicate}
 use Rattle.rules.specs.Ordered.{number}
@@ -12,7 +12,4 @@ abbrev pub number_at : ℕ → ℕ → ℕ
 number_at k j = number k (j % 2 ^ k) (j / 2 ^ k)
 
 abbrev pub invariant-loop-i : goal.invariant-loop-i
-invariant-loop-i l = (l.i ≤ l.area) × ((length l.table ≡ 64) × ((k : ℕ) → l.side ≡ 2 ^ k → l.table ≡ overlaid l.i (number_at k) (replicate 64 0)))
-
-abbrev pub decreases-loop-i : goal.decreases-loop-i
-decreases-loop-i l = l.area - l.i
+invariant-loop-i l = (length l.table ≡ 64) × ((k : ℕ) → l.side ≡ 2 ^ k → l.table ≡ overlaid l.i (number_at k) (replicate 64 0))

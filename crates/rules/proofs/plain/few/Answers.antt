@@ -11,13 +11,13 @@ use Rattle.rules.proofs.plain.few.Goals.{In-loop-i}
 -- the samples so far fit seven bytes
 low : (l : In-loop-i) → Below 256 (samples_from l.args.gray.now l.args.at) → l.loop-i.samples < 2 ^ 56
 low l small =
-    subst (λ (n : ℕ). n < 2 ^ 56) (sym l.loop-i.invariant.1)
+    subst (λ (n : ℕ). n < 2 ^ 56) (sym l.loop-i.invariant)
     (lt_of_lt_of_le (bytes_lt (samples_from l.args.gray.now l.args.at) small l.loop-i.i)
     (pow_mono {i = 8 * l.loop-i.i} {j = 56} (omega arith)))
 
 pub loop-i-init : goal.loop-i-init
 unfolding bytes
-loop-i-init c = (omega arith, refl)
+loop-i-init c = refl
 
 pub overflow_mul-samples : goal.overflow_mul-samples
 overflow_mul-samples c =
@@ -32,4 +32,4 @@ overflow_add-samples c =
 pub loop-i-preserved : goal.loop-i-preserved
 loop-i-preserved c =
     let f : ℕ → ℕ = samples_from c.args.gray.now c.args.at in
-    (omega arith, bytes_next f c.loop-i.i c.loop-i.samples c.loop-i.invariant.1)
+    omega (arith, c.from.ensures, bytes_next f c.loop-i.i c.loop-i.samples c.loop-i.invariant)

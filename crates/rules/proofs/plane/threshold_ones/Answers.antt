@@ -12,14 +12,12 @@ use Rattle.rules.proofs.plane.threshold_ones.Goals as goal
 pub loop-i-init : goal.loop-i-init
 loop-i-init c =
     let a = c.args in
-    (omega arith, overlaid-none (byte_at 1 (threshold_bit a.bound a.gray.now)) a.out.now)
+    overlaid-none (byte_at 1 (threshold_bit a.bound a.gray.now)) a.out.now
 
 pub loop-i-preserved : goal.loop-i-preserved
 loop-i-preserved c =
     let a = c.args in
-    let i = c.loop-i.i in (
-      omega arith,
-      ap (λ (o : List ℕ). set o i c.dot_bit.result) c.loop-i.invariant.1
-          ∙ overlaid-next (byte_at 1 (threshold_bit a.bound a.gray.now)) a.out.now i c.dot_bit.result (omega (arith, c.requires.1))
-          (ones-byte a.bound a.gray.now i c.dot_bit.result c.dot_bit.ensures),
-    )
+    let i = c.loop-i.i in
+    ap (λ (o : List ℕ). set o i c.dot_bit.result) c.loop-i.invariant
+    ∙ overlaid-next (byte_at 1 (threshold_bit a.bound a.gray.now)) a.out.now i c.dot_bit.result (omega (arith, c.requires.1))
+    (ones-byte a.bound a.gray.now i c.dot_bit.result c.dot_bit.ensures)

@@ -12,15 +12,13 @@ use Rattle.rules.proofs.plane.threshold_pairs.Goals as goal
 pub loop-i-init : goal.loop-i-init
 loop-i-init c =
     let a = c.args in
-    (omega arith, overlaid-none (byte_at 2 (threshold_bit a.bound a.gray.now)) a.out.now)
+    overlaid-none (byte_at 2 (threshold_bit a.bound a.gray.now)) a.out.now
 
 pub loop-i-preserved : goal.loop-i-preserved
 loop-i-preserved c =
     let a = c.args in
     let i = c.loop-i.i in
-    let v = c.dot_bit.result + c.dot_bit-in-loop-i.result in (
-      omega arith,
-      ap (λ (o : List ℕ). set o i v) c.loop-i.invariant.1
-          ∙ overlaid-next (byte_at 2 (threshold_bit a.bound a.gray.now)) a.out.now i v (omega (arith, c.requires.1))
-          (pairs-byte a.bound a.gray.now i _ _ c.dot_bit.ensures c.dot_bit-in-loop-i.ensures),
-    )
+    let v = c.dot_bit.result + c.dot_bit-in-loop-i.result in
+    ap (λ (o : List ℕ). set o i v) c.loop-i.invariant
+    ∙ overlaid-next (byte_at 2 (threshold_bit a.bound a.gray.now)) a.out.now i v (omega (arith, c.requires.1))
+    (pairs-byte a.bound a.gray.now i _ _ c.dot_bit.ensures c.dot_bit-in-loop-i.ensures)

@@ -1,4 +1,3 @@
-use Prim.Native.Nat.{◌-◌, ◌≤◌}
 use mathlib.Core.Path.{◌≡◌}
 use Rattle.rules.specs.Packed.{byte_at}
 use Rattle.rules.specs.Internal.Kernels.{threshold_bit}
@@ -8,7 +7,4 @@ use Rattle.rules.proofs.plane.threshold_pairs.Given as goal
 -- `rules::plane::threshold_pairs` meets its contract: a byte more with each pair of samples.
 -- Assumes nothing.
 abbrev pub invariant-loop-i : goal.invariant-loop-i
-invariant-loop-i l = (l.i ≤ l.height) × (l.out ≡ overlaid l.i (byte_at 2 (threshold_bit l.bound l.gray)) l.initial.out)
-
-abbrev pub decreases-loop-i : goal.decreases-loop-i
-decreases-loop-i l = l.height - l.i
+invariant-loop-i l = l.out ≡ overlaid l.i (byte_at 2 (threshold_bit l.bound l.gray)) l.initial.out

@@ -1,11 +1,8 @@
-use Rattle.header_reader.proofs.ReaderPromises.{stepped, lost}
+use Rattle.std.proofs.Common.{sym, ap, ◌∙◌, Ok}
+use Rattle.header_reader.specs.Internal.Phase.{moved}
+use Rattle.header_reader.proofs.ReaderPromises.{next-reachable}
 use Rattle.header_reader.proofs.reader.HeaderReader.step.Goals as goal
 
-pub step_phase-requires : goal.step_phase-requires
-step_phase-requires c = c.within.ensures.holds c.if-within.true
-
-pub returns-then-within : goal.returns-then-within
-returns-then-within c = stepped _ _ c.step_phase.result _ c.step_phase.ensures c.as_reader.ensures
-
-pub returns : goal.returns
-returns c = lost _ _ _ _ c.within.ensures c.if-within.false
+pub invariant_of-result : goal.invariant_of-result
+invariant_of-result c =
+    record { reachable = next-reachable c.args.self c.args.byte _ (sym (ap moved (c.in_ok-phase.was ∙ ap Ok c.in-More.is)) ∙ c.step_phase.ensures) }

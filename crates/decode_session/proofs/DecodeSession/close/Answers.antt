@@ -1,9 +1,0 @@
-use borrow.Author.Tests.{not-true, not-false}
-use Rattle.decode_session.proofs.CloseCalls.{close-shut, close_open}
-use Rattle.decode_session.proofs.DecodeSession.close.Goals as goal
-
-pub returns-then-not-self : goal.returns-then-not-self
-returns-then-not-self c = close-shut _ _ (not-true _ c.if-not-self.true) c.new.ensures
-
-pub returns : goal.returns
-returns c = close_open _ _ (not-false _ c.if-not-self.false) c.finish-answer.ensures

@@ -1,7 +1,0 @@
-use Rattle.ext_write.proofs.Begun.{begun-put}
-use Rattle.encode_session.proofs.EncodeSession.open_lengths.Goals as goal
-
-pub returns : goal.returns
-returns c =
-    c.opened.ensures _ _ _ _ _
-    (begun-put _ _ _ _ _ _ _ _ _ (c.begin_opening-begun.ensures _ c.check_lengths-found.ensures) c.put_lengths-answer.ensures)

@@ -1,7 +1,0 @@
-use Rattle.encoder.proofs.PairsLeft.{made-put}
-use Rattle.encoder.proofs.gray8.encode_gray8_lengths.Goals as goal
-
-pub returns : goal.returns
-returns c =
-    made-put _ _ _ _ _ _ _ _ _ _ _ _ _ _ (c.begin_gray8-begun.ensures _ c.check_lengths-found.ensures)
-    c.put_lengths.ensures

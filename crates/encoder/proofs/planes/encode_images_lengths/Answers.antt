@@ -1,7 +1,0 @@
-use Rattle.ext_write.proofs.Begun.{begun-put}
-use Rattle.encoder.proofs.planes.encode_images_lengths.Goals as goal
-
-pub returns : goal.returns
-returns c =
-    begun-put _ _ _ _ _ _ _ _ _ (c.begin_images-begun.ensures _ c.check_lengths-found.ensures)
-    c.put_lengths.ensures

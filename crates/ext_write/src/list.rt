@@ -1,0 +1,47 @@
+// The pairs to be written as a list of their lengths.
+ghost use Rattle.std.specs.Prelude.{◌≡◌, ◌<◌, ◌^◌, ℕ, List, length, get_or};
+ghost use Rattle.ext_write.specs.Write.{flattened};
+
+use crate::Parameter;
+
+// Pairs that stand one behind the other in a text. Each has two lengths: the identifier's and the value's.
+pub trait PairList {
+    ghost lengths: { Self → List ℕ };
+
+    // How many lengths there are.
+    fn count(self) -> usize
+        ensures counted { result ≡ length (lengths self) }
+        ensures few { result < 2 ^ 63 };
+
+    // The length at an index, 0 past the last.
+    fn length(self, k: usize) -> usize
+        ensures { result ≡ get_or (lengths self) k 0 };
+}
+
+impl PairList for &[usize] {
+    ghost lengths = { λ list. list.now };
+
+    fn count(self) -> usize {
+        self.len()
+    }
+
+    fn length(self, k: usize) -> usize {
+        if k < self.len() { self[k] } else { 0 }
+    }
+}
+
+impl PairList for &[Parameter] {
+    ghost lengths = { λ list. flattened list.now };
+
+    fn count(self) -> usize {
+        self.len() * 2
+    }
+
+    fn length(self, k: usize) -> usize {
+        match self.get(k / 2) {
+            Some(p) if k % 2 == 0 => p.identifier_len,
+            Some(p) => p.value_len,
+            None => 0,
+        }
+    }
+}

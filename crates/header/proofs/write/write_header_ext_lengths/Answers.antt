@@ -1,7 +1,0 @@
-use Rattle.ext_write.proofs.Begun.{begun-put}
-use Rattle.header.proofs.write.write_header_ext_lengths.Goals as goal
-
-pub returns : goal.returns
-returns c =
-    begun-put _ _ _ _ _ _ _ _ _ (c.begin_header-begun.ensures.1 _ _ c.check_lengths-found.ensures)
-    c.put_lengths.ensures

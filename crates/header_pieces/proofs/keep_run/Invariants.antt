@@ -1,9 +1,0 @@
-use Rattle.std.proofs.Common.{◌-◌}
-use Rattle.header_pieces.proofs.RunStored.{KeptSo}
-use Rattle.header_pieces.proofs.keep_run.Given as goal
-
-abbrev pub invariant-loop-i : goal.invariant-loop-i
-invariant-loop-i l = KeptSo l.initial.ext l.run l.kept l.n l.ext l.i
-
-abbrev pub decreases-loop-i : goal.decreases-loop-i
-decreases-loop-i l = l.n - l.i

@@ -1,0 +1,63 @@
+// Parts of slices, and bytes that are read one behind the other.
+ghost use Rattle.std.specs.Prelude.{◌≡◌, take, drop};
+
+// The first `n` elements, or all where there are fewer.
+pub(crate) fn front<T>(items: &[T], n: usize) -> &[T]
+    ensures { result.now ≡ take n items.now }
+{
+    &items[..n.min(items.len())]
+}
+
+// The elements from the `n`th on.
+pub(crate) fn behind<T>(items: &[T], n: usize) -> &[T]
+    ensures { result.now ≡ drop n items.now }
+{
+    &items[n.min(items.len())..]
+}
+
+// The bytes that are left. Past their end stand zeros.
+#[derive(Clone, Copy)]
+pub(crate) struct Bytes<'a> {
+    pub rest: &'a [u8],
+}
+
+impl<'a> Bytes<'a> {
+    pub(crate) fn new(rest: &'a [u8]) -> Bytes<'a> {
+        Bytes { rest }
+    }
+
+    // The next `n` bytes, or all where there are fewer.
+    pub(crate) fn take(&mut self, n: usize) -> &'a [u8] {
+        let part = front(self.rest, n);
+        self.rest = behind(self.rest, n);
+        part
+    }
+
+    pub(crate) fn byte(&mut self) -> u8 {
+        let [byte] = self.array::<1>();
+        byte
+    }
+
+    // A number in two bytes, the high one first.
+    pub(crate) fn short(&mut self) -> usize {
+        usize::from(u16::from_be_bytes(self.array()))
+    }
+
+    // A number in four bytes.
+    pub(crate) fn long(&mut self) -> u32 {
+        u32::from_be_bytes(self.array())
+    }
+
+    // A number in eight bytes.
+    pub(crate) fn longest(&mut self) -> u64 {
+        u64::from_be_bytes(self.array())
+    }
+
+    pub(crate) fn array<const N: usize>(&mut self) -> [u8; N] {
+        let mut array = [0; N];
+        for (to, from) in array.iter_mut().zip(self.take(N)) {
+            *to = *from;
+        }
+        array
+    }
+}
