@@ -81,3 +81,13 @@ module _ {target l₀ : List ℕ} where
         ∙ ap (λ (k : ℕ). target ++ drop k l₀) e
         ∙ ap (λ (r : List ℕ). target ++ r) (drop-length l₀)
         ∙ append-nil target
+
+  module _ {l : List ℕ} {i : ℕ} (f : FilledTo target l₀ l i) where
+    -- the rest at once
+    pub rest-filled : (new : List ℕ) → new ≡ mid_of i (length target - i) target → put_mid i (length l - i) l new ≡ target
+    rest-filled new r =
+        let k : length l ≡ length l₀ = kept-length f in
+        let n : length target ≡ length l = f.same ∙ sym k in
+        done
+        (filled-part f (length l) new (omega (arith, f.within)) (omega arith) (r ∙ ap (λ (j : ℕ). mid_of i (j - i) target) n))
+        (omega arith)

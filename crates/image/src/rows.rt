@@ -3,20 +3,43 @@ ghost use Rattle.std.specs.Prelude.{◌≡◌, length};
 ghost use Rattle.image.specs.Internal.Parts.{mask_last};
 ghost use Rattle.image.specs.Rows.{invert};
 
-// The bytes of another list: in blocks of 16, since `copy_from_slice` of any length is a call of memmove, which libcapi.a may not make.
+// The bytes of another list, one by one. Counted by hand, as in `copy`: with `for`, and blocks by `try_from`, reading takes four times as long.
+fn copy_bytes(from: &[u8], to: &mut [u8])
+    requires { length from.now ≡ length to.old }
+    ensures { to.new ≡ from.now }
+{
+    let mut i: usize = 0;
+    while i < to.len() {
+        to[i] = from[i];
+        i += 1;
+    }
+}
+
+// The bytes of a list of 16.
+fn block(from: &[u8]) -> [u8; 16]
+    requires { length from.now ≡ 16 }
+    ensures { result ≡ from.now }
+{
+    let mut b = [0u8; 16];
+    copy_bytes(from, &mut b);
+    b
+}
+
+// The bytes of another list: block by block, each read whole before it is stored, and then the rest. `copy_from_slice` of any length is a
+// call of memmove, which libcapi.a may not make.
 pub(crate) fn copy(from: &[u8], to: &mut [u8])
     requires { length from.now ≡ length to.old }
     ensures { to.new ≡ from.now }
 {
-    let blocks = to.len() / 16;
-    for k in 0..blocks {
-        let i = 16 * k;
-        let block = <[u8; 16]>::try_from(&from[i..i + 16]).unwrap();
-        to[i..i + 16].copy_from_slice(&block);
+    let n = to.len();
+    let mut i: usize = 0;
+    while 15 < n - i {
+        let end = i + 16;
+        let b = block(&from[i..end]);
+        copy_bytes(&b, &mut to[i..end]);
+        i = end;
     }
-    for i in 16 * blocks..to.len() {
-        to[i] = from[i];
-    }
+    copy_bytes(&from[i..], &mut to[i..]);
 }
 
 // The inverted bytes of another list.
