@@ -1,10 +1,10 @@
 -- Sniffing a body's length, by how it compares with sixteen planes.
-use Prim.Native.Nat.{ℕ, ◌*◌, ◌/◌, ◌%◌, ◌≤◌, ◌<◌}
+use Prim.Native.Nat.{ℕ, ◌*◌, ◌/◌, ◌%◌, ◌<◌}
 use mathlib.Core.Path.{◌≡◌, refl}
 use mathlib.Core.Bool.{Bool, true, false, ◌&&◌}
-use native.Mathlib.Nat.{div-add-mod', div-lt_iff_lt-mul, lt_of_mul-lt-mul_right}
+use native.Mathlib.Nat.{div-add-mod', lt_of_mul-lt-mul_right}
 use native.Mathlib.Omega.{arith}
-use borrow.Author.Tests.{le-ltb, le-leb, lt-leb, eq-eqb, eqb-true}
+use borrow.Author.Tests.{le-ltb, lt-leb, eqb-true}
 use lib.Dec.{leb, eqb}
 use Rattle.error.specs.Choice.{if}
 use Rattle.api.specs.Sniff.{sniff_length}
@@ -22,8 +22,3 @@ module _ (plane size : ℕ) (some : 0 < plane) where
           let z = eqb-true (size % plane) 0 e in
           let k : 16 * plane < size / plane * plane = omega arith in
           rw (lt-leb (size / plane) 16 (lt_of_mul-lt-mul_right plane k))
-
-  pub exact : size % plane ≡ 0 → plane ≤ size → size ≤ 16 * plane → sniff_length plane size ≡ Exact
-  exact e p l =
-      let k : size / plane < 17 = (div-lt_iff_lt-mul some).1 (omega arith) in
-      rw (le-ltb size plane p, eq-eqb (size % plane) 0 e, le-leb (size / plane) 16 (omega arith))

@@ -10,6 +10,7 @@ mod sniffing;
 pub use facts::info;
 pub use sniffing::{probe, sniff};
 
+// Its fields are of the Rust's `ImageInfo`: no `ParsedHeader` is between.
 #[derive(Clone, Copy)]
 pub struct ImageInfo {
     pub width: u32,

@@ -11,7 +11,7 @@ use image::PlaneLayout;
 // The largest width and height that are taken for an image's.
 pub const PROBE_MAX_DIMENSION: u32 = 16384;
 
-// The last bytes of eight rows, from the one at an offset on, or'ed.
+// The last bytes of eight rows, from the one at an offset on, or'ed. By index: a slice for each row would serve for one byte.
 fn eight_ends(body: &[u8], row: usize, at: usize) -> u8
     requires { at + 7 * row < length body.now }
     ensures { result ≡ eight_ends body.now row at }
@@ -82,7 +82,7 @@ fn sniff_body(width: u32, height: u32, body: &[u8]) -> Sniffed
     told
 }
 
-// What is said of a file whose header has these sizes.
+// What is said of a file whose header has these sizes: the numbers of a `Front`, of which `Sized` and the definition speak one by one.
 fn sniff_sizes(bytes: &[u8], width: u32, height: u32, start: usize) -> Sniffed
     requires { Sized width height start (length bytes.now) }
     ensures { result ≡ sniff_sizes bytes.now width height start }

@@ -20,7 +20,6 @@ use Rattle.decode_session.specs.declared.DecodeSession.{DecodeSession}
 use Rattle.replay.specs.Calls.{named}
 use Rattle.replay.specs.Encode as Encode
 use Rattle.replay.specs.Decode as Decode
-use Rattle.replay.specs.declared.Replayed.{Replayed}
 use Rattle.options.specs.Defaults.{made_frames}
 
 -- ---- settings
@@ -49,11 +48,10 @@ reading_from inverted ext = let m = Reading.opened (asked inverted) in if (leb l
 
 -- so many calls are made, with their replies in every lent byte
 pub record ReadsList (inverted : Bool) (numbers file out ext answers : List ℕ) (r : ℕ) (out' ext' answers' : List ℕ) : Type 0 where
-  pub last : Replayed DecodeSession
-  pub made : r ≡ last.calls
+  pub last : DecodeSession
   pub shows : let m = reading_from inverted (length ext) in
       let cs = named numbers (length file) (length out) (length ext) (length answers) in
-      Decode.RepliesAs m (Decode.calls_of m cs file out ext) out ext answers last out' ext' answers'
+      Decode.RepliesAs m (Decode.calls_of m cs file out ext) out ext answers r last out' ext' answers'
 
 -- ---- a list of calls on a making session
 
@@ -70,9 +68,8 @@ making_from width height dithered work =
 -- running machine keeps, from the numbers found and the opened session's
 pub record MakesBy (m : Making.Model) (cs : List Making.Call) (work : List ℤ) (out answers : List ℕ) (r : ℕ) (work' : List ℤ)
     (out' answers' : List ℕ) : Type 0 where
-  pub last : Replayed EncodeSession
-  pub made : r ≡ last.calls
-  pub counts : Encode.AnswersAs m cs answers last answers'
+  pub last : EncodeSession
+  pub counts : Encode.AnswersAs m cs answers r last answers'
   pub shows : Encode.WritesAs m cs out last out' work'
   pub leaves : Encode.Leaves m (Making.finally m cs) work work'
   pub first : EncodeSession

@@ -1,5 +1,5 @@
 -- What the timed functions promise: what the functions of `quantize` do, with a refusal's number for their answer.
-use Rattle.std.specs.Prelude.{ℕ, ◌*◌, ◌≡◌, List, ℤ, length, drop}
+use Rattle.std.specs.Prelude.{ℕ, ◌≡◌, List, ℤ, length, drop}
 use Rattle.error.specs.Answer.{Answer, refuses, code_of}
 use Rattle.error.specs.Emits.{emitted, output}
 use Rattle.options.specs.declared.Quantize.TheVariants.{Dither}

@@ -17,10 +17,7 @@ pub use sessions::{bench_make, bench_make_list, bench_read_list, bench_write};
 pub(crate) fn number(w: Result<usize>) -> u8
     ensures { result ≡ code_of (written w) }
 {
-    match w {
-        Ok(_) => 0,
-        Err(e) => e.kind.number(),
-    }
+    w.map_or_else(|e| e.kind.number(), |_| 0)
 }
 
 pub fn bench_threshold(width: u32, height: u32, gray: &[u8], threshold: u8, out: &mut [u8]) -> u8

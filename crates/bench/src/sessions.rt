@@ -11,6 +11,7 @@ use encode_session::EncodeSession;
 use image::PixelFormat;
 use options::{DecodeOptions, EncodeOptions, Quantize};
 
+// No From: bool and format both belong to other crates.
 fn format_of(inverted: bool) -> PixelFormat
     ensures { result ≡ format_of inverted }
 {
@@ -27,6 +28,7 @@ fn reading(inverted: bool) -> DecodeOptions
     DecodeOptions::new().with_format(format_of(inverted))
 }
 
+// No From, for the same reason.
 fn rule_of(dithered: bool) -> Quantize
     ensures { result ≡ rule_of dithered }
 {
@@ -56,8 +58,8 @@ pub fn bench_read_list(
     ensures { ReadsList inverted calls.now file.now out.old ext.old
         answers.old result out.new ext.new answers.new }
 {
-    let session = DecodeSession::open(reading(inverted), ext).session;
-    replay::replay_decode(session, calls, file, out, ext, answers).calls
+    let (mut session, _) = DecodeSession::open(reading(inverted), ext);
+    replay::replay_decode(&mut session, calls, file, out, ext, answers)
 }
 
 // Makes bodies of scans by the calls of a list on a new session without fields, and says how many were made. `work` has at least 2 × width
@@ -77,7 +79,7 @@ pub fn bench_make_list(
 {
     let pairs: [usize; 0] = [];
     let mut head = [0u8; 32];
-    let session = EncodeSession::open(
+    let (mut session, _) = EncodeSession::open(
         width,
         height,
         making(dithered),
@@ -85,9 +87,8 @@ pub fn bench_make_list(
         &pairs[..],
         work,
         &mut head,
-    )
-    .session;
-    replay::replay_encode(session, calls, gray, work, out, answers).calls
+    );
+    replay::replay_encode(&mut session, calls, gray, work, out, answers)
 }
 
 // Makes a file of so many scans whole, and gives the number of a refusal, 0 where there is none.

@@ -14,7 +14,7 @@ use Rattle.image.specs.Rows.{invert}
 use Rattle.image.specs.declared.PixelFormat.TheVariants.{MonoWhite}
 use Rattle.image.proofs.InvertedBytes.{invert-length, invert-at}
 use Rattle.body_pieces.specs.InFormat.{padded, body_from}
-use Rattle.body_pieces.specs.Internal.Body.{Cleared}
+use Rattle.image.specs.Internal.Parts.{Cleared}
 use Rattle.body_pieces.proofs.BodyBytes.{body-length, body_at}
 
 -- bytes that fill their output

@@ -1,4 +1,3 @@
 pub mod BodyBytes
 pub mod BodyCounts
-pub mod RowEndsCleared
 pub mod Formats

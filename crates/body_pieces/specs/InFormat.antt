@@ -1,14 +1,8 @@
 -- A body in the asked format, byte by byte, so that a begun plane has a meaning too.
-use Rattle.std.specs.Prelude.{ℕ, ◌+◌, ◌-◌, ◌%◌, List, [], ◌∷◌, eqb}
-use Rattle.error.specs.Choice.{if}
-use Rattle.image.specs.Geometry.{row_bytes, padding_bits}
-use Rattle.image.specs.Rows.{clear_low}
+use Rattle.std.specs.Prelude.{ℕ, ◌+◌, ◌-◌, List, [], ◌∷◌}
+pub use Rattle.image.specs.Rows.{padded}
 use Rattle.image.specs.declared.PixelFormat.{PixelFormat}
 use Rattle.image.specs.declared.PixelFormat.TheVariants.{MonoBlack, MonoWhite}
-
--- byte `at` of a body whose rows are `width` dots, with its padding cleared if it is the last of its row
-abbrev pub padded : ℕ → ℕ → ℕ → ℕ
-padded width at b = if (eqb (at % row_bytes width + 1) (row_bytes width)) (clear_low (padding_bits width) b) b
 
 -- "Native reading copies padding verbatim; `convert_format` to MonoWhite inverts and clears it"
 abbrev pub body_byte : PixelFormat → ℕ → ℕ → ℕ → ℕ

@@ -9,7 +9,8 @@ use image::{PixelFormat, PlaneLayout};
 
 mod convert;
 
-// How many bytes of the piece are taken and written, and the whole planes and the bytes of the begun one after them.
+// How many bytes of the piece are taken and written, and the whole planes and the bytes of the begun one after them. A session adds the
+// header's bytes to the first and keeps the sizes in its header, so neither `Fed` nor `BodyPlace` would go through whole.
 #[derive(Clone, Copy)]
 pub struct BodyFed {
     pub taken: usize,

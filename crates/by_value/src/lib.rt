@@ -1,4 +1,5 @@
-// Pairs to be written as up to 8 records by value, for callers that have no list to lend.
+// Pairs to be written as up to 8 records by value. Without a heap this is the list that a function can make and return, and a struct keep;
+// an array with a count is what it takes. Who has a list lends it, as `&list[..n]`.
 #![tactic(auto)]
 
 ghost use Rattle.std.specs.Prelude.{◌≡◌, take};

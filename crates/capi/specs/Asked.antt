@@ -11,11 +11,14 @@ use Rattle.options.specs.Limits.{Bound, absent, at_most, Mode, lenient, strict, 
 use Rattle.decoder.specs.Frames.{Image, decoded_by, shown_by}
 
 -- "Format is 0 (MonoBlack) or 1 (MonoWhite), strict 0 or 1; others are 29"
+abbrev pub chosen : {A : Type 0} → ℕ → A → A → Answer A
+chosen n a b = if (eqb n 0) (gives a) (if (eqb n 1) (gives b) (refuses 29 0))
+
 abbrev pub format_of : ℕ → Answer PixelFormat
-format_of n = if (eqb n 0) (gives MonoBlack) (if (eqb n 1) (gives MonoWhite) (refuses 29 0))
+format_of n = chosen n MonoBlack MonoWhite
 
 abbrev pub strict_of : ℕ → Answer Mode
-strict_of n = if (eqb n 0) (gives lenient) (if (eqb n 1) (gives strict) (refuses 29 0))
+strict_of n = chosen n lenient strict
 
 -- a limit: the type's largest number says that it is absent
 abbrev pub limit_of : ℕ → ℕ → Bound

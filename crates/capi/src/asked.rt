@@ -1,8 +1,8 @@
 // The settings that C asks for by numbers.
 ghost use Rattle.std.specs.Prelude.{◌≡◌};
-ghost use Rattle.error.specs.Answer.{answered, map};
-ghost use Rattle.options.specs.Limits.{bound_of, mode_of};
-ghost use Rattle.capi.specs.Asked.{format_of, strict_of, limit_of, settings_of, meaning};
+ghost use Rattle.error.specs.Answer.{answered};
+ghost use Rattle.options.specs.Limits.{bound_of};
+ghost use Rattle.capi.specs.Asked.{chosen, limit_of, settings_of, meaning};
 
 use error::{Refusal, Result, WbmpError};
 use image::PixelFormat;
@@ -25,23 +25,13 @@ fn limit(most: u64, largest: u64) -> Limit
     (most != largest).then_some(most)
 }
 
-// This and the next are no `TryFrom<u32>`: Rust has such an impl only in the crate of the type.
-fn pixel_format(format: u32) -> Result<PixelFormat>
-    ensures { answered result ≡ format_of format }
+// What C calls 0 or 1. No `TryFrom<u32>` of these types: the numbers are C's.
+fn chosen<T: Copy>(number: u32, zero: T, one: T) -> Result<T>
+    ensures { answered result ≡ chosen number zero one }
 {
-    match format {
-        0 => Ok(PixelFormat::MonoBlack),
-        1 => Ok(PixelFormat::MonoWhite),
-        _ => Err(WbmpError::new(Refusal::UnknownSetting, 0)),
-    }
-}
-
-fn decode_mode(strict: u32) -> Result<DecodeMode>
-    ensures { map mode_of (answered result) ≡ strict_of strict }
-{
-    match strict {
-        0 => Ok(DecodeMode::Lenient),
-        1 => Ok(DecodeMode::Strict),
+    match number {
+        0 => Ok(zero),
+        1 => Ok(one),
         _ => Err(WbmpError::new(Refusal::UnknownSetting, 0)),
     }
 }
@@ -54,8 +44,8 @@ impl TryFrom<Asked> for DecodeOptions {
 
     fn try_from(asked: Asked) -> Result<DecodeOptions> {
         Ok(DecodeOptions {
-            format: pixel_format(asked.format)?,
-            mode: decode_mode(asked.strict)?,
+            format: chosen(asked.format, PixelFormat::MonoBlack, PixelFormat::MonoWhite)?,
+            mode: chosen(asked.strict, DecodeMode::Lenient, DecodeMode::Strict)?,
             max_width: limit(u64::from(asked.max_width), u64::from(u32::MAX)),
             max_height: limit(u64::from(asked.max_height), u64::from(u32::MAX)),
             max_pixels: limit(asked.max_pixels, u64::MAX),

@@ -15,7 +15,7 @@ pub(crate) fn pack(e: WbmpError) -> u64
     u64::from(e.kind.number()) + 256 * e.offset as u64
 }
 
-// The fields of a header; all 0 where there are none.
+// The fields of a header as the four numbers that C gets; all 0 where there are none.
 #[derive(Default, Drop)]
 pub(crate) struct FieldNumbers {
     pub kind: u8,

@@ -3,7 +3,6 @@
 
 ghost use Rattle.std.specs.Prelude.{◌≤◌, length};
 
-use api::ImageInfo;
 use std::io;
 use std::io::Read;
 
@@ -12,10 +11,11 @@ fn main(rt: HostRuntime) -> io::Result<()> {
     if input.read(&mut []).is_err() {
         return eprintln!(rt; "cardinfo: standard input cannot be read");
     }
+    // An array, of which `n` bytes are read: a Vec would need an allocator handed down, and could run out.
     let mut space = [0u8; 65536];
     let n = read_full(&mut input, &mut space);
     print_card(&rt, &space[..n])?;
-    if n == 65536 {
+    if n == space.len() {
         warn_if_longer(&rt, &mut input)?;
     }
     Ok(())
@@ -44,17 +44,13 @@ fn warn_if_longer(rt: &impl Eprint, input: &mut impl Read) -> io::Result<()> {
     Ok(())
 }
 
+// No `Display` of `ImageInfo`: these two lines are this program's form, not the type's.
 fn print_card(rt: &impl Print, card: &[u8]) -> io::Result<()> {
     match api::info(card) {
-        Ok(i) => print_info(rt, i),
+        Ok(i) => println!(rt;
+            "width height frames body fixheader\n{} {} {} {} {}",
+            i.width, i.height, i.frames, i.data_offset, i.fix_header
+        ),
         Err(e) => println!(rt; "refused {e}"),
     }
-}
-
-fn print_info(rt: &impl Print, i: ImageInfo) -> io::Result<()> {
-    println!(rt; "width height frames body fixheader")?;
-    println!(rt;
-        "{} {} {} {} {}",
-        i.width, i.height, i.frames, i.data_offset, i.fix_header
-    )
 }

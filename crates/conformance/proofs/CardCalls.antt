@@ -26,16 +26,11 @@ use Rattle.decoder.specs.Image.{header_of}
 use Rattle.decode_session.specs.Model as Reading
 use Rattle.decode_session.specs.Session as ReadingSession
 use Rattle.decode_session.specs.Trace as ReadingTrace
-use Rattle.decode_session.specs.declared.DecodeOpened.{DecodeOpened}
-use Rattle.decode_session.specs.declared.DecodeFed.{DecodeFed}
-use Rattle.decode_session.specs.declared.DecodeClosed.{DecodeClosed}
+use Rattle.decode_session.specs.declared.DecodeSession.{DecodeSession}
 use Rattle.encode_session.specs.Model as Making
 use Rattle.encode_session.specs.Session as MakingSession
 use Rattle.encode_session.specs.Trace as MakingTrace
 use Rattle.encode_session.specs.declared.EncodeSession.{EncodeSession}
-use Rattle.encode_session.specs.declared.EncodeOpened.{EncodeOpened}
-use Rattle.encode_session.specs.declared.EncodeFed.{EncodeFed}
-use Rattle.encode_session.specs.declared.EncodeClosed.{EncodeClosed}
 use Rattle.conformance.specs.Lists.{MakingList}
 use Rattle.conformance.specs.Calls.{KeepsWork, MakesCard, ReadsCard}
 
@@ -46,26 +41,28 @@ none_seen lenient = refl
 none_seen strict = refl
 
 -- the calls of a decode session
-pub reads-card : (d : Decoding) (piece out ext out' ext' : List ℕ) (o : DecodeOpened) (f : DecodeFed) (c : DecodeClosed) (seen : Option ParsedHeader)
-    → ReadingSession.Opens (Reading.opening d (length ext)) o (Reading.opened d)
-    → ReadingSession.Feeds o.session piece out ext f out' ext'
-    → ReadingSession.Closes f.session c → ReadingSession.Sees c.session seen
-    → ReadsCard d piece out ext (record { opening = o.answer; feeding = f.answer; closing = c.answer; seen = seen }) out' ext'
+pub reads-card : (d : Decoding) (piece out ext out' ext' : List ℕ) (s t u : DecodeSession) (o : Result (Unit {0}) WbmpError)
+    (f : Result Fed WbmpError) (c : Result ℕ WbmpError) (seen : Option ParsedHeader)
+    → ReadingSession.Opens (Reading.opening d (length ext)) s o (Reading.opened d)
+    → ReadingSession.Feeds s piece out ext f t out' ext'
+    → ReadingSession.Closes t c u → ReadingSession.Sees u seen
+    → ReadsCard d piece out ext (record { opening = o; feeding = f; closing = c; seen = seen }) out' ext'
 unfolding Reading.outcome
-reads-card d piece out ext out' ext' o f c seen p q r s =
+reads-card d piece out ext out' ext' s t u o f c seen p q r v =
     record {
-      last = c.session;
+      last = u;
       opening = p.answer;
       list =
           λ given. record {
             lent = ext;
-            result = o;
+            opened = s;
+            answer = o;
             opens = p;
             accepted = given;
             trace =
                 ReadingTrace.fed q (ReadingTrace.shut r ReadingTrace.none);
           };
-      sees = s;
+      sees = v;
       refused = λ code place e.
           let m = Reading.shut (Reading.opened d) in
           let a = q.does m (p.refused code place (sym p.answer ∙ e)) in
@@ -74,17 +71,17 @@ reads-card d piece out ext out' ext' o f c seen p q r s =
             sym (ap (λ (x : Reading.Reply). x.answer) b.0),
             sym (ap (λ (x : Reading.Reply). x.output) a.0),
             sym (ap (λ (x : Reading.Reply). x.extension) a.0),
-            s.does m b.1 ∙ none_seen d.mode,
+            v.does m b.1 ∙ none_seen d.mode,
           );
     }
 
 -- calls behind an accepted opening
-pub made_list : (a : Making.Opening) (work : List ℤ) (old new : List ℕ) (o : EncodeOpened) (last : EncodeSession) (cs : List Making.Call)
-    (rs : List Making.Reply)
-    → a.width < 2 ^ 32 → a.height < 2 ^ 32 → MakingSession.Opens a (length work) o old new
-    → MakingTrace.Trace o.session work cs rs last
-    → (n : ℕ) → written o.answer ≡ gives n → MakingList a (take n new) cs rs
-made_list a work old new o last cs rs wide high p t n given =
+pub made_list : (a : Making.Opening) (work : List ℤ) (old new : List ℕ) (s last : EncodeSession) (o : Result ℕ WbmpError)
+    (cs : List Making.Call) (rs : List Making.Reply)
+    → a.width < 2 ^ 32 → a.height < 2 ^ 32 → MakingSession.Opens a (length work) s o old new
+    → MakingTrace.Trace s work cs rs last
+    → (n : ℕ) → written o ≡ gives n → MakingList a (take n new) cs rs
+made_list a work old new s last o cs rs wide high p t n given =
     let e = emitted-is (Making.header a (length work)) n old new
     (subst (λ (r : Answer ℕ). Emits (Making.header a (length work)) r old new) given p.emits) in
     let front : take n new ≡ e.0 =
@@ -95,7 +92,8 @@ made_list a work old new o last cs rs wide high p t n given =
       work = work;
       old = old;
       new = new;
-      result = o;
+      opened = s;
+      answer = o;
       last = last;
       wide = wide;
       high = high;
@@ -106,8 +104,8 @@ made_list a work old new o last cs rs wide high p t n given =
     }
 
 -- a work buffer that the first piece of a new session is fed with
-module _ (a : Making.Opening) (samples out out' : List ℕ) (work work' : List ℤ) (s : EncodeSession) (f : EncodeFed)
-    (st : MakingSession.Stands s (Making.opened a)) (q : MakingSession.Feeds s samples out work f out' work') where
+module _ (a : Making.Opening) (samples out out' : List ℕ) (work work' : List ℤ) (s t : EncodeSession) (f : Result Fed WbmpError)
+    (st : MakingSession.Stands s (Making.opened a)) (q : MakingSession.Feeds s samples out work f t out' work') where
   engine : QuantizerAt s.quantizer (Making.setting_of a) 0
   engine = st.place refl
 
@@ -118,7 +116,7 @@ module _ (a : Making.Opening) (samples out out' : List ℕ) (work work' : List �
       let b : s.quantizer.place.begun < 1 = subst (λ (k : ℕ). s.quantizer.place.begun < 2 ^ (k % 8)) e engine.begun_small in
       omega arith
 
-  ran : (n b : ℕ) → f.answer ≡ Ok (record { taken = n; written = b }) → KeepsWork a samples n work work'
+  ran : (n b : ℕ) → f ≡ Ok (record { taken = n; written = b }) → KeepsWork a samples n work work'
   ran n b e =
       let R = q.runs n b e in
       let S = Making.setting_of a in
@@ -138,25 +136,26 @@ module _ (a : Making.Opening) (samples out out' : List ℕ) (work work' : List �
   unfolding carried
   idle e = record { corner = pos 0; kept = e; spared = λ _. e; beyond = ap (drop a.width) e }
 
-  by_answer : (y : Result Fed WbmpError) → f.answer ≡ y → KeepsWork a samples (MakingTrace.took_of (MakingSession.fed_meaning y)) work work'
+  by_answer : (y : Result Fed WbmpError) → f ≡ y → KeepsWork a samples (MakingTrace.took_of (MakingSession.fed_meaning y)) work work'
   by_answer (Ok y) e = ran y.taken y.written e
   by_answer (Err x) e = idle (q.refused _ _ (ap MakingSession.fed_meaning e)).1.1
 
-  keeps-work : KeepsWork a samples (MakingTrace.took_of (MakingSession.fed_meaning f.answer)) work work'
-  keeps-work = by_answer f.answer refl
+  keeps-work : KeepsWork a samples (MakingTrace.took_of (MakingSession.fed_meaning f)) work work'
+  keeps-work = by_answer f refl
 
 -- the calls of an encode session
 pub makes-card : (a : Making.Opening) (samples : List ℕ) (work : List ℤ) (head out : List ℕ) (work' : List ℤ) (head' out' : List ℕ)
-    (o : EncodeOpened) (f : EncodeFed) (c : EncodeClosed) → a.width < 2 ^ 32 → a.height < 2 ^ 32
-    → MakingSession.Opens a (length work) o head head'
-    → MakingSession.Feeds o.session samples out work f out' work' → MakingSession.Closes f.session c
-    → MakesCard a samples work head out (record { header = o.answer; feeding = f.answer; closing = c.answer }) work' head' out'
+    (s t u : EncodeSession) (o : Result ℕ WbmpError) (f : Result Fed WbmpError) (c : Result (Unit {0}) WbmpError)
+    → a.width < 2 ^ 32 → a.height < 2 ^ 32
+    → MakingSession.Opens a (length work) s o head head'
+    → MakingSession.Feeds s samples out work f t out' work' → MakingSession.Closes t c u
+    → MakesCard a samples work head out (record { header = o; feeding = f; closing = c }) work' head' out'
 unfolding Making.outcome
-makes-card a samples work head out work' head' out' o f c wide high p q r =
+makes-card a samples work head out work' head' out' s t u o f c wide high p q r =
     record {
       header = p.emits;
-      list = made_list a work head head' o c.session _ _ wide high p (MakingTrace.fed q (MakingTrace.shut r MakingTrace.none));
-      keeps = λ n e. keeps-work a samples out out' work work' o.session f (p.holds n e work).stands q;
+      list = made_list a work head head' s u o _ _ wide high p (MakingTrace.fed q (MakingTrace.shut r MakingTrace.none));
+      keeps = λ n e. keeps-work a samples out out' work work' s t f (p.holds n e work).stands q;
       refused = λ code place e.
           let m = Making.shut (Making.opened a) in
           let x = q.counts m (p.refused code place e work).stands in

@@ -65,7 +65,7 @@ module _ {d : Decoding} {cs : List Call} {rs : List Reply} {last : DecodeSession
   pub some_read : 1 ≤ ceiling_of d
   some_read = (opening-says d (length l.lent) admitted).0
 
-  begun : Stands l.result.session (opened d)
+  begun : Stands l.opened (opened d)
   begun = l.opens.stands admitted
 
   pub replied : rs ≡ replies (opened d) cs

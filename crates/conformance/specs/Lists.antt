@@ -1,8 +1,10 @@
 -- Condition 3 of the tender, as document 01 tells it ("Lists (condition 3)"): one claim about lists of calls on a session that makes a card
 -- and on one that reads it.
-use Rattle.std.specs.Prelude.{ℕ, ◌*◌, ◌^◌, ◌≤◌, ◌<◌, ◌≡◌, Bool, true, false, ◌||◌, List, [], ◌∷◌, ◌++◌, ℤ, length, take, drop, Option}
+use Rattle.std.specs.Prelude.{ℕ, ◌*◌, ◌^◌, ◌≤◌, ◌<◌, ◌≡◌, Bool, true, false, ◌||◌, List, [], ◌∷◌, ◌++◌, ℤ, length, take, drop}
+use Rattle.std.specs.Prelude.{Option, Result}
 use Rattle.header.specs.declared.ParsedHeader.{ParsedHeader}
 use Rattle.error.specs.Answer.{Answer, gives, refuses, map, written, checked}
+use Rattle.error.specs.declared.WbmpError.{WbmpError}
 use Rattle.ext.specs.Kinds.{Fields, none, Span, absent, span}
 use Rattle.ext.specs.Read.{read_fields}
 use Rattle.header.specs.Read.{Outline}
@@ -18,12 +20,10 @@ use Rattle.encode_session.specs.Model as Making
 use Rattle.encode_session.specs.Session as MakingSession
 use Rattle.encode_session.specs.Trace as MakingTrace
 use Rattle.encode_session.specs.declared.EncodeSession.{EncodeSession}
-use Rattle.encode_session.specs.declared.EncodeOpened.{EncodeOpened}
 use Rattle.decode_session.specs.Model as Reading
 use Rattle.decode_session.specs.Session as ReadingSession
 use Rattle.decode_session.specs.Trace as ReadingTrace
 use Rattle.decode_session.specs.declared.DecodeSession.{DecodeSession}
-use Rattle.decode_session.specs.declared.DecodeOpened.{DecodeOpened}
 use Rattle.conformance.specs.ReadBack.{Taken, Admitted, plane_in, lent_scan, scan_white}
 
 -- A list on an opened card maker: an accepted opening, which wrote the header, then calls and what they replied.
@@ -31,23 +31,25 @@ pub record MakingList (a : Making.Opening) (header : List ℕ) (cs : List Making
   pub work : List ℤ
   pub old : List ℕ
   pub new : List ℕ
-  pub result : EncodeOpened
+  pub opened : EncodeSession
+  pub answer : Result ℕ WbmpError
   pub last : EncodeSession
   pub wide : a.width < 2 ^ 32
   pub high : a.height < 2 ^ 32
-  pub opens : MakingSession.Opens a (length work) result old new
-  pub accepted : written result.answer ≡ gives (length header)
+  pub opens : MakingSession.Opens a (length work) opened answer old new
+  pub accepted : written answer ≡ gives (length header)
   pub front : take (length header) new ≡ header
-  pub trace : MakingTrace.Trace result.session work cs rs last
+  pub trace : MakingTrace.Trace opened work cs rs last
 
 -- A list on an opened reading session.
 pub record ReadingList (d : Decoding) (cs : List Reading.Call) (rs : List Reading.Reply) (last : DecodeSession)
     (extension : List ℕ) : Type 0 where
   pub lent : List ℕ
-  pub result : DecodeOpened
-  pub opens : ReadingSession.Opens (Reading.opening d (length lent)) result (Reading.opened d)
-  pub accepted : checked result.answer ≡ gives tt
-  pub trace : ReadingTrace.Trace result.session lent cs rs last extension
+  pub opened : DecodeSession
+  pub answer : Result (Unit {0}) WbmpError
+  pub opens : ReadingSession.Opens (Reading.opening d (length lent)) opened answer (Reading.opened d)
+  pub accepted : checked answer ≡ gives tt
+  pub trace : ReadingTrace.Trace opened lent cs rs last extension
 
 -- "the samples .. taken, joined in call order": of each call so many as its answer says
 abbrev pub taken_by : Making.Call → Answer Making.Told → List ℕ

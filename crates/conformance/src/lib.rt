@@ -36,13 +36,11 @@ fn make_card(
         out.old result work.new head.new out.new }
 {
     let none: &[usize] = &[];
-    let opened = EncodeSession::open(width, height, options, b"", none, work, head);
-    let fed = opened.session.feed(samples, work, out);
-    let closed = fed.session.close();
+    let (mut session, header) = EncodeSession::open(width, height, options, b"", none, work, head);
     CardMade {
-        header: opened.answer,
-        feeding: fed.answer,
-        closing: closed.answer,
+        header,
+        feeding: session.feed(samples, work, out),
+        closing: session.close(),
     }
 }
 
@@ -60,13 +58,11 @@ fn read_card(options: DecodeOptions, piece: &[u8], out: &mut [u8], ext: &mut [u8
     ensures { ReadsCard (decoding options) piece.now out.old ext.old result out.new
         ext.new }
 {
-    let opened = DecodeSession::open(options, ext);
-    let fed = opened.session.feed(piece, out, ext);
-    let ended = fed.session.close();
+    let (mut session, opening) = DecodeSession::open(options, ext);
     CardRead {
-        opening: opened.answer,
-        feeding: fed.answer,
-        closing: ended.answer,
-        seen: ended.session.header(),
+        opening,
+        feeding: session.feed(piece, out, ext),
+        closing: session.close(),
+        seen: session.header(),
     }
 }

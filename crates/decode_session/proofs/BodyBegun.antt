@@ -20,7 +20,7 @@ use Rattle.decoder.specs.Image.{image_settings, header_of}
 use Rattle.decoder.proofs.Shaped.{outline-shape}
 use Rattle.decode_session.specs.Model.{Met, met_at, Model, meets, stored, fed_by}
 use Rattle.decode_session.specs.Session.{BeforeHeader, Settled}
-use Rattle.decode_session.specs.Internal.Stages.{taken_in, met_in, FedAs, Enters, FeedsPlanes, Ended, Begins}
+use Rattle.decode_session.specs.Internal.Stages.{in_stage, FedAs, Enters, FeedsPlanes, Ended, Begins}
 use Rattle.decode_session.specs.declared.Stage.{Stage}
 use Rattle.error.specs.declared.Fed.{Fed}
 use Rattle.decode_session.proofs.Headers.{header-later}
@@ -30,10 +30,10 @@ use Rattle.decode_session.proofs.RefusalsMet.{limit-over, admitted}
 -- the session that met a refusal agrees
 pub refused-agrees : (o : DecodeOptions) (m : Model) (piece out ext : List ℕ) (e : WbmpError) (f : FieldsSeen)
     → Settled m.options → decoding o ≡ m.options → BeforeHeader m f → meets m piece ≡ met_at (number e.kind) e.offset
-    → FedAs (met_in o e f) out (stored m (m.bytes ++ piece) ext) (fed_by m piece out ext (meets m piece))
+    → FedAs (Err e) (in_stage o (Stage.Refused e f)) out (stored m (m.bytes ++ piece) ext) (fed_by m piece out ext (meets m piece))
 refused-agrees o m piece out ext e f c q u met =
     subst
-    (λ (x : Met). FedAs (met_in o e f) out (stored m (m.bytes ++ piece) ext) (fed_by m piece out ext x))
+    (λ (x : Met). FedAs (Err e) (in_stage o (Stage.Refused e f)) out (stored m (m.bytes ++ piece) ext) (fed_by m piece out ext x))
     (sym met)
     (record {
       reply = refl;
@@ -81,14 +81,14 @@ module _ (o : DecodeOptions) (p : ParsedHeader) (from : ℕ) (piece out : List �
       ∙ ap (λ (k : ℕ). check_limits (decoding o) p.width p.height k p.data_offset) plane
       ∙ ap (λ (d : Decoding). check_limits d p.width p.height (plane_of (parsed p)) p.data_offset) q)
 
-  pub begins : (out' : List ℕ) (t : Stage × Fed) → x ≡ Ok tt → FeedsPlanes o p 0 0 from piece out (taken_in o t.0 t.1) out'
+  pub begins : (out' : List ℕ) (t : Stage × Fed) → x ≡ Ok tt → FeedsPlanes o p 0 0 from piece out t.0 t.1 out'
       → Begins o p from piece out (Ok t) out'
   begins out' t a b =
       record {
         does =
             λ f m ext c q u e.
             let l = limits m q ∙ ap checked a in
-            subst (λ (x : Met). FedAs (taken_in o t.0 t.1) out' (stored m (m.bytes ++ piece) ext) (fed_by m piece out ext x))
+            subst (λ (x : Met). FedAs (Ok t.1) (in_stage o t.0) out' (stored m (m.bytes ++ piece) ext) (fed_by m piece out ext x))
             (sym (admitted m piece (parsed p) (header-all m piece from (parsed p) e) l))
             (b.does m ext c q (enters m piece from (parsed p) e c l));
       }

@@ -13,26 +13,25 @@ use Rattle.decode_session.specs.Session.{closed_meaning, StageOf, Stands, Closes
 use Rattle.decode_session.specs.Internal.Stages.{Finishes}
 use Rattle.decode_session.specs.declared.Stage.{Stage}
 use Rattle.decode_session.specs.declared.DecodeSession.{DecodeSession}
-use Rattle.decode_session.specs.declared.DecodeClosed.{DecodeClosed}
 use Rattle.decode_session.proofs.Replies.{replied}
 
 module _ (s : DecodeSession) where
   -- what a closing call promises of a plain machine whose outcome is known
-  closes : (m : Model) (d : DecodeClosed) (x : Outcome) → outcome m close ≡ x
-      → x.reply ≡ record { answer = closed_meaning d.answer; output = []; extension = [] } → Stands d.session x.next
-      → ((outcome m close).reply ≡ record { answer = closed_meaning d.answer; output = []; extension = [] })
-      × Stands d.session (outcome m close).next
-  closes m d x e r st =
-      subst (λ (y : Outcome). (y.reply ≡ record { answer = closed_meaning d.answer; output = []; extension = [] })
-      × Stands d.session y.next) (sym e) (r, st)
+  closes : (m : Model) (a : Result ℕ WbmpError) (s' : DecodeSession) (x : Outcome) → outcome m close ≡ x
+      → x.reply ≡ record { answer = closed_meaning a; output = []; extension = [] } → Stands s' x.next
+      → ((outcome m close).reply ≡ record { answer = closed_meaning a; output = []; extension = [] })
+      × Stands s' (outcome m close).next
+  closes m a s' x e r st =
+      subst (λ (y : Outcome). (y.reply ≡ record { answer = closed_meaning a; output = []; extension = [] })
+      × Stands s' y.next) (sym e) (r, st)
 
   pub close-shut : (e : WbmpError) → s.live ≡ false → e ≡ record { kind = SessionClosed; offset = 0 }
-      → Closes s (record { session = s; answer = Err e })
+      → Closes s (Err e) s
   unfolding outcome
   close-shut e l n =
       record {
         does =
-            λ m st. closes m (record { session = s; answer = Err e }) (unaltered m 30 0 [] [])
+            λ m st. closes m (Err e) s (unaltered m 30 0 [] [])
             (if-false m.live _ _ (sym st.live ∙ l))
             (replied (sym (ap refusal n)) refl refl) st;
       }
@@ -52,12 +51,12 @@ module _ (s : DecodeSession) where
   still (Stage.Refused e f) m h = (h.0, record { none = h.1.none; fields = h.1.fields })
 
   pub close_open : (a : Result ℕ WbmpError) → s.live ≡ true → Finishes s.stage a
-      → Closes s (record { session = record { options = s.options; stage = s.stage; live = false }; answer = a })
+      → Closes s a (record s { live = false })
   unfolding outcome
   close_open a l f =
       record {
         does =
-            λ m st. closes m (record { session = record { options = s.options; stage = s.stage; live = false }; answer = a })
+            λ m st. closes m a (record s { live = false })
             (record { reply = record { answer = closing m m.met; output = []; extension = [] }; next = shut m })
             (if-true m.live _ _ (sym st.live ∙ l))
             (replied (sym (f.does m st.tested st.stage)) refl refl)

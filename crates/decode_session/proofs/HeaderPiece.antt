@@ -3,7 +3,6 @@ use Rattle.std.proofs.Common.{Result, Ok, Err}
 use Rattle.error.specs.Answer.{number}
 use Prim.Native.Nat.{ℕ, ◌≤◌}
 use mathlib.Core.Path.{◌≡◌, refl, sym, ap, subst, ◌∙◌}
-use mathlib.Core.Bool.{true}
 use mathlib.Core.List.{List, [], ◌++◌}
 use native.Mathlib.Omega.{arith}
 use lib.ListN.{length, take, drop}
@@ -20,14 +19,14 @@ use Rattle.decoder.specs.Image.{image_settings, header_of}
 use Rattle.decode_session.specs.Sequence.{sequence_of, sequence}
 use Rattle.header_pieces.specs.Extension.{field_bytes}
 use Rattle.decode_session.specs.Model.{Met, nothing, Model, meets, takes, grown, written, stored, fed_by}
-use Rattle.header_pieces.specs.Internal.Head.{HasRead, Ends, Heads}
+use Rattle.header_pieces.specs.Internal.Head.{HeadFed, HasRead, Ends, Heads}
 use Rattle.decode_session.specs.Session.{Stands}
-use Rattle.decode_session.specs.Internal.Stages.{taken_in, FedAs, Ended, Begins, FeedsHead}
+use Rattle.decode_session.specs.Internal.Stages.{in_stage, FedAs, Ended, Begins, FeedsHead}
 use Rattle.decode_session.specs.declared.Stage.{Stage}
 use Rattle.decode_session.specs.declared.DecodeSession.{DecodeSession}
 use Rattle.error.specs.declared.Fed.{Fed}
 use Rattle.header_pieces.specs.declared.HeadReading.{HeadReading}
-use Rattle.header_pieces.specs.declared.HeadFed.{HeadFed}
+use Rattle.std.specs.declared.ops.ControlFlow.TheVariants.{Continue, Break}
 use Rattle.decode_session.proofs.Headers.{header-cut, unread-end}
 use Rattle.decode_session.proofs.MostTaken.{most-is}
 use Rattle.decode_session.proofs.RefusalsMet.{header_refused, header-short}
@@ -46,7 +45,7 @@ nothing-shown m s r h =
 module _ (o : DecodeOptions) (head : HeadReading) (piece out ext ext' : List ℕ) (f : Result HeadFed WbmpError)
     (heads : Heads head piece ext f ext') (long : 4118 ≤ length ext) where
   abbrev session : DecodeSession
-  session = record { options = o; stage = Stage.Header head; live = true }
+  session = in_stage o (Stage.Header head)
 
   module _ (m : Model) (st : Stands session m) where
     abbrev settings : Settings
@@ -68,9 +67,9 @@ module _ (o : DecodeOptions) (head : HeadReading) (piece out ext ext' : List ℕ
         ∙ ap (λ (k : ℕ). sets ext k (drop k (field_bytes settings file))) reached.kept_is)
 
     -- all of the piece is the header's
-    module _ (next : HeadReading) (e : f ≡ Ok (HeadFed.More next)) where
+    module _ (next : HeadReading) (e : f ≡ Ok (Continue next)) where
       later : HasRead settings file next
-      later = ends (Ok (HeadFed.More next)) e
+      later = ends (Ok (Continue next)) e
 
       unmet : meets m piece ≡ nothing
       unmet =
@@ -101,13 +100,15 @@ module _ (o : DecodeOptions) (head : HeadReading) (piece out ext ext' : List ℕ
           ∙ ap (drop (length (sequence (ceiling_of m.options) m.options m.bytes))) none
           ∙ drop-nil (length (sequence (ceiling_of m.options) m.options m.bytes))
 
-      goes_on : FedAs (taken_in o (Stage.Header next) (record { taken = length piece; written = 0 })) out ext' (fed_by m piece out ext (meets m piece))
+      goes_on : FedAs (Ok (record { taken = length piece; written = 0 })) (in_stage o (Stage.Header next)) out ext'
+          (fed_by m piece out ext (meets m piece))
       goes_on =
           let count = takes_all in
           let w = writes-none in
           let size = ap length w in
           subst
-          (λ (x : Met). FedAs (taken_in o (Stage.Header next) (record { taken = length piece; written = 0 })) out ext' (fed_by m piece out ext x))
+          (λ (x : Met). FedAs (Ok (record { taken = length piece; written = 0 })) (in_stage o (Stage.Header next)) out ext'
+          (fed_by m piece out ext x))
           (sym unmet)
           (record {
             reply =
@@ -123,9 +124,9 @@ module _ (o : DecodeOptions) (head : HeadReading) (piece out ext ext' : List ℕ
           })
 
     -- the header ends in the piece
-    ended : (h : ParsedHeader) (from : ℕ) → f ≡ Ok (HeadFed.Done h from) → Ended m piece from (parsed h)
+    ended : (h : ParsedHeader) (from : ℕ) → f ≡ Ok (Break (h, from)) → Ended m piece from (parsed h)
     ended h from e =
-        let d = ends (Ok (HeadFed.Done h from)) e in
+        let d = ends (Ok (Break (h, from))) e in
         let n = length-append-take m.bytes piece from (heads.within h from e) in
         record {
           within = heads.within h from e;
@@ -136,26 +137,26 @@ module _ (o : DecodeOptions) (head : HeadReading) (piece out ext ext' : List ℕ
           none = ap length (nothing-shown m m.bytes head reached);
         }
 
-  pub more : (next : HeadReading) → f ≡ Ok (HeadFed.More next)
+  pub more : (next : HeadReading) → f ≡ Ok (Continue next)
       → FeedsHead o head piece out ext (Ok (Stage.Header next, record { taken = length piece; written = 0 })) out ext'
   more next e =
       record {
         does =
             λ k u. record {
               does =
-                  λ m st. agreed m piece out ext _ out ext' ext' _ (reading m piece out ext (sym st.live) st.stage.0 long) refl
+                  λ m st. agreed m piece out ext _ _ out ext' ext' _ (reading m piece out ext (sym st.live) st.stage.0 long) refl
                   (goes_on m st next e);
             };
       }
 
-  pub whole : (h : ParsedHeader) (from : ℕ) (r : Result (Stage × Fed) WbmpError) (out' : List ℕ) → f ≡ Ok (HeadFed.Done h from)
+  pub whole : (h : ParsedHeader) (from : ℕ) (r : Result (Stage × Fed) WbmpError) (out' : List ℕ) → f ≡ Ok (Break (h, from))
       → Begins o h from piece out r out' → FeedsHead o head piece out ext r out' ext'
   whole h from r out' e b =
       record {
         does =
             λ k u. record {
               does =
-                  λ m st. agreed m piece out ext _ out' ext' _ _ (reading m piece out ext (sym st.live) st.stage.0 long) (stored_is m st)
+                  λ m st. agreed m piece out ext _ _ out' ext' _ _ (reading m piece out ext (sym st.live) st.stage.0 long) (stored_is m st)
                   (b.does k m ext st.tested st.options (unread-so m head k st.stage.1 u) (ended m st h from e));
             };
       }
@@ -168,7 +169,7 @@ module _ (o : DecodeOptions) (head : HeadReading) (piece out ext ext' : List ℕ
               does =
                   λ m st.
                   let r = ends m st (Err e) q in
-                  agreed m piece out ext _ out ext' _ _ (reading m piece out ext (sym st.live) st.stage.0 long) (stored_is m st)
+                  agreed m piece out ext _ _ out ext' _ _ (reading m piece out ext (sym st.live) st.stage.0 long) (stored_is m st)
                   (refused-agrees o m piece out ext e k st.tested st.options (unread-so m head k st.stage.1 u)
                   (header_refused m piece (number e.kind) e.offset r.0 r.1));
             };

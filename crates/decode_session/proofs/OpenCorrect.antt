@@ -33,8 +33,8 @@ module _ (o : DecodeOptions) (r : HeadReading) (n : ℕ) (s : Settings) (p : Has
   begun = (refl, subst (λ (s : Settings). HasRead s [] r) q p)
 
   pub opens : (a : Result (Unit {0}) WbmpError) (live : Bool) → ChecksBuffer n a → live ≡ is_ok a
-      → Opens (opening (decoding o) n)
-      (record { session = record { options = o; stage = Stage.Header r; live = live }; answer = a }) (opened (decoding o))
+      → Opens (opening (decoding o) n) (record { options = o; stage = Stage.Header r; live = live }) a
+      (opened (decoding o))
   opens (Ok u) live h l =
       let e = opening-is (decoding o) n ∙ if-true (leb 4118 n) (gives tt) (refuses 28 0) (le-leb 4118 n h) in
       record {

@@ -5,6 +5,7 @@ use mathlib.Core.List.{List, ◌++◌}
 use mathlib.Core.Logic.{◌⊎◌, ⊎_elim, inl, inr}
 use native.Mathlib.Omega.{arith}
 use lib.ListN.{length, take, drop}
+use Rattle.std.proofs.Common.{Ok}
 use Rattle.laws.proofs.Lists.{length-append-take, append-take-drop}
 use Rattle.header.specs.Read.{parsed}
 use Rattle.header.specs.declared.ParsedHeader.{ParsedHeader}
@@ -18,7 +19,7 @@ use Rattle.body_pieces.specs.Internal.Body.{Bodies}
 use Rattle.header_pieces.specs.Extension.{field_bytes}
 use Rattle.decode_session.specs.Model.{Model, nothing, grown, written, stored, fed_by}
 use Rattle.decode_session.specs.Session.{InBody, Settled}
-use Rattle.decode_session.specs.Internal.Stages.{taken_in, FedAs, having, Enters, FeedsPlanes}
+use Rattle.decode_session.specs.Internal.Stages.{in_stage, FedAs, having, Enters, FeedsPlanes}
 use Rattle.decode_session.specs.declared.Stage.{Stage}
 use Rattle.body_pieces.specs.declared.BodyFed.{BodyFed}
 use Rattle.body_pieces.proofs.BodyCounts.{Advanced, Placed, from_place}
@@ -87,7 +88,7 @@ module _ (o : DecodeOptions) (p : ParsedHeader) (most whole begun from : ℕ) (p
         }
 
     pub planed : (ext : List ℕ)
-        → FedAs (taken_in o (Stage.Body p r.whole r.begun) (record { taken = from + r.taken; written = r.written }))
+        → FedAs (Ok (record { taken = from + r.taken; written = r.written })) (in_stage o (Stage.Body p r.whole r.begun))
         out' (stored m (m.bytes ++ piece) ext) (fed_by m piece out ext nothing)
     planed ext =
         let count = takes-is full within en advances in
@@ -121,7 +122,7 @@ pub planes : (o : DecodeOptions) (p k : ParsedHeader) (most whole begun from : �
     → most ≡ ceiling_of (decoding o) → from ≤ length piece → part ≡ drop from piece
     → Bodies o.format p.width p.height most whole begun part out r out' → k ≡ p
     → FeedsPlanes o p whole begun from piece out
-    (taken_in o (Stage.Body k r.whole r.begun) (record { taken = from + r.taken; written = r.written })) out'
+    (Stage.Body k r.whole r.begun) (record { taken = from + r.taken; written = r.written }) out'
 planes o p k most whole begun from piece out out' part r n within same b e =
     let b' = subst (λ (l : List ℕ). Bodies o.format p.width p.height most whole begun l out r out') same b in
     record {
@@ -129,7 +130,7 @@ planes o p k most whole begun from piece out out' part r n within same b e =
           λ m ext c q en.
           subst
           (λ (k : ParsedHeader). FedAs
-          (taken_in o (Stage.Body k r.whole r.begun) (record { taken = from + r.taken; written = r.written })) out'
+          (Ok (record { taken = from + r.taken; written = r.written })) (in_stage o (Stage.Body k r.whole r.begun)) out'
           (stored m (m.bytes ++ piece) ext) (fed_by m piece out ext nothing)) (sym e)
           (planed o p most whole begun from piece out out' within r b' m c (sym (n ∙ ap ceiling_of q)) q en ext);
     }

@@ -7,7 +7,10 @@ use borrow.Author.Tests.{le-leb, lt-leb}
 use lib.Dec.{leb}
 use lib.ListN.{length, drop}
 use lib.Seq.{sets, drop-length}
+use Rattle.std.proofs.Common.{Result}
 use Rattle.error.specs.Answer.{Answer}
+use Rattle.error.specs.declared.Fed.{Fed}
+use Rattle.error.specs.declared.WbmpError.{WbmpError}
 use Rattle.laws.proofs.Tests.{if-true, if-false}
 use Rattle.decoder.specs.Image.{image_settings}
 use Rattle.header_pieces.specs.Extension.{field_bytes}
@@ -15,7 +18,7 @@ use Rattle.decode_session.specs.Model.{nothing, met_at, Model, feed, Told, Reply
 use Rattle.decode_session.specs.Model.{outcome}
 use Rattle.decode_session.specs.Session.{fed_meaning, Stands}
 use Rattle.decode_session.specs.Internal.Stages.{FedAs}
-use Rattle.decode_session.specs.declared.DecodeFed.{DecodeFed}
+use Rattle.decode_session.specs.declared.DecodeSession.{DecodeSession}
 
 pub replied : {a a' : Answer Told} {o o' e e' : List ℕ} → a ≡ a' → o ≡ o' → e ≡ e'
     → ◌≡◌ {A = Reply} (record { answer = a; output = o; extension = e }) (record { answer = a'; output = o'; extension = e' })
@@ -55,14 +58,15 @@ module _ (m : Model) (piece out ext : List ℕ) where
       if-true m.live _ _ l ∙ ap (after_met m piece out ext) n ∙ if-false (leb 4118 (length ext)) _ _ (lt-leb 4118 (length ext) h)
 
   -- what a feeding call promises of a plain machine
-  abbrev pub Fits : DecodeFed → List ℕ → List ℕ → Type 0
-  Fits r out' ext' =
-      ((outcome m (feed piece out ext)).reply ≡ record { answer = fed_meaning r.answer; output = out'; extension = ext' })
-      × Stands r.session (outcome m (feed piece out ext)).next
+  abbrev pub Fits : Result Fed WbmpError → DecodeSession → List ℕ → List ℕ → Type 0
+  Fits r s' out' ext' =
+      ((outcome m (feed piece out ext)).reply ≡ record { answer = fed_meaning r; output = out'; extension = ext' })
+      × Stands s' (outcome m (feed piece out ext)).next
 
-  pub agreed : (r : DecodeFed) (out' ext' ext'' : List ℕ) (x : Outcome) → outcome m (feed piece out ext) ≡ x → ext'' ≡ ext'
-      → FedAs r out' ext'' x → Fits r out' ext'
-  agreed r out' ext' ext'' x e q a =
-      subst (λ (y : Outcome). (y.reply ≡ record { answer = fed_meaning r.answer; output = out'; extension = ext' })
-      × Stands r.session y.next) (sym e)
+  pub agreed : (r : Result Fed WbmpError) (s' : DecodeSession) (out' ext' ext'' : List ℕ) (x : Outcome)
+      → outcome m (feed piece out ext) ≡ x → ext'' ≡ ext'
+      → FedAs r s' out' ext'' x → Fits r s' out' ext'
+  agreed r s' out' ext' ext'' x e q a =
+      subst (λ (y : Outcome). (y.reply ≡ record { answer = fed_meaning r; output = out'; extension = ext' })
+      × Stands s' y.next) (sym e)
       (a.reply ∙ replied refl refl q, a.stands)

@@ -3,17 +3,16 @@ use Prim.Native.Nat.{ℕ, zero, suc, ◌+◌, ◌-◌, ◌*◌, ◌%◌, ◌≤�
 use mathlib.Core.Path.{◌≡◌, refl, sym, ap, ◌∙◌}
 use mathlib.Core.Bool.{Bool, true, false}
 use mathlib.Core.List.{List, ◌++◌}
-use native.Mathlib.Nat.{mul_comm, mul-add-mod_self_right, mod-eq_of_lt, zero-add, zero-mul, mul-le-mul_right}
+use native.Mathlib.Nat.{mul_comm, zero-add, zero-mul, mul-le-mul_right}
 use native.Mathlib.Omega.{arith}
-use borrow.Author.Tests.{eqb-true, eqb-false, leb-true, leb-false}
-use lib.Dec.{eqb, leb}
+use borrow.Author.Tests.{leb-true, leb-false}
+use lib.Dec.{leb}
 use lib.ListN.{length, get_or, take, drop, length-drop}
 use lib.Seq.{take_all, take-add, take-take, drop-drop, ext_get_or}
-use Rattle.error.specs.Choice.{if}
 use Rattle.error.specs.Answer.{Answer, gives}
 use Rattle.laws.proofs.Lists.{length_part}
 use Rattle.header.specs.Read.{Outline}
-use Rattle.image.specs.Geometry.{row_bytes, plane_bytes, padding_bits}
+use Rattle.image.specs.Geometry.{row_bytes, plane_bytes}
 use Rattle.image.specs.Internal.Parts.{clear_rows}
 use Rattle.image.specs.Rows.{clear_low, invert, convert_format}
 use Rattle.image.specs.declared.PixelFormat.{PixelFormat}
@@ -21,7 +20,7 @@ use Rattle.image.specs.declared.PixelFormat.TheVariants.{MonoBlack, MonoWhite}
 use Rattle.image.proofs.PaddingCleared.{padding_at}
 use Rattle.image.proofs.InvertedBytes.{invert-length, invert-at}
 use Rattle.image.proofs.PlaneSizes.{byte_inside, plane-mod}
-use Rattle.image.proofs.PackedAsRows.{clear-length, clear_at, rows_same, all-at-once}
+use Rattle.image.proofs.PackedAsRows.{row-padded, clear-length, clear_at, rows_same, all-at-once}
 use Rattle.options.specs.Limits.{Decoding}
 use Rattle.decoder.specs.Body.{plane_of, plane_at, planes}
 use Rattle.decoder.specs.Image.{header_of}
@@ -29,23 +28,6 @@ use Rattle.decoder.proofs.Planed.{one_less}
 use Rattle.body_pieces.specs.InFormat.{padded, body_from}
 use Rattle.decode_session.specs.Sequence.{sequence_of, sequence}
 use Rattle.body_pieces.proofs.BodyBytes.{body-length, body-append, body_at, body-mod, body-take, body-black}
-
--- byte j of row y
-row-padded : (w y j b : ℕ) → j < row_bytes w → padded w (y * row_bytes w + j) b ≡ clear_low (padding_at w j) b
-row-padded w y j b h =
-    ap (λ (k : ℕ). if (eqb (k + 1) (row_bytes w)) (clear_low (padding_bits w) b) b) (mul-add-mod_self_right y (row_bytes w) j ∙ mod-eq_of_lt h)
-    ∙ go (eqb (j + 1) (row_bytes w)) refl
-  where
-    go : (t : Bool) → eqb (j + 1) (row_bytes w) ≡ t → if t (clear_low (padding_bits w) b) b ≡ clear_low (padding_at w j) b
-    go true e =
-        let l = eqb-true (j + 1) (row_bytes w) e in
-        let p : padding_bits w ≡ padding_at w j = omega arith in
-        ap (λ (k : ℕ). clear_low k b) p
-    go false e =
-        let l = eqb-false (j + 1) (row_bytes w) e in
-        let p : 0 ≡ padding_at w j = omega arith in
-        let s : b ≡ clear_low 0 b = omega arith in
-        s ∙ ap (λ (k : ℕ). clear_low k b) p
 
 -- a whole plane
 plane-is : (f : PixelFormat) (w h : ℕ) (plane : List ℕ) → length plane ≡ plane_bytes w h

@@ -15,10 +15,7 @@ use Rattle.header_pieces.specs.Internal.Head.{HasRead}
 use Rattle.decode_session.specs.Model.{Met, nothing, met_at, Model, feed, close, Told, took, frames, shut, outcome}
 use Rattle.decode_session.specs.declared.Stage.{Stage}
 use Rattle.decode_session.specs.declared.DecodeSession.{DecodeSession}
-use Rattle.decode_session.specs.declared.DecodeOpened.{DecodeOpened}
 use Rattle.error.specs.declared.Fed.{Fed}
-use Rattle.decode_session.specs.declared.DecodeFed.{DecodeFed}
-use Rattle.decode_session.specs.declared.DecodeClosed.{DecodeClosed}
 
 -- what the code's answers mean
 abbrev pub fed_meaning : Result Fed WbmpError → Answer Told
@@ -91,20 +88,21 @@ pub record Stands (s : DecodeSession) (m : Model) : Type 0 where
 -- ---- the contracts; the session keeps nothing in a buffer, so they hold for every buffer
 
 -- Opening is lent the extension buffer and leaves it as it was. A session whose opening is refused stands for the closed machine.
-pub record Opens (s : Answer (Unit {0})) (r : DecodeOpened) (m : Model) : Type 0 where
-  pub answer : checked r.answer ≡ s
-  pub stands : s ≡ gives tt → Stands r.session m
-  pub refused : (code place : ℕ) → s ≡ refuses code place → Stands r.session (shut m)
+pub record Opens (a : Answer (Unit {0})) (s : DecodeSession) (r : Result (Unit {0}) WbmpError) (m : Model) : Type 0 where
+  pub answer : checked r ≡ a
+  pub stands : a ≡ gives tt → Stands s m
+  pub refused : (code place : ℕ) → a ≡ refuses code place → Stands s (shut m)
 
-pub record Feeds (s : DecodeSession) (piece out ext : List ℕ) (r : DecodeFed) (out' ext' : List ℕ) : Type 0 where
+pub record Feeds (s : DecodeSession) (piece out ext : List ℕ) (r : Result Fed WbmpError) (s' : DecodeSession)
+    (out' ext' : List ℕ) : Type 0 where
   pub does : (m : Model) → Stands s m
-      → ((outcome m (feed piece out ext)).reply ≡ record { answer = fed_meaning r.answer; output = out'; extension = ext' })
-      × Stands r.session (outcome m (feed piece out ext)).next
+      → ((outcome m (feed piece out ext)).reply ≡ record { answer = fed_meaning r; output = out'; extension = ext' })
+      × Stands s' (outcome m (feed piece out ext)).next
 
-pub record Closes (s : DecodeSession) (r : DecodeClosed) : Type 0 where
+pub record Closes (s : DecodeSession) (r : Result ℕ WbmpError) (s' : DecodeSession) : Type 0 where
   pub does : (m : Model) → Stands s m
-      → ((outcome m close).reply ≡ record { answer = closed_meaning r.answer; output = []; extension = [] })
-      × Stands r.session (outcome m close).next
+      → ((outcome m close).reply ≡ record { answer = closed_meaning r; output = []; extension = [] })
+      × Stands s' (outcome m close).next
 
 -- ---- what can be asked of a session, open or closed, refused or not
 

@@ -1,28 +1,29 @@
 -- Lists of calls (document 01, "Lists"): "Each gets the session that the last call returned; a feeding call, unless 30, an earlier refusal
 -- or 28 answers it, also gets the .. extension buffer as left".
-use Rattle.std.specs.Prelude.{ℕ, ◌+◌, ◌≤◌, ◌≡◌, Bool, true, false, ◌||◌, List, [], ◌∷◌, ◌++◌, eqb, length, take, drop}
+use Rattle.std.specs.Prelude.{ℕ, ◌+◌, ◌≤◌, ◌≡◌, Bool, true, false, ◌||◌, List, [], ◌∷◌, ◌++◌, eqb, length, take, drop, Result}
 use Rattle.error.specs.Choice.{if}
 use Rattle.error.specs.Answer.{Answer, gives, refuses}
+use Rattle.error.specs.declared.Fed.{Fed}
+use Rattle.error.specs.declared.WbmpError.{WbmpError}
 use Rattle.decode_session.specs.Model.{Call, feed, close, Told, took, frames, Reply}
 use Rattle.decode_session.specs.Session.{fed_meaning, closed_meaning, Feeds, Closes}
 use Rattle.decode_session.specs.declared.DecodeSession.{DecodeSession}
-use Rattle.decode_session.specs.declared.DecodeFed.{DecodeFed}
-use Rattle.decode_session.specs.declared.DecodeClosed.{DecodeClosed}
 
 -- calls from a session and an extension buffer on, what they reply, and the session and the buffer at the end
 pub data Trace : DecodeSession → List ℕ → List Call → List Reply → DecodeSession → List ℕ → Type 0 where
   none : {s : DecodeSession} {ext : List ℕ} → Trace s ext [] [] s ext
   -- with the buffer as left
-  fed : {s s' : DecodeSession} {piece out out' ext ext' end : List ℕ} {r : DecodeFed} {cs : List Call} {rs : List Reply}
-      → Feeds s piece out ext r out' ext' → Trace r.session ext' cs rs s' end
-      → Trace s ext (feed piece out ext ∷ cs) (record { answer = fed_meaning r.answer; output = out'; extension = ext' } ∷ rs) s' end
+  fed : {s next s' : DecodeSession} {piece out out' ext ext' end : List ℕ} {r : Result Fed WbmpError} {cs : List Call} {rs : List Reply}
+      → Feeds s piece out ext r next out' ext' → Trace next ext' cs rs s' end
+      → Trace s ext (feed piece out ext ∷ cs) (record { answer = fed_meaning r; output = out'; extension = ext' } ∷ rs) s' end
   -- a refused call that leaves its buffer as it was, as 30, an earlier refusal and 28 do, may be lent any
-  refused : {s s' : DecodeSession} {piece out out' ext any end : List ℕ} {r : DecodeFed} {cs : List Call} {rs : List Reply} {code place : ℕ}
-      → Feeds s piece out any r out' any → fed_meaning r.answer ≡ refuses code place → Trace r.session ext cs rs s' end
-      → Trace s ext (feed piece out any ∷ cs) (record { answer = fed_meaning r.answer; output = out'; extension = any } ∷ rs) s' end
-  shut : {s s' : DecodeSession} {ext end : List ℕ} {r : DecodeClosed} {cs : List Call} {rs : List Reply}
-      → Closes s r → Trace r.session ext cs rs s' end
-      → Trace s ext (close ∷ cs) (record { answer = closed_meaning r.answer; output = []; extension = [] } ∷ rs) s' end
+  refused : {s next s' : DecodeSession} {piece out out' ext any end : List ℕ} {r : Result Fed WbmpError} {cs : List Call} {rs : List Reply}
+      {code place : ℕ}
+      → Feeds s piece out any r next out' any → fed_meaning r ≡ refuses code place → Trace next ext cs rs s' end
+      → Trace s ext (feed piece out any ∷ cs) (record { answer = fed_meaning r; output = out'; extension = any } ∷ rs) s' end
+  shut : {s next s' : DecodeSession} {ext end : List ℕ} {r : Result ℕ WbmpError} {cs : List Call} {rs : List Reply}
+      → Closes s r next → Trace next ext cs rs s' end
+      → Trace s ext (close ∷ cs) (record { answer = closed_meaning r; output = []; extension = [] } ∷ rs) s' end
 
 -- the bytes that a reply says were written, and those of all replies, joined (document 01: the joined outputs)
 abbrev pub bytes_of : Answer Told → List ℕ → List ℕ

@@ -1,7 +1,7 @@
 // Feeding a session that no test of the call's order has answered: the stage after the call, and what it took and wrote.
 ghost use Rattle.std.specs.Prelude.{◌≡◌, ◌≤◌, length};
 ghost use Rattle.ext.specs.Kinds.{longest_fields};
-ghost use Rattle.decode_session.specs.Internal.Stages.{taken_in, FeedsPlanes, Begins, FeedsHead};
+ghost use Rattle.decode_session.specs.Internal.Stages.{FeedsPlanes, Begins, FeedsHead};
 
 use crate::Stage;
 use body_pieces::{BodyPlace, feed_body};
@@ -9,11 +9,13 @@ use decoder::MAX_READ_FRAMES;
 use error::{Fed, Result};
 use ext::ExtFields;
 use header::ParsedHeader;
-use header_pieces::{HeadFed, HeadReading, feed_header};
+use header_pieces::{HeadReading, feed_header};
 use image::PlaneLayout;
 use options::DecodeOptions;
+use std::ops::ControlFlow;
 
-// The same, built anew from its numbers, for speed: a copy of the whole would carry its padding bytes from call to call.
+// A header, built anew from its numbers, for speed: a copy of the whole carries its padding bytes from call to call, and calls of one byte
+// then take 1.09 times as long. Calls of 4,096 bytes, whose bar is 1.1 of our whole call, take as long either way.
 fn rebuilt(h: ParsedHeader) -> ParsedHeader
     ensures { result ≡ h }
 {
@@ -31,7 +33,8 @@ fn rebuilt(h: ParsedHeader) -> ParsedHeader
     }
 }
 
-// The body behind the first `from` bytes of a piece.
+// The body behind the first `from` bytes of a piece. Its place stays beside the piece here and in `feed_first`: the contract speaks of the
+// whole piece, as the plain machine's call does.
 pub(crate) fn feed_planes(
     options: DecodeOptions,
     header: ParsedHeader,
@@ -43,7 +46,7 @@ pub(crate) fn feed_planes(
 ) -> (Stage, Fed)
     requires { from ≤ length piece.now }
     ensures { FeedsPlanes options header whole begun from piece.now out.old
-        (taken_in options result.0 result.1) out.new }
+        result.0 result.1 out.new }
 {
     let place = BodyPlace {
         width: header.width,
@@ -93,10 +96,10 @@ pub(crate) fn feed_head(
     ensures { FeedsHead options reading piece.now out.old ext.old result out.new ext.new }
 {
     match feed_header(reading, piece, ext)? {
-        HeadFed::More(next) => {
+        ControlFlow::Continue(next) => {
             let taken = piece.len();
             Ok((Stage::Header(next), Fed { taken, written: 0 }))
         }
-        HeadFed::Done(header, taken) => feed_first(options, header, taken, piece, out),
+        ControlFlow::Break((header, taken)) => feed_first(options, header, taken, piece, out),
     }
 }

@@ -27,7 +27,7 @@ pub const EXTENSION_BYTES: usize = header_pieces::EXTENSION_BYTES;
 pub enum Stage {
     // In the header.
     Header(HeadReading),
-    // In the body: whole frames, and bytes of the begun one.
+    // In the body: whole frames, and bytes of the begun one. No BodyPlace: the sizes would stand here twice.
     Body {
         header: ParsedHeader,
         whole: usize,
@@ -49,27 +49,6 @@ pub struct DecodeSession {
     live: bool,
 }
 
-// What opening answers; the session is closed where opening is refused.
-#[derive(Clone, Copy)]
-pub struct DecodeOpened {
-    pub session: DecodeSession,
-    pub answer: Result<()>,
-}
-
-// What feeding answers.
-#[derive(Clone, Copy)]
-pub struct DecodeFed {
-    pub session: DecodeSession,
-    pub answer: Result<Fed>,
-}
-
-// What closing answers: the frame count.
-#[derive(Clone, Copy)]
-pub struct DecodeClosed {
-    pub session: DecodeSession,
-    pub answer: Result<u32>,
-}
-
 // An extension buffer that is lent has room for any fields.
 fn check_buffer(ext: &[u8]) -> Result<()>
     ensures { ChecksBuffer (length ext.now) result }
@@ -81,36 +60,23 @@ fn check_buffer(ext: &[u8]) -> Result<()>
 }
 
 impl DecodeSession {
-    pub fn open(options: DecodeOptions, ext: &[u8]) -> DecodeOpened
-        ensures { Opens (opening (decoding options) (length ext.now)) result (opened (decoding options)) }
+    // A refused opening hands back a session too, a closed one, so the answer stands beside it.
+    pub fn open(options: DecodeOptions, ext: &[u8]) -> (DecodeSession, Result<()>)
+        ensures { Opens (opening (decoding options) (length ext.now)) result.0 result.1 (opened (decoding options)) }
     {
-        let reading = HeadReading::new(decoder::image_mode(options.mode));
         let answer = check_buffer(ext);
-        DecodeOpened {
-            session: DecodeSession {
-                options,
-                stage: Stage::Header(reading),
-                live: answer.is_ok(),
-            },
-            answer,
-        }
+        let session = DecodeSession {
+            options,
+            stage: Stage::Header(HeadReading::new(options.mode.into())),
+            live: answer.is_ok(),
+        };
+        (session, answer)
     }
 
-    // A piece of the file. Extension bytes go to the lent extension buffer, plane bytes to the lent output.
-    pub fn feed(mut self, piece: &[u8], out: &mut [u8], ext: &mut [u8]) -> DecodeFed
-        ensures { Feeds self piece.now out.old ext.old result out.new ext.new }
-    {
-        let answer = self.take(piece, out, ext);
-        DecodeFed {
-            session: self,
-            answer,
-        }
-    }
-
-    // The same. A refusal of the file is kept; a call that is refused for another reason leaves the session as it was.
-    fn take(&mut self, piece: &[u8], out: &mut [u8], ext: &mut [u8]) -> Result<Fed>
-        ensures { Feeds self.old piece.now out.old ext.old (record { session = self.new; answer = result })
-            out.new ext.new }
+    // A piece of the file. Extension bytes go to the lent extension buffer, plane bytes to the lent output. A refusal of the file is kept;
+    // a call that is refused for another reason leaves the session as it was.
+    pub fn feed(&mut self, piece: &[u8], out: &mut [u8], ext: &mut [u8]) -> Result<Fed>
+        ensures { Feeds self.old piece.now out.old ext.old result self.new out.new ext.new }
     {
         if !self.live {
             return Err(WbmpError::new(Refusal::SessionClosed, 0));
@@ -145,18 +111,8 @@ impl DecodeSession {
     }
 
     // The frame count, or the refusal of a file that ends here. Whatever the answer, the session is closed.
-    pub fn close(mut self) -> DecodeClosed
-        ensures { Closes self result }
-    {
-        let answer = self.end();
-        DecodeClosed {
-            session: self,
-            answer,
-        }
-    }
-
-    fn end(&mut self) -> Result<u32>
-        ensures { Closes self.old (record { session = self.new; answer = result }) }
+    pub fn close(&mut self) -> Result<u32>
+        ensures { Closes self.old result self.new }
     {
         if !self.live {
             return Err(WbmpError::new(Refusal::SessionClosed, 0));

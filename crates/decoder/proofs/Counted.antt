@@ -2,7 +2,7 @@
 use Prim.Native.Nat.{ℕ, ◌+◌, ◌-◌, ◌*◌, ◌/◌, ◌≤◌}
 use mathlib.Core.Path.{◌≡◌, refl, sym, ap, ◌∙◌}
 use mathlib.Core.Bool.{Bool, true, false}
-use native.Mathlib.Nat.{div-zero, div-mul-le_self, mul-le-mul_right}
+use native.Mathlib.Nat.{div-mul-le_self, mul-le-mul_right}
 use native.Mathlib.Omega.{arith}
 use borrow.Author.Tests.{leb-true, leb-false, le-leb}
 use lib.Dec.{leb}
@@ -17,12 +17,6 @@ use Rattle.decoder.specs.Body.{extra_frames, plane_of, frames_in}
 module _ (most plane body : ℕ) where
   abbrev whole : ℕ
   whole = (body - plane) / plane
-
-  none : whole ≡ 0 → 0 ≡ extra_frames most plane body
-  none e = sym (ap (λ (k : ℕ). if (leb k most) k most) e ∙ if-true (leb 0 most) 0 most (le-leb 0 most (omega arith)))
-
-  pub no-plane : plane ≡ 0 → 0 ≡ extra_frames most plane body
-  no-plane e = none (ap (λ (k : ℕ). (body - k) / k) e ∙ div-zero (body - 0))
 
   pub few : whole ≤ most → whole ≡ extra_frames most plane body
   few h = sym (if-true (leb whole most) whole most (le-leb whole most h))

@@ -1,17 +1,12 @@
 -- The header and the tests of an image (document 01, decoder.rs and "Refused").
-use Rattle.std.specs.Prelude.{ℕ, ◌-◌, true, false, List, ltb, length}
+use Rattle.std.specs.Prelude.{ℕ, ◌-◌, List, ltb, length}
 use Rattle.error.specs.Choice.{if}
 use Rattle.error.specs.Answer.{Answer, gives, refuses, bind, map}
 use Rattle.ext.specs.Kinds.{Fields}
-use Rattle.header.specs.Settings.{Settings, inner, ext_inner}
 use Rattle.header.specs.Read.{Header, Outline, outline, read_header}
-use Rattle.options.specs.Limits.{Mode, lenient, strict, Decoding, settled, check_limits}
+use Rattle.options.specs.Limits.{Mode, Decoding, settled, check_limits}
+pub use Rattle.options.specs.Limits.{image_settings}
 use Rattle.decoder.specs.Body.{plane_of}
-
--- "Strict image reading uses `parse_header_inner`"; lenient reading honours fields
-abbrev pub image_settings : Mode → Settings
-image_settings lenient = ext_inner false
-image_settings strict = inner true
 
 -- the header of an image, with its fields by their span, and the fields themselves
 abbrev pub header_of : Mode → List ℕ → Answer Outline

@@ -1,24 +1,13 @@
 // The header of an image and the tests behind it.
 ghost use Rattle.std.specs.Prelude.{◌≡◌};
 ghost use Rattle.header.specs.Read.{meaning, parsed};
-ghost use Rattle.header.specs.Settings.{settings};
-ghost use Rattle.options.specs.Limits.{mode_of, decoding};
-ghost use Rattle.decoder.specs.Image.{image_settings, test_body, image_read};
+ghost use Rattle.options.specs.Limits.{decoding};
+ghost use Rattle.decoder.specs.Image.{test_body, image_read};
 
 use error::{Refusal, Result, WbmpError};
-use header::{HeaderMode, ParsedHeader};
+use header::ParsedHeader;
 use image::PlaneLayout;
-use options::{DecodeMode, DecodeOptions};
-
-// How the header of an image is read in a mode.
-pub fn image_mode(mode: DecodeMode) -> HeaderMode
-    ensures { settings result ≡ image_settings (mode_of mode) }
-{
-    match mode {
-        DecodeMode::Lenient => HeaderMode::ext_inner(false),
-        DecodeMode::Strict => HeaderMode::inner(true),
-    }
-}
+use options::DecodeOptions;
 
 // Whether an image is within the limits and a file of so many bytes has its first plane.
 fn test_body(size: usize, h: ParsedHeader, options: DecodeOptions) -> Result<ParsedHeader>
@@ -38,6 +27,6 @@ fn test_body(size: usize, h: ParsedHeader, options: DecodeOptions) -> Result<Par
 pub fn read_image(bytes: &[u8], options: DecodeOptions) -> Result<ParsedHeader>
     ensures { meaning result ≡ image_read (decoding options) bytes.now }
 {
-    let h = header::parse_header_mode(bytes, image_mode(options.mode))?;
+    let h = header::parse_header_mode(bytes, options.mode.into())?;
     test_body(bytes.len(), h, options)
 }

@@ -13,7 +13,7 @@ mod image_header;
 mod planes;
 
 pub use frames::animated_frame_count;
-pub use image_header::{image_mode, read_image};
+pub use image_header::read_image;
 
 // The most frames that are read.
 pub const MAX_READ_FRAMES: usize = 16;
@@ -21,6 +21,7 @@ pub const MAX_READ_FRAMES: usize = 16;
 // At most this many images follow the main image.
 pub const MAX_ANIMATED_IMAGES: usize = MAX_READ_FRAMES - 1;
 
+// What was read. The header's fields stand here by themselves, as in `ImageInfo`, which is of crate api, and that stands on this one.
 #[derive(Clone, Copy)]
 pub struct DecodedImage {
     pub width: u32,
@@ -33,7 +34,7 @@ pub struct DecodedImage {
     pub data_offset: usize,
 }
 
-// The main image: one plane. A refusal writes nothing.
+// The main image: one plane. A refusal writes nothing. This and the next are names of the Rust.
 pub fn decode_image(bytes: &[u8], options: DecodeOptions, out: &mut [u8]) -> Result<DecodedImage>
     ensures { Decodes 1 (decoding options) bytes.now (meaning result) out.old out.new }
 {

@@ -18,7 +18,8 @@ fn write_plane(plane: &[u8], width: u32, height: u32, format: PixelFormat, out: 
     let _ = image::into_format(plane, width, height, PixelFormat::MonoBlack, format, out);
 }
 
-// The first `frames` planes, each in its own stretch of the lent output.
+// The first `frames` planes, each in its own stretch of the lent output. By index: by `chunks_exact` zipped with `chunks_exact_mut` was
+// tried, after which nothing is known of `out`.
 pub(crate) fn write_planes(
     bytes: &[u8],
     h: ParsedHeader,

@@ -7,11 +7,14 @@ use mathlib.Core.Logic.{⊎_elim}
 use native.Mathlib.Omega.{arith}
 use lib.Dec.{leb}
 use lib.IntN.{ℤ, pos, nat_abs}
-use lib.ListN.{length, get_or, set}
+use lib.ListN.{length, get_or, take, drop, set, length-take, length-drop}
+use lib.Seq.{get_or-take, get_or-drop}
 use borrow.Author.Tests.{le-leb, lt-leb}
 use Rattle.rules.specs.Bits.{bit, appended}
-use Rattle.rules.specs.Internal.Kernels.{threshold_from}
+use Rattle.rules.specs.Internal.Kernels.{threshold_bit, threshold_from}
 use Rattle.laws.proofs.Tests.{lt-or-le}
+use Rattle.rules.proofs.DigitsAppended.{appended-ext}
+use Rattle.rules.proofs.ListPiece.{piece, piece-at}
 use Rattle.diffusion.specs.declared.row.Flow.{Flow}
 use Rattle.diffusion.specs.Internal.Sums.{part_of, rest_of, handed_right, value_by, rest_by, rest_before, sums_of}
 use Rattle.diffusion.specs.Internal.Rows.{gray_of}
@@ -62,13 +65,30 @@ module _ (gray : List ℕ) (old : List ℤ) (b y : ℕ) (f : Flow) (work : List 
       dots-more gray old y f work p.at more r
       (subst⁻¹ (λ (n : ℕ). DotPassed f n r) v (level-passed f (get_or gray y 0) d (p.at.bytes y) plain e)) work' st b from p.digits_is
 
-module _ (gray : List ℕ) (old : List ℤ) (x : ℕ) (f : Flow) (work : List ℤ) (byte : ℕ) (l : LevelByte f.right gray x work byte)
+module _ (gray : List ℕ) (old : List ℤ) (x : ℕ) (f : Flow) (work : List ℤ) (byte : ℕ)
+    (l : LevelByte f.right (piece gray x 8) (take (x + 8 - x) (drop x work)) byte)
     (a : RowAt gray old x f work) (some : 0 < x) (there : x + 8 ≤ length gray) (kept : length gray ≤ length work) where
   abbrev g : ℕ → ℕ
   g = gray_of gray
 
   abbrev s : ℕ → ℕ
   s = sums_of old
+
+  plain-at : (i : ℕ) → i < 8 → get_or gray (x + i) 0 % 255 ≡ 0
+  plain-at i h =
+      let e : 0 + i ≡ i = omega arith in
+      ap (λ (n : ℕ). n % 255) (piece-at gray x 8 i h) ∙ subst (λ (n : ℕ). get_or (piece gray x 8) n 0 % 255 ≡ 0) e (l.plain i h)
+
+  sum-at : (i : ℕ) → i < 8 → get_or work (x + i) (pos 0) ≡ pos 72
+  sum-at i h =
+      sym (get_or-take (x + 8 - x) (drop x work) i (pos 0) (omega arith) ∙ get_or-drop x work i (pos 0))
+      ∙ l.level i (omega (arith, length-take (x + 8 - x) (drop x work), length-drop x work))
+
+  byte-is : byte ≡ appended 0 (threshold_from 128 gray x) 8
+  byte-is =
+      l.byte_is
+      ∙ appended-ext 0 (threshold_bit 128 (piece gray x 8)) (threshold_from 128 gray x) 8
+      (λ i k. ap (λ (n : ℕ). bit (leb 128 n)) (sym (piece-at gray x 8 i k)))
 
   none_before : part_of 1 (rest_before g s x) ≡ 8
   none_before = before-none g s x (sym a.right_is ∙ l.right_is)
@@ -95,7 +115,7 @@ module _ (gray : List ℕ) (old : List ℤ) (x : ℕ) (f : Flow) (work : List �
     left = sum_left work x _ z stored some (omega arith) (ez ∙ ap pos (sym low)) refl
 
     kept-sum : (i : ℕ) → i < 8 → get_or stored (x + i) (pos 0) ≡ pos 72
-    kept-sum i h = left.else (x + i) (λ u. omega arith) ∙ l.sums i h
+    kept-sum i h = left.else (x + i) (λ u. omega arith) ∙ sum-at i h
 
     same_sum : (m : ℕ) → m < 7 → SumStored stored (x + suc m) 72 stored
     same_sum m h =
@@ -110,20 +130,20 @@ module _ (gray : List ℕ) (old : List ℤ) (x : ℕ) (f : Flow) (work : List �
     run zero h =
         let e : x + 0 ≡ x = omega arith in
         let p = ap (λ (n : ℕ). get_or gray n 0) e in
-        let q = l.plain 0 (omega arith) in
+        let q = plain-at 0 (omega arith) in
         let u : get_or gray x 0 % 255 ≡ 0 = subst (λ (n : ℕ). get_or gray n 0 % 255 ≡ 0) e q in
-        let v : get_or work x (pos 0) ≡ pos 72 = subst (λ (n : ℕ). get_or work n (pos 0) ≡ pos 72) e (l.sums 0 (omega arith)) in
+        let v : get_or work x (pos 0) ≡ pos 72 = subst (λ (n : ℕ). get_or work n (pos 0) ≡ pos 72) e (sum-at 0 (omega arith)) in
         let t = one-level gray old x x _ work (byte-begins gray old x f work a) (omega arith) (omega arith) l.right_is u v
         (f.down / 256 + none_down) stored refl left in
         subst⁻¹ (λ (n : ℕ). DotsPassed gray old x (x + 1)
         (record { right = 56; down = f.down / 256 + none_down; stirred = f.stirred; digits = 0 * 2 + bit (leb 128 n) }) stored) p t
     run (suc m) h =
         let t = one-level gray old x (x + suc m) (after m) stored (run m (omega arith)) (omega arith) (omega arith) refl
-        (l.plain (suc m) h) (kept-sum (suc m) h) 536648 stored (omega (arith, high m)) (same_sum m (omega arith)) in
+        (plain-at (suc m) h) (kept-sum (suc m) h) 536648 stored (omega (arith, high m)) (same_sum m (omega arith)) in
         let e : x + suc m + 1 ≡ x + suc (suc m) = omega arith in
         subst (λ (n : ℕ). DotsPassed gray old x n (after (suc m)) stored) e t
 
     pub level-dots : DotsPassed gray old x (x + 8) (record { right = 56; down = 536648; stirred = f.stirred; digits = byte }) stored
     level-dots =
         subst⁻¹ (λ (n : ℕ). DotsPassed gray old x (x + 8) (record { right = 56; down = 536648; stirred = f.stirred; digits = n }) stored)
-        l.byte_is (run 7 (omega arith))
+        byte-is (run 7 (omega arith))

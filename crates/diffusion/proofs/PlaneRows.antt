@@ -1,8 +1,7 @@
 -- The bytes of a plane row by row.
 -- Assumes nothing.
-use Prim.Native.Nat.{ℕ, suc, ◌+◌, ◌*◌, ◌≤◌, ◌<◌}
+use Prim.Native.Nat.{ℕ, suc, ◌+◌, ◌*◌, ◌<◌}
 use mathlib.Core.Path.{◌≡◌, sym, ap, ◌∙◌}
-use mathlib.Core.Logic.{⊎_elim}
 use mathlib.Core.List.{List, [], ◌∷◌, ◌++◌, append-nil}
 use native.Mathlib.Nat.{suc-mul, one-mul}
 use native.Mathlib.Omega.{arith}
@@ -12,32 +11,11 @@ use Rattle.image.specs.Geometry.{row_bytes}
 use Rattle.rules.specs.Bits.{upto, appended}
 use Rattle.rules.specs.Packed.{padded_bit, byte_at}
 use Rattle.rules.specs.Internal.Planes.{plane}
-use Rattle.laws.proofs.Tests.{lt-or-le}
-use Rattle.rules.proofs.DigitsAppended.{appended-ext}
-use Rattle.rules.proofs.PlaneBytes.{bit_in, bit_past, byte-at}
+use Rattle.rules.proofs.PlaneBytes.{byte-same, first-row}
 use Rattle.rules.proofs.UptoList.{length-upto, upto-ext, upto_add}
 use Rattle.diffusion.specs.Internal.Rows.{row_of}
 
--- ---- row q of one plane and row r of another have the same dots
-
-module _ (w : ℕ) (d e : ℕ → ℕ) (q r : ℕ) (same : (c : ℕ) → c < w → d (q * w + c) ≡ e (r * w + c)) where
-  bit-same : (c : ℕ) → padded_bit w d q c ≡ padded_bit w e r c
-  bit-same c =
-      ⊎_elim
-      (λ (k : c < w). bit_in w d q c k ∙ same c k ∙ sym (bit_in w e r c k))
-      (λ (k : w ≤ c). bit_past w d q c k ∙ sym (bit_past w e r c k))
-      (lt-or-le c w)
-
-  byte-same : (b : ℕ) → b < row_bytes w → byte_at w d (q * row_bytes w + b) ≡ byte_at w e (r * row_bytes w + b)
-  byte-same b l =
-      byte-at w d q b l
-      ∙ appended-ext 0 (λ i. padded_bit w d q (8 * b + i)) (λ i. padded_bit w e r (8 * b + i)) 8 (λ i k. bit-same (8 * b + i))
-      ∙ sym (byte-at w e r b l)
-
 module _ (w : ℕ) where
-  first-row : (d : ℕ → ℕ) (b : ℕ) → byte_at w d (0 * row_bytes w + b) ≡ byte_at w d b
-  first-row d b = let e : 0 * row_bytes w + b ≡ b = omega arith in ap (byte_at w d) e
-
   pub row_of-length : (d : ℕ → ℕ) → length (row_of w d) ≡ row_bytes w
   row_of-length d = length-upto (byte_at w d) (row_bytes w)
 
@@ -45,7 +23,10 @@ module _ (w : ℕ) where
   pub row_same : (d e : ℕ → ℕ) → ((c : ℕ) → c < w → d c ≡ e c) → row_of w d ≡ row_of w e
   row_same d e h =
       upto-ext (byte_at w d) (byte_at w e) (row_bytes w)
-      (λ b l. sym (first-row d b) ∙ byte-same w d e 0 0 (λ c k. let z : 0 * w + c ≡ c = omega arith in rw z (h c k)) b l ∙ first-row e b)
+      (λ b l.
+      sym (first-row w d b)
+      ∙ byte-same w d e 0 0 (λ c k. let z : 0 * w + c ≡ c = omega arith in rw z (h c k)) b l
+      ∙ first-row w e b)
 
   -- the first y + 1 rows of a plane are the first y and one more
   pub rows_more : (d : ℕ → ℕ) (y : ℕ) → plane w (suc y) d ≡ plane w y d ++ row_of w (λ c. d (y * w + c))
@@ -56,7 +37,7 @@ module _ (w : ℕ) where
       ∙ ap (λ (l : List ℕ). plane w y d ++ l) (
       upto-ext (λ b. byte_at w d (y * row_bytes w + b)) (byte_at w e) (row_bytes w)
       (λ b l.
-      byte-same w d e y 0 (λ c k. let z : 0 * w + c ≡ c = omega arith in ap (λ (n : ℕ). d (y * w + n)) (sym z)) b l ∙ first-row e b))
+      byte-same w d e y 0 (λ c k. let z : 0 * w + c ≡ c = omega arith in ap (λ (n : ℕ). d (y * w + n)) (sym z)) b l ∙ first-row w e b))
 
   -- one row is a plane
   pub row-alone : (d : ℕ → ℕ) (out out' : List ℕ) → length out ≡ row_bytes w → out' ≡ plane w 1 d ++ drop (row_bytes w) out → out' ≡ row_of w d

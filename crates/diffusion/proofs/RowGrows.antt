@@ -226,9 +226,6 @@ pub record DotsRun (gray : List ℕ) (b end : ℕ) (f₀ : Flow) (work₀ : List
   pub passed : (old : List ℤ) → DotsPassed gray old b b f₀ work₀ → DotsPassed gray old b x f work
 
 module _ (gray : List ℕ) (b end : ℕ) (f₀ : Flow) (work₀ : List ℤ) where
-  pub run-start : b ≤ end → DotsRun gray b end f₀ work₀ b f₀ work₀
-  run-start h = record { from = omega arith; to = h; passed = λ old p. p }
-
   module _ (x : ℕ) (f : Flow) (work : List ℤ) (run : DotsRun gray b end f₀ work₀ x f work) where
     -- a row in which these dots are
     module _ (old : List ℤ) (p : DotsPassed gray old b b f₀ work₀) where

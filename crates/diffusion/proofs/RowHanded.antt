@@ -1,6 +1,6 @@
 -- What is handed to a row, and what it hands down.
 -- Assumes nothing.
-use Prim.Native.Nat.{ℕ, ◌+◌, ◌/◌, ◌%◌, ◌<◌}
+use Prim.Native.Nat.{ℕ, ◌/◌, ◌%◌, ◌<◌}
 use mathlib.Core.Path.{◌≡◌, refl, sym, ap, ◌∙◌, subst}
 use mathlib.Core.Bool.{Bool, true, false}
 use mathlib.Core.List.{List, ◌++◌}
@@ -31,20 +31,8 @@ module _ (gray : List ℕ) (work : List ℤ) (out' : List ℕ) where
 
   -- ---- where the row begins
 
-  pub begun-handed : (level : Bool) → level ≡ false → Sums (length gray) work → RowBegun level gray work false out' work
-  begun-handed true d s = zero_one (cc)
-  begun-handed false d s =
-      record {
-        beyond = refl;
-        even = λ e. zero_one (cc);
-        plain = λ e. zero_one (cc);
-        written = λ e. zero_one (cc);
-        sums = λ e. s;
-        same = λ e x l. refl;
-      }
-
   pub begun-plain : (level r : Bool) (out : List ℕ) → level ≡ true → r ≡ true → length out ≡ row_bytes (length gray)
-      → PlainRow (length gray) gray out r out' → RowBegun level gray work true out' work
+      → PlainRow gray out r out' → RowBegun level gray work true out' work
   begun-plain level r out d t n p =
       record {
         beyond = refl;

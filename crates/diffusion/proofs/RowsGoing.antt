@@ -1,7 +1,7 @@
 -- The loops over the rows of a plane.
 -- Assumes nothing.
 use Prim.Native.Nat.{ℕ, ◌+◌, ◌-◌, ◌≤◌, ◌<◌}
-use mathlib.Core.Path.{◌≡◌, refl, sym, ◌∙◌, subst}
+use mathlib.Core.Path.{◌≡◌, refl, sym, ap, ◌∙◌, subst}
 use mathlib.Core.Bool.{Bool, true, false}
 use mathlib.Core.List.{List, []}
 use native.Mathlib.Omega.{arith}
@@ -11,11 +11,9 @@ use lib.ListN.{length, get_or, drop}
 use Rattle.image.specs.Geometry.{row_bytes}
 use Rattle.rules.specs.Internal.Kernels.{threshold_bit}
 use Rattle.rules.specs.Internal.Planes.{PlainRow}
-use Rattle.rules.specs.Internal.Row.{Plain}
 use Rattle.rules.proofs.ListPiece.{piece, piece-length}
 use Rattle.rules.proofs.PlainRowWritten.{row_plain, row_written}
 use Rattle.diffusion.specs.Internal.Sums.{none, Sums}
-use Rattle.diffusion.specs.Internal.Rows.{row_of}
 use Rattle.diffusion.specs.Internal.RowByRow.{handed_to, RowNext, PlaneLent, RowsWritten, PlainRows}
 use Rattle.diffusion.proofs.PlaneRows.{row-alone}
 use Rattle.diffusion.proofs.RowHanded.{next-plain}
@@ -41,14 +39,12 @@ module _ {w h : ℕ} {gray out₀ out : List ℕ} {at to y : ℕ} (lent : PlaneL
   room-is : length room ≡ row_bytes w
   room-is = let a = row_fits lent i l in let b = mid_len to (to + row_bytes w) out (omega arith) in omega arith
 
-  pub plain_more : ((n : ℕ) → get_or gray n 0 < 256) → r ≡ true → PlainRow w (piece gray at w) (mid_of to (to + row_bytes w - to) out) r new
+  pub plain_more : ((n : ℕ) → get_or gray n 0 < 256) → r ≡ true → PlainRow (piece gray at w) (mid_of to (to + row_bytes w - to) out) r new
       → RowsAt w h gray out₀ (λ x. none) (put_mid to (to + row_bytes w - to) out new) (at + w) (to + row_bytes w) (y + 1)
   plain_more bytes e p =
-      let a : Plain row 0 (length row) = subst (λ (n : ℕ). Plain row 0 n) (sym row_is) (row_plain p e) in
-      let b : new ≡ row_of (length row) (threshold_bit 128 row) =
-      subst (λ (n : ℕ). new ≡ row_of n (threshold_bit 128 row)) (sym row_is)
-      (row-alone w (threshold_bit 128 row) room new room-is (row_written p e)) in
-      row_next lent i l bytes true [] refl true new [] (next-plain row [] new (row-bytes lent i l bytes) [] a b refl)
+      let a : length room ≡ row_bytes (length row) = room-is ∙ ap row_bytes (sym row_is) in
+      let b = row-alone (length row) (threshold_bit 128 row) room new a (row_written p e) in
+      row_next lent i l bytes true [] refl true new [] (next-plain row [] new (row-bytes lent i l bytes) [] (row_plain p e) b refl)
 
   pub plain_end : length new ≡ length (mid_of to (to + row_bytes w - to) out)
       → PlainRows w h gray out₀ y (put_mid to (to + row_bytes w - to) out new)

@@ -4,7 +4,7 @@ use Prim.Native.Nat.{ℕ, zero, suc, ◌+◌, ◌*◌, ◌/◌, ◌%◌, ◌≤�
 use mathlib.Core.Path.{◌≡◌, refl, sym, ap, ◌∙◌}
 use mathlib.Core.Logic.{⊎_elim}
 use native.Mathlib.Omega.{arith}
-use native.Mathlib.Nat.{add-mul, mul_assoc, one-mul, mul-le-mul_left, mul-le-mul_right}
+use native.Mathlib.Nat.{add-mul, mul_assoc, one-mul, mul-le-mul_left}
 use borrow.Author.Tests.{lt-ltb, le-ltb, le-leb, lt-leb}
 use lib.Dec.{leb}
 use lib.IntN.{ℤ, pos, sub_ℕ, ◌+ℤ◌, +ℤ_assoc}
@@ -29,9 +29,6 @@ part-of-128 k = omega arith
 pub part_small : (k b : ℕ) → b ≤ 256 → part_of k b ≤ 16 * k
 unfolding part_of
 part_small k b h = omega (arith, product-split k b, mul-le-mul_left k h)
-
-pub product_small : (k b : ℕ) → k ≤ 7 → b ≤ 256 → (128 * k + 1) * b ≤ 229632
-product_small k b l h = omega (arith, product-split k b, mul-le-mul_left k h, mul-le-mul_right 256 l)
 
 pub rest-small : (v : ℕ) → v < 512 → rest_of v ≤ 256
 unfolding rest_of

@@ -1,8 +1,10 @@
 // One row, dot by dot.
 ghost use Rattle.std.specs.Prelude.{◌≡◌, true, IfSome, List, ◌+◌, ◌-◌, ◌*◌, ◌/◌, ◌≤◌, ◌<◌, ℤ, nat_abs, length};
 ghost use Rattle.diffusion.specs.Internal.Rows.{RowLent, RowDithered};
-ghost use Rattle.diffusion.specs.Internal.Flow.{DotLent, DotPassed, RowAt, DotsLent, DotsPassed, LevelFrom, LevelByte, BytesPassed};
+ghost use Rattle.diffusion.specs.Internal.Flow.{DotLent, DotPassed, RowAt, DotsLent, DotsPassed, LevelByte, BytesPassed};
+ghost use Rattle.diffusion.specs.Internal.RowByRow.{AllNone};
 
+use crate::parts::{LEVEL_SUM, NONE_3, NONE_7};
 use crate::tables::Tables;
 use rules::plain_row;
 
@@ -45,7 +47,8 @@ fn dot(tables: &Tables, f: Flow, gray: u8, sum: i16) -> Flow
     }
 }
 
-// The dots of the columns x to `end`, which go into one byte.
+// The dots of the columns x to `end`, which go into one byte. By column, since each stores the sum on its left, which no part of `work`
+// from x on has.
 fn dots(tables: &Tables, f: Flow, gray: &[u8], x: usize, end: usize, work: &mut [i16]) -> Flow
     requires { DotsLent gray.now x end f work.old }
     ensures { (old : List ℤ) → RowAt gray.now old x f work.old
@@ -61,43 +64,46 @@ fn dots(tables: &Tables, f: Flow, gray: &[u8], x: usize, end: usize, work: &mut 
     s
 }
 
-// Whether nothing was added to the sums of eight columns from x on. The loop runs to its end, so that the compiler can take all at once.
-fn eight_are_level(work: &[i16], x: usize) -> bool
-    requires { x + 8 ≤ length work.now }
-    ensures { result ≡ true → LevelFrom work.now x 8 }
+// Whether nothing was added to these sums. The loop runs to its end, so that the compiler can take many at once; a fold's closure would say
+// no more than it. `clear` of crate `dither` asks for another number: one function for both would be public in `rules`.
+fn are_level(sums: &[i16]) -> bool
+    ensures { result ≡ true → AllNone sums.now }
 {
     let mut level = true;
-    for i in 0..8 {
-        level &= work[x + i] == 72;
+    for sum in sums {
+        level &= *sum == LEVEL_SUM as i16;
     }
     level
 }
 
-// The byte of eight samples from column x on that are black and white and to which nothing is handed; none for others.
-fn level_byte(right: u32, gray: &[u8], x: usize, work: &[i16]) -> Option<u8>
-    requires { (x + 8 ≤ length gray.now) × (x + 8 ≤ length work.now) }
-    ensures { IfSome result (λ byte. LevelByte right gray.now x work.now byte) }
+// The byte of eight samples that are black and white and to which nothing is handed, neither on the right nor by these sums; none for
+// others.
+fn level_byte(right: u32, gray: &[u8], sums: &[i16]) -> Option<u8>
+    requires { length gray.now ≡ 8 }
+    ensures { IfSome result (λ byte. LevelByte right gray.now sums.now byte) }
 {
     let mut byte = [0u8; 1];
-    if right == 56 && eight_are_level(work, x) && plain_row(8, &gray[x..], &mut byte) {
+    if right == NONE_7 && are_level(sums) && plain_row(gray, &mut byte) {
         return Some(byte[0]);
     }
     None
 }
 
-// The dots of eight columns from x on, which is not the first. Dots that are level hand on nothing: they alter only the sum on the left of column x, which lacks their part.
+// The dots of eight columns from x on, which is not the first. Dots that are level hand on nothing: they alter only the sum on the left of
+// column x, which lacks their part.
 fn eight_dots_or_level(tables: &Tables, f: Flow, gray: &[u8], x: usize, work: &mut [i16]) -> Flow
     requires { DotsLent gray.now x (x + 8) f work.old × (0 < x) }
     ensures { (old : List ℤ) → RowAt gray.now old x f work.old
         → DotsPassed gray.now old x (x + 8) result work.new }
 {
-    match level_byte(f.right, gray, x, work) {
-        None => dots(tables, f, gray, x, x + 8, work),
+    let end = x + 8;
+    match level_byte(f.right, &gray[x..end], &work[x..end]) {
+        None => dots(tables, f, gray, x, end, work),
         Some(byte) => {
             let begun = f.down / 256 % 256;
-            work[x - 1] = (begun + 24) as i16;
+            work[x - 1] = (begun + NONE_3) as i16;
             Flow {
-                right: 56,
+                right: NONE_7,
                 down: LEVEL_DOWN,
                 stirred: f.stirred,
                 digits: u32::from(byte),
@@ -114,7 +120,7 @@ fn bytes(tables: &Tables, gray: &[u8], work: &mut [i16], out: &mut [u8]) -> Flow
 {
     let last = (gray.len() - 1) / 8;
     let mut f = Flow {
-        right: 56,
+        right: NONE_7,
         down: FIRST_DOWN,
         stirred: 0,
         digits: 0,
@@ -131,7 +137,8 @@ fn bytes(tables: &Tables, gray: &[u8], work: &mut [i16], out: &mut [u8]) -> Flow
     f
 }
 
-// The row's bytes, and what it hands down in place of what was handed to it. Answers whether the row hands down nothing.
+// The row's bytes, and what it hands down in place of what was handed to it. Answers whether the row hands down nothing. No struct has the
+// three slices with their facts: it would be made for each row and taken apart at once, since two of them are written.
 pub(crate) fn dither_row(tables: &Tables, gray: &[u8], work: &mut [i16], out: &mut [u8]) -> bool
     requires { RowLent gray.now work.old (length out.old) }
     ensures { RowDithered gray.now work.old result out.new work.new }
@@ -144,6 +151,6 @@ pub(crate) fn dither_row(tables: &Tables, gray: &[u8], work: &mut [i16], out: &m
     let s = dots(tables, f, gray, x, width, work);
     let padding = (8 - (width - x)) as u32;
     out[last] = (s.digits << padding) as u8;
-    work[end] = (s.down / 256 % 256 + 24) as i16;
+    work[end] = (s.down / 256 % 256 + NONE_3) as i16;
     s.stirred == 0
 }

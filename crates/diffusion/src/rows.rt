@@ -3,12 +3,14 @@ ghost use Rattle.std.specs.Prelude.{◌≡◌, ◌≤◌, length, drop};
 ghost use Rattle.diffusion.specs.Internal.RowByRow.{AllNone, RowGiven, RowBegun, RowNext};
 ghost use Rattle.diffusion.specs.Internal.RowByRow.{PlaneLent, RowsWritten, RowsLeft, PlainRows};
 
+use crate::parts::LEVEL_SUM;
 use crate::row::dither_row;
 use crate::tables::Tables;
+use image::PlaneLayout;
 use rules::plain_row;
 
-// Whether nothing is handed to the row, which `level` says, and it is black and white alone: then it is written.
-// Otherwise the sums that are handed to it stand in the work buffer.
+// Whether nothing is handed to the row, which `level` says, and it is black and white alone: then it is written. No struct of the slices,
+// as in `dither_row`. Otherwise the sums that are handed to it stand in the work buffer.
 fn begin_row(level: bool, gray: &[u8], work: &mut [i16], out: &mut [u8]) -> bool
     requires { RowGiven level gray.now work.old (length out.old) }
     ensures { RowBegun level gray.now work.old result out.new work.new }
@@ -16,11 +18,10 @@ fn begin_row(level: bool, gray: &[u8], work: &mut [i16], out: &mut [u8]) -> bool
     if !level {
         return false;
     }
-    let width = gray.len();
-    if plain_row(width, gray, out) {
+    if plain_row(gray, out) {
         return true;
     }
-    work[..width].fill(72);
+    work[..gray.len()].fill(LEVEL_SUM as i16);
     false
 }
 
@@ -35,46 +36,47 @@ fn next_row(tables: &Tables, level: bool, gray: &[u8], work: &mut [i16], out: &m
     dither_row(tables, gray, work, out)
 }
 
-// The rows of a plane from one on that nothing is handed to. The tables are bound once.
+// The rows of a plane from one on that nothing is handed to. The tables are bound once. Rows are cut by index: for `chunks_exact` the
+// samples and the output would first have to be cut at both ends, to the rows from `first` to the last.
 pub(crate) fn rows_from(
     first: usize,
-    width: usize,
-    height: usize,
+    layout: PlaneLayout,
     gray: &[u8],
     work: &mut [i16],
     out: &mut [u8],
 )
-    requires plane_lent { PlaneLent width height (length gray.now) (length out.old) × (width ≤ length work.old) }
-    requires rows_left { RowsLeft width height gray.now first out.old }
-    ensures rows_written { RowsWritten width height gray.now out.old height out.new }
-    ensures work_unchanged { drop width work.new ≡ drop width work.old }
+    requires plane_lent { PlaneLent layout.width layout.height (length gray.now) (length out.old) × (layout.width ≤ length work.old) }
+    requires rows_left { RowsLeft layout.width layout.height gray.now first out.old }
+    ensures rows_written { RowsWritten layout.width layout.height gray.now out.old layout.height out.new }
+    ensures work_unchanged { drop layout.width work.new ≡ drop layout.width work.old }
 {
     let tables = Tables::new();
-    let row = (width + 7) / 8;
+    let width = layout.width as usize;
     let mut level = true;
-    for y in first..height {
+    for y in first..layout.height as usize {
         let at = y * width;
-        let to = y * row;
+        let to = y * layout.stride;
         level = next_row(
             &tables,
             level,
             &gray[at..at + width],
             work,
-            &mut out[to..to + row],
+            &mut out[to..to + layout.stride],
         );
     }
 }
 
-// How many rows from the top are black and white alone; they are written.
-pub(crate) fn plain_rows(width: usize, height: usize, gray: &[u8], out: &mut [u8]) -> usize
-    requires { PlaneLent width height (length gray.now) (length out.old) }
-    ensures { PlainRows width height gray.now out.old result out.new }
+// How many rows from the top are black and white alone; they are written. Rows are cut by index, as in `rows_from`.
+pub(crate) fn plain_rows(layout: PlaneLayout, gray: &[u8], out: &mut [u8]) -> usize
+    requires { PlaneLent layout.width layout.height (length gray.now) (length out.old) }
+    ensures { PlainRows layout.width layout.height gray.now out.old result out.new }
 {
-    let row = (width + 7) / 8;
+    let width = layout.width as usize;
+    let height = layout.height as usize;
     for y in 0..height {
         let at = y * width;
-        let to = y * row;
-        if !plain_row(width, &gray[at..at + width], &mut out[to..to + row]) {
+        let to = y * layout.stride;
+        if !plain_row(&gray[at..at + width], &mut out[to..to + layout.stride]) {
             return y;
         }
     }

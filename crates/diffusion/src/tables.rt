@@ -74,7 +74,8 @@ const DOWN: [u32; 512] = [
     1068591, 1068591, 1068847, 1068847, 1068848, 1069104, 1069104,
 ];
 
-// By a dot's value, plus 128, what it hands on to the right and down.
+// By a dot's value, plus 128, what it hands on to the right and down. A parameter of the functions of rows and dots: as methods of the
+// tables, which they only read, they would be no shorter.
 #[derive(Drop)]
 pub(crate) struct Tables {
     pub(crate) rights: [u8; 512],

@@ -9,13 +9,13 @@ use native.Mathlib.Omega.{arith}
 use lib.IntN.{ℤ, sub_ℕ}
 use lib.ListN.{length, get_or, take, set, length-set}
 use lib.Seq.{take_all, take-suc-set}
-use Rattle.dither.specs.declared.row.Neighbours.{Neighbours}
-use Rattle.dither.specs.declared.row.DitheredByte.{DitheredByte}
+use Rattle.dither.specs.declared.dots.Neighbours.{Neighbours}
+use Rattle.dither.specs.declared.dots.DitheredDots.{DitheredDots}
 use Rattle.rules.specs.Bits.{bit}
 use Rattle.rules.specs.Rule.{Rule, dither}
 use Rattle.dither.specs.Internal.Carry.{Carry, corner_of, value_of, diffused, machine_dot, next}
-use Rattle.dither.specs.Internal.Kernels.{row_carry, row_bit, carry_of, Dots}
-use Rattle.dither.specs.Internal.Row.{Near, Diffused, Bytes}
+use Rattle.dither.specs.Internal.Kernels.{Near, Diffused, row_carry, row_bit, carry_of, Dots}
+use Rattle.dither.specs.Internal.Row.{Bytes}
 use Rattle.rules.proofs.DigitsAppended.{appended-ext}
 use Rattle.rules.proofs.ListPiece.{piece, piece-length}
 use Rattle.dither.proofs.DitherDotsLoop.{dots-small}
@@ -42,7 +42,7 @@ module _ (w y x : ℕ) (gray : List ℕ) (work : List ℤ) (a b : ℕ) (same : c
   bit-same zero = rw first
   bit-same (suc i) = ap (λ (c : Carry). bit (machine_dot dither w y (x + suc i) (get_or gray (suc i) 0) c)) (carry_same i)
 
-  pub dots-corner : (begun dots corner : ℕ) (work' : List ℤ) → 0 < length gray → Dots dither w y x gray begun a work dots corner work'
+  dots-corner : (begun dots corner : ℕ) (work' : List ℤ) → 0 < length gray → Dots dither w y x gray begun a work dots corner work'
       → Dots dither w y x gray begun b work dots corner work'
   dots-corner begun dots corner work' h d =
       record {
@@ -63,6 +63,15 @@ pub near-own : (w y x corner : ℕ) (work : List ℤ) (n : Neighbours) → Near 
 near-own w y zero corner work n h = record { left_is = h.left_is; corner_is = h.corner_is; above_is = h.above_is }
 near-own w y (suc x) corner work n h =
     record { left_is = h.left_is; corner_is = record { is = refl; small = h.corner_is.small }; above_is = h.above_is }
+
+-- dots from the residuals at hand are those from the corner that these stand for
+pub dots-near : (w y x : ℕ) (gray : List ℕ) (begun corner : ℕ) (work : List ℤ) (n : Neighbours) (r : DitheredDots) (work' : List ℤ)
+    → Near w y x corner work n → Diffused w y x gray begun n.corner work r work' → 0 < length gray
+    → Dots dither w y x gray begun corner work r.digits r.next.corner work'
+dots-near w y x gray begun corner work n r work' h d some =
+    let same : corner_of (sub_ℕ n.corner 128) x ≡ corner_of (sub_ℕ corner 128) x =
+    (near-own w y x corner work n h).corner_is.is ∙ sym h.corner_is.is in
+    dots-corner w y x gray work n.corner corner same begun r.digits r.next.corner work' some d.dots
 
 module _ (w y x : ℕ) (samples : List ℕ) (corner : ℕ) (work₀ : List ℤ) (count : ℕ) where
   -- after k bytes
@@ -90,7 +99,7 @@ module _ (w y x : ℕ) (samples : List ℕ) (corner : ℕ) (work₀ : List ℤ) 
 
   module _ (out : List ℕ) (work : List ℤ) (n : Neighbours) (k : ℕ) (C : Chain out work n k) (more : k < count)
       (there : 8 * k + 8 ≤ length samples)
-      (r : DitheredByte) (work' : List ℤ) (d : Diffused w y (x + 8 * k) (piece samples (8 * k) 8) n.corner work r work') where
+      (r : DitheredDots) (work' : List ℤ) (d : Diffused w y (x + 8 * k) (piece samples (8 * k) 8) 0 n.corner work r work') where
     piece-long : length (piece samples (8 * k) 8) ≡ 8
     piece-long = piece-length samples (8 * k) 8 there
 
@@ -98,9 +107,6 @@ module _ (w y x : ℕ) (samples : List ℕ) (corner : ℕ) (work₀ : List ℤ) 
     byte_small =
         dots-small dither w y (x + 8 * k) (piece samples (8 * k) 8) 0 n.corner work r.digits r.next.corner work' 0 8 d.dots
         (omega arith) piece-long
-
-    same : corner_of (sub_ℕ n.corner 128) (x + 8 * k) ≡ corner_of (sub_ℕ C.last 128) (x + 8 * k)
-    same = (near-own w y (x + 8 * k) C.last work n C.near).corner_is.is ∙ sym C.near.corner_is.is
 
     work-long : length work' ≡ length work
     work-long =
@@ -124,8 +130,8 @@ module _ (w y x : ℕ) (samples : List ℕ) (corner : ℕ) (work₀ : List ℤ) 
                 byte = r.digits;
                 before = C.bytes;
                 dots =
-                    dots-corner w y (x + 8 * k) (piece samples (8 * k) 8) work n.corner C.last same 0 r.digits r.next.corner
-                    work' (omega (arith, piece-long)) d.dots;
+                    dots-near w y (x + 8 * k) (piece samples (8 * k) 8) 0 C.last work n r work' C.near d
+                    (omega (arith, piece-long));
                 more = take-suc-set out k r.digits (omega (arith, C.out_long));
               });
           near = subst (λ (i : ℕ). Near w y i r.next.corner work' r.next) e

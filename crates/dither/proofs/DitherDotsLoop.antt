@@ -14,8 +14,7 @@ use Rattle.rules.specs.Diffusion.{to_right, value, white, residual}
 use Rattle.rules.specs.Rule.{Rule, dither}
 use Rattle.dither.specs.Internal.Carry.{Carry, clamp, left_of, corner_of, over_of, value_of, diffused, machine_dot, next}
 use Rattle.rules.specs.Internal.Held.{Biased, DotMade}
-use Rattle.dither.specs.Internal.Kernels.{row_carry, row_bit, carry_of, Dots}
-use Rattle.dither.specs.Internal.Row.{Near}
+use Rattle.dither.specs.Internal.Kernels.{Near, row_carry, row_bit, carry_of, Dots}
 use Rattle.dither.proofs.HeldRange.{within, clamp-same}
 use Rattle.dither.proofs.CarryRead.{left_at, corner-at, over-set, kept-zero}
 use Rattle.rules.proofs.Differences.{stepped-residual-free}

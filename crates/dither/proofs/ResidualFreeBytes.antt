@@ -1,6 +1,6 @@
 -- Black and white samples to which nothing is handed: dithering's bytes are those of the threshold 128, and it keeps what it found.
 -- Assumes nothing.
-use Prim.Native.Nat.{ℕ, zero, suc, ◌+◌, ◌*◌, ◌/◌, ◌%◌, ◌≤◌, ◌<◌}
+use Prim.Native.Nat.{ℕ, zero, suc, ◌+◌, ◌-◌, ◌*◌, ◌/◌, ◌%◌, ◌≤◌, ◌<◌}
 use mathlib.Core.Path.{◌≡◌, refl, sym, ap, ◌∙◌, subst}
 use mathlib.Core.List.{List}
 use mathlib.Core.Logic.{⊎_elim}
@@ -9,16 +9,17 @@ use native.Mathlib.Numerals.{add-one}
 use native.Mathlib.Omega.{arith}
 use borrow.Author.Tests.{le-leb, lt-leb}
 use lib.Dec.{leb}
-use lib.IntN.{ℤ, sub_ℕ}
-use lib.ListN.{length, get_or}
-use Rattle.dither.specs.declared.row.Neighbours.{Neighbours}
+use lib.IntN.{ℤ, pos, sub_ℕ}
+use lib.ListN.{length, get_or, take, drop, length-take, length-drop}
+use lib.Seq.{get_or-take, get_or-drop}
+use Rattle.dither.specs.declared.dots.Neighbours.{Neighbours}
 use Rattle.rules.specs.Bits.{bit, digits, appended, upto}
 use Rattle.rules.specs.Rule.{dither}
 use Rattle.dither.specs.Internal.Carry.{left_of, corner_of, over_of}
 use Rattle.rules.specs.Internal.Held.{Biased}
 use Rattle.rules.specs.Internal.Kernels.{threshold_from, threshold_bytes}
-use Rattle.dither.specs.Internal.Kernels.{Dots}
-use Rattle.dither.specs.Internal.Row.{Near, ResidualFree, Bytes}
+use Rattle.dither.specs.Internal.Kernels.{Near, Dots}
+use Rattle.dither.specs.Internal.Row.{ResidualFree, Bytes}
 use Rattle.laws.proofs.Tests.{lt-or-le}
 use Rattle.rules.proofs.ListPiece.{piece, piece-length, piece-at}
 use Rattle.dither.proofs.CarryRead.{left_at, over-in}
@@ -60,7 +61,20 @@ module _ (w y x corner : ℕ) (samples : List ℕ) (from : ℕ) (work : List ℤ
 module _ (w y x corner : ℕ) (samples : List ℕ) (count : ℕ) (work : List ℤ) (n : Neighbours) (there : 8 * count ≤ length samples)
     (in_row : x + 8 * count < w) (room : w ≤ length work)
     (octets : (i : ℕ) → get_or samples i 0 < 256) (left_is : Biased (left_of work x) n.left)
-    (corner_is : Biased (corner_of (sub_ℕ corner 128) x) n.corner) (residual-free : ResidualFree y x samples (8 * count) n work) where
+    (corner_is : Biased (corner_of (sub_ℕ corner 128) x) n.corner)
+    (residual-free : ResidualFree y n (take (8 * count) samples) (take (x + 8 * count + 1 - x) (drop x work))) where
+  clear : (i : ℕ) → i ≤ 8 * count → get_or work (x + i) (pos 0) ≡ pos 0
+  clear i h =
+      sym (get_or-take (x + 8 * count + 1 - x) (drop x work) i (pos 0) (omega arith) ∙ get_or-drop x work i (pos 0))
+      ∙ residual-free.clear i (omega (arith, length-take (x + 8 * count + 1 - x) (drop x work), length-drop x work))
+
+  plain : (i : ℕ) → i < 8 * count → get_or samples i 0 % 255 ≡ 0
+  plain i h =
+      let e : 0 + i ≡ i = omega arith in
+      subst (λ (j : ℕ). get_or samples j 0 % 255 ≡ 0) e
+      (ap (λ (n : ℕ). n % 255) (sym (get_or-take (8 * count) samples (0 + i) 0 (omega arith)))
+      ∙ residual-free.plain i (omega (arith, length-take (8 * count) samples)))
+
   -- the corner after so many bytes
   abbrev after : ℕ → ℕ
   after zero = corner
@@ -70,7 +84,7 @@ module _ (w y x corner : ℕ) (samples : List ℕ) (count : ℕ) (work : List �
   zeros = record { left = 128; corner = 128; above = 128 }
 
   over : (i : ℕ) → i ≤ 8 * count → Biased (over_of w y work (x + i)) 128
-  over i h = rw (over-in w work y (x + i) residual-free.below (omega arith), residual-free.clear i (omega arith)) biased-zero
+  over i h = rw (over-in w work y (x + i) residual-free.below (omega arith), clear i h) biased-zero
 
   near : (k : ℕ) → k < count → Near w y (x + 8 * k) (after k) work zeros
   near zero h =
@@ -83,7 +97,7 @@ module _ (w y x corner : ℕ) (samples : List ℕ) (count : ℕ) (work : List �
       let i = 8 * k + 7 in
       let e : x + 8 * suc k ≡ x + i + 1 = omega arith in
       record {
-        left_is = rw (left_at work (x + 8 * suc k) (x + i) e, residual-free.clear i (omega arith)) biased-zero;
+        left_is = rw (left_at work (x + 8 * suc k) (x + i) e, clear i (omega arith)) biased-zero;
         corner_is = corner-on 128 (x + 8 * suc k) 128 (omega arith) (omega arith) refl;
         above_is = over (8 * suc k) (omega arith);
       }
@@ -100,7 +114,7 @@ module _ (w y x corner : ℕ) (samples : List ℕ) (count : ℕ) (work : List �
         before = residual-free-bytes k (omega arith);
         dots =
             residual-free-byte w y (x + 8 * k) (after k) samples (8 * k) work (omega arith) residual-free.below (omega arith) room octets
-            (λ i l. let e : 8 * k + i ≡ 0 + (8 * k + i) = omega arith in rw e (residual-free.plain (8 * k + i) (omega arith)))
+            (λ i l. plain (8 * k + i) (omega arith))
             (near k (omega arith))
             (λ i l. let e : x + 8 * k + i ≡ x + (8 * k + i) = omega arith in rw e (over (8 * k + i) (omega arith)));
         more = refl;

@@ -5,5 +5,5 @@ mod dots;
 mod entry;
 mod row;
 
-pub use dots::RowDots;
-pub use entry::{dither_row_bytes, dither_row_dots};
+pub use dots::RowStart;
+pub use entry::{RowDots, dither_row_bytes, dither_row_dots};

@@ -19,7 +19,7 @@ use Rattle.encode_session.proofs.OutcomeCases.{close-shut, close-early, close-wh
 module _ (s : EncodeSession) where
   -- a call that the machine refuses too
   idle-close : (kind : Refusal) → ((m : Model) → Stands s m → outcome m close ≡ unaltered m (number kind) [])
-      → (e : WbmpError) → e ≡ record { kind = kind; offset = 0 } → Closes s (record { session = s; answer = Err e })
+      → (e : WbmpError) → e ≡ record { kind = kind; offset = 0 } → Closes s (Err e) s
   idle-close kind idle e f =
       record {
         refused = λ code place e. refl;
@@ -29,7 +29,7 @@ module _ (s : EncodeSession) where
       }
 
   pub closes-shut : (e : WbmpError) → e ≡ record { kind = SessionClosed; offset = 0 } → s.live ≡ false
-      → Closes s (record { session = s; answer = Err e })
+      → Closes s (Err e) s
   closes-shut e f l = idle-close SessionClosed (λ m t. close-shut m (sym t.live ∙ l)) e f
 
   module _ (l : s.live ≡ true) (b : Bool) (tells : b ≡ behind_frames s.quantizer 16) where
@@ -37,13 +37,13 @@ module _ (s : EncodeSession) where
     whole_is m t = sym (tells ∙ frames-behind s.quantizer (setting_of m.opening) (length m.samples) (t.place (sym t.live ∙ l)))
 
     pub closes-early : (e : WbmpError) → e ≡ record { kind = GrayTooShort; offset = 0 } → b ≡ false
-        → Closes s (record { session = s; answer = Err e })
+        → Closes s (Err e) s
     closes-early e f h = idle-close GrayTooShort (λ m t. close-early m (sym t.live ∙ l) (whole_is m t ∙ h)) e f
 
     abbrev closed-session : EncodeSession
     closed-session = record { quantizer = s.quantizer; live = false }
 
-    pub closes-whole : b ≡ true → Closes s (record { session = closed-session; answer = Ok tt })
+    pub closes-whole : b ≡ true → Closes s (Ok tt) closed-session
     closes-whole e =
         record {
           refused = λ code place f. cc;

@@ -15,7 +15,7 @@ use Rattle.error.specs.declared.Refusal.{Refusal}
 use Rattle.error.specs.declared.Refusal.TheVariants.{BufferTooShort, SessionClosed}
 use Rattle.error.specs.declared.WbmpError.{WbmpError}
 use Rattle.laws.proofs.Tests.{if-true}
-use Rattle.quantize.specs.declared.engine.RunEnded.{RunEnded}
+use Rattle.quantize.specs.declared.engine.Quantizer.{Quantizer}
 use Rattle.quantize.specs.Internal.Engine.{room_for, Counts, Runs, QuantizerAt, QuantizerAfter}
 use Rattle.quantize.specs.Finished.{newly}
 use Rattle.quantize.proofs.FramesDone.{frames-done, room-behind}
@@ -33,7 +33,7 @@ served-is s m work b t l tells = sym (tells ∙ room-behind s.quantizer (setting
 module _ (s : EncodeSession) (xs out : List ℕ) (work : List ℤ) where
   -- a call that the machine refuses too
   idle-feed : (kind : Refusal) → ((m : Model) → Stands s m → outcome m (feed xs out (length work)) ≡ unaltered m (number kind) out)
-      → (e : WbmpError) → e ≡ record { kind = kind; offset = 0 } → Feeds s xs out work (record { session = s; answer = Err e }) out work
+      → (e : WbmpError) → e ≡ record { kind = kind; offset = 0 } → Feeds s xs out work (Err e) s out work
   idle-feed kind idle e f =
       record {
         refused = λ code place e. (refl, (refl, refl));
@@ -44,12 +44,12 @@ module _ (s : EncodeSession) (xs out : List ℕ) (work : List ℤ) where
       }
 
   pub feeds-shut : (e : WbmpError) → e ≡ record { kind = SessionClosed; offset = 0 } → s.live ≡ false
-      → Feeds s xs out work (record { session = s; answer = Err e }) out work
+      → Feeds s xs out work (Err e) s out work
   feeds-shut e f l = idle-feed SessionClosed (λ m t. feed-shut m xs out (length work) (sym t.live ∙ l)) e f
 
   pub feeds-short : (e : WbmpError) → e ≡ record { kind = BufferTooShort; offset = 0 } → s.live ≡ true
       → (b : Bool) → b ≡ room_for s.quantizer (length work) → b ≡ false
-      → Feeds s xs out work (record { session = s; answer = Err e }) out work
+      → Feeds s xs out work (Err e) s out work
   feeds-short e f l b tells h =
       idle-feed BufferTooShort
       (λ m t. let o = sym t.live ∙ l in feed-short m xs out (length work) o (served-is s m (length work) b t o tells ∙ h)) e f
@@ -58,9 +58,9 @@ module _ (s : EncodeSession) (xs out : List ℕ) (work : List ℤ) where
 
 module _ (s : EncodeSession) (xs out : List ℕ) (work : List ℤ) (l : s.live ≡ true) (b : Bool)
     (tells : b ≡ room_for s.quantizer (length work)) (e : b ≡ true)
-    (r : RunEnded) (out' : List ℕ) (work' : List ℤ) (R : Runs s.quantizer xs out work r out' work') where
+    (q' : Quantizer) (r : Fed) (out' : List ℕ) (work' : List ℤ) (R : Runs s.quantizer xs out work q' r out' work') where
   abbrev next : EncodeSession
-  next = record s { quantizer = r.quantizer }
+  next = record s { quantizer = q' }
 
   module _ (m : Model) (t : Stands s m) where
     abbrev n : ℕ
@@ -69,7 +69,7 @@ module _ (s : EncodeSession) (xs out : List ℕ) (work : List ℤ) (l : s.live �
     open_is : m.live ≡ true
     open_is = sym t.live ∙ l
 
-    C : Counts s.quantizer (setting_of m.opening) n (length xs) (length out) (length work) r
+    C : Counts (setting_of m.opening) n (length xs) (length out) (length work) q' r
     C = R.counts (setting_of m.opening) n (t.place open_is)
 
     served : serves m.opening (length work) ≡ true
@@ -97,18 +97,17 @@ module _ (s : EncodeSession) (xs out : List ℕ) (work : List ℤ) (l : s.live �
 
     stands : Stands next (record { opening = m.opening; live = true; samples = m.samples ++ taken m xs (length out) })
     stands =
-        let a : QuantizerAt r.quantizer (setting_of m.opening) (length (m.samples ++ taken m xs (length out))) =
+        let a : QuantizerAt q' (setting_of m.opening) (length (m.samples ++ taken m xs (length out))) =
         rw joined-long C.stands in
         record { live = l; left = frames-done _ _ _ _ _ a.at; place = λ _. a }
 
-  pub feeds-ran : Feeds s xs out work (record { session = next; answer = Ok (record { taken = r.taken; written = r.written }) }) out' work'
+  pub feeds-ran : Feeds s xs out work (Ok r) next out' work'
   feeds-ran =
       record {
         refused = λ code place f. cc;
         runs = λ n k f.
-            let q : ◌≡◌ {A = Fed} (record { taken = r.taken; written = r.written }) (record { taken = n; written = k }) = cc in
-            subst (λ (x : Fed). Runs s.quantizer xs out work (record { quantizer = r.quantizer; taken = x.taken; written = x.written })
-            out' work') q R;
+            let e : ◌≡◌ {A = Fed} r (record { taken = n; written = k }) = cc in
+            subst (λ (x : Fed). Runs s.quantizer xs out work q' x out' work') e R;
         counts = λ m t.
             subst (λ (x : Outcome). (gives (took r.taken r.written) ≡ x.reply.answer) × Stands next x.next)
             (sym (feed-busy m xs out (length work) (open_is m t) (served m t)))
@@ -125,9 +124,9 @@ module _ (s : EncodeSession) (xs out : List ℕ) (work : List ℤ) (l : s.live �
           → gives (took r.taken r.written) ≡ gives (took (length (taken m xs (length out))) (length (written m xs (length out))))
       told m t = rw (taken-long m t, written-long m t)
 
-      kept : (m : Model) (t : Stands s m) → QuantizerAfter r.quantizer work' (setting_of m.opening) (m.samples ++ take r.taken xs)
-          → QuantizerAfter r.quantizer work' (setting_of m.opening) (m.samples ++ taken m xs (length out))
-      kept m t k = subst (λ (y : List ℕ). QuantizerAfter r.quantizer work' (setting_of m.opening) (m.samples ++ y))
+      kept : (m : Model) (t : Stands s m) → QuantizerAfter q' work' (setting_of m.opening) (m.samples ++ take r.taken xs)
+          → QuantizerAfter q' work' (setting_of m.opening) (m.samples ++ taken m xs (length out))
+      kept m t k = subst (λ (y : List ℕ). QuantizerAfter q' work' (setting_of m.opening) (m.samples ++ y))
           (sym (taken_is m t)) k
 
       bytes-are : (m : Model) (t : Stands s m)

@@ -28,11 +28,11 @@ lists-from m h (fed {xs = xs} {out = out} {work = work} f t) =
     let d = f.does m h in
     let n = lists-from (outcome m (feed xs out (length work))).next d.1 t in
     (one_more (f.counts m h.stands).0 d.0 n.0, n.1)
-lists-from m h (refused {s = s} {xs = xs} {out = out} {work = work} {any = any} {r = r} {code = code} {place = place} f e t) =
+lists-from m h (refused {s = s} {next = next} {xs = xs} {out = out} {work = work} {any = any} {code = code} {place = place} f e t) =
     let c = f.counts m h.stands in
     let q = f.refused code place e in
     let i = feed-refused m xs out (length any) code place (sym c.0 ∙ e) in
-    let k : Holds r.session work (outcome m (feed xs out (length any))).next =
+    let k : Holds next work (outcome m (feed xs out (length any))).next =
     subst (λ (z : EncodeSession). Holds z work (outcome m (feed xs out (length any))).next) (sym q.0)
     (subst (λ (z : Model). Holds s work z) (sym i.1) h) in
     let n = lists-from (outcome m (feed xs out (length any))).next k t in

@@ -11,19 +11,17 @@ use native.Mathlib.Omega.{arith}
 use borrow.Author.Tests.{le-leb, ne_eqb, eqb-false}
 use lib.Dec.{eqb}
 use lib.IntN.{ℤ}
-use lib.ListN.{length}
 use Rattle.error.specs.Choice.{if}
-use Rattle.error.specs.Answer.{Answer, gives, refuses, refusal, written}
+use Rattle.error.specs.Answer.{Answer, gives, refuses, refusal, bind, written}
 use Rattle.error.specs.Emits.{Emits, emitted}
-use Rattle.ext_write.specs.Internal.Left.{Left, none_left}
-use Rattle.ext_write.specs.declared.PairsBegun.{PairsBegun}
-use Rattle.laws.proofs.Tests.{if-true, if-false}
+use Rattle.laws.proofs.Tests.{if-false}
 use Rattle.header.specs.Write.{ext_header}
 use Rattle.quantize.specs.declared.engine.Quantizer.{Quantizer}
+use Rattle.quantize.proofs.RuleChecked.{rule_checked, checked-first}
 use Rattle.rules.specs.Rule.{Rule, threshold, dither, ordered, enough_work, known_rule}
 use Rattle.rules.proofs.RuleAsked.{asked-if, known-named}
 use Rattle.quantize.specs.Internal.Engine.{NewQuantizer, QuantizerAfter}
-use Rattle.encode_session.specs.declared.EncodeOpened.{EncodeOpened}
+use Rattle.encode_session.specs.declared.EncodeSession.{EncodeSession}
 use Rattle.encode_session.specs.Model.{Opening, setting_of, serves, header, opened}
 use Rattle.encode_session.specs.Session.{Opens}
 
@@ -70,21 +68,12 @@ module _ (a : Opening) (work : ℕ) where
     no-height e = rw (ne_eqb a.width 0 pw, e)
 
     module _ (ph : a.height ≡ 0 → ⊥) where
-      pub unknown : known_rule a.options.quantize ≡ false → header a work ≡ refuses 29 0
+      pub tested : (r : Answer (Unit {0})) → r ≡ rule_checked a.options.quantize a.width work → header a work ≡ bind r (λ _. fields)
       unfolding header
-      unknown e = rw (ne_eqb a.width 0 pw, ne_eqb a.height 0 ph, e)
-
-      module _ (known : known_rule a.options.quantize ≡ true) where
-        known_is : header a work ≡ if (serves a work) fields (refuses 28 0)
-        known_is =
-            let sized : (eqb a.width 0 || eqb a.height 0) ≡ false = rw (ne_eqb a.width 0 pw, ne_eqb a.height 0 ph) in
-            header_is ∙ if-false _ _ _ sized ∙ if-true _ _ _ known
-
-        pub short : serves a work ≡ false → header a work ≡ refuses 28 0
-        short e = known_is ∙ if-false _ _ _ e
-
-        pub tested : serves a work ≡ true → header a work ≡ fields
-        tested e = known_is ∙ if-true _ _ _ e
+      tested r e =
+          let sized : (eqb a.width 0 || eqb a.height 0) ≡ false = rw (ne_eqb a.width 0 pw, ne_eqb a.height 0 ph) in
+          if-false _ _ _ sized ∙ checked-first a.options.quantize a.width work fields
+          ∙ ap (λ (x : Answer (Unit {0})). bind x (λ _. fields)) (sym e)
 
   -- where a header is given, all tests passed
   pub record Passed (bytes : List ℕ) : Type 0 where
@@ -116,24 +105,14 @@ module _ (a : Opening) (work : ℕ) where
             headed = z;
           }
 
-  -- a refusal by the tests leaves no pairs to put
-  pub left-no : (e : WbmpError) → header a work ≡ refusal e → (out : List ℕ)
-      → Left a.options.strict a.text a.lengths out (record { to = length out; answer = Err e }) (Emits (header a work) (refusal e) out)
-  left-no e h out =
-      none_left refl
-      (subst (λ (x : Answer (List ℕ)). Emits x (refusal e) out out) (sym h) (record { answer = refl; bytes = refl }))
-
-  -- the header's own answer
-  pub left_as : header a work ≡ fields → (b : PairsBegun) (old new : List ℕ)
-      → Left a.options.strict a.text a.lengths new b (Emits fields (written b.answer) old)
-      → Left a.options.strict a.text a.lengths new b (Emits (header a work) (written b.answer) old)
-  left_as e b old new h =
-      subst (λ (x : Answer (List ℕ)). Left a.options.strict a.text a.lengths new b (Emits x (written b.answer) old)) (sym e) h
+  -- a refusal by the tests writes nothing
+  pub untested : (e : WbmpError) → header a work ≡ refusal e → (out : List ℕ) → Emits (header a work) (refusal e) out out
+  untested e h out = subst (λ (x : Answer (List ℕ)). Emits x (refusal e) out out) (sym h) (record { answer = refl; bytes = refl })
 
   pub opens : (q : Quantizer) (live : Bool) (r : Result ℕ WbmpError) (old new : List ℕ)
       → NewQuantizer a.options.quantize a.width a.height 16 q → live ≡ is_ok r
       → Emits (header a work) (written r) old new
-      → Opens a work (record { session = record { quantizer = q; live = live }; answer = r }) old new
+      → Opens a work (record { quantizer = q; live = live }) r old new
   opens q live r old new o l h =
       record {
         emits = h;
@@ -156,9 +135,9 @@ module _ (a : Opening) (work : ℕ) where
           o.holds (setting_of a).rule (known-named a.options.quantize p.known) p.wide p.high any
 
 -- an accepted opening had a header to write
-pub accepted : {a : Opening} {work : ℕ} {r : EncodeOpened} {old new : List ℕ} → Opens a work r old new → (n : ℕ)
-    → written r.answer ≡ gives n
+pub accepted : {a : Opening} {work : ℕ} {s : EncodeSession} {r : Result ℕ WbmpError} {old new : List ℕ} → Opens a work s r old new
+    → (n : ℕ) → written r ≡ gives n
     → (bytes : List ℕ) × Passed a work bytes
-accepted {a} {work} {r} {old} o n e =
+accepted {a} {work} {old = old} o n e =
     let b = headed-by n old (header a work) (sym e ∙ o.emits.answer) in
     (b.0, passed a work b.0 b.1)

@@ -6,11 +6,12 @@ use mathlib.Core.Bool.{false}
 use mathlib.Core.List.{List, ◌++◌}
 use lib.IntN.{ℤ}
 use lib.ListN.{length}
+use Rattle.std.proofs.Common.{Result}
 use Rattle.error.specs.Answer.{gives, written}
+use Rattle.error.specs.declared.WbmpError.{WbmpError}
 use Rattle.quantize.specs.Finished.{finished}
 use Rattle.quantize.proofs.FinishedGrows.{finished-none}
 use Rattle.encode_session.specs.declared.EncodeSession.{EncodeSession}
-use Rattle.encode_session.specs.declared.EncodeOpened.{EncodeOpened}
 use Rattle.encode_session.specs.Model.{Opening, setting_of, opened, Call, Reply, replies, finally}
 use Rattle.encode_session.specs.Session.{Stands, Opens}
 use Rattle.encode_session.specs.Trace.{Trace, joined}
@@ -19,12 +20,12 @@ use Rattle.encode_session.proofs.Lists.{lists-from}
 use Rattle.encode_session.proofs.ModelReached.{reached-start, reached, Frames, whole-frames}
 use Rattle.encode_session.proofs.BytesJoined.{joined-from}
 
-module _ {a : Opening} {room : ℕ} {r : EncodeOpened} {old new : List ℕ} (o : Opens a room r old new) (n : ℕ)
-    (e : written r.answer ≡ gives n) where
+module _ {a : Opening} {room : ℕ} {opened-as : EncodeSession} {r : Result ℕ WbmpError} {old new : List ℕ}
+    (o : Opens a room opened-as r old new) (n : ℕ) (e : written r ≡ gives n) where
   passed : Passed a room (accepted o n e).0
   passed = (accepted o n e).1
 
-  module _ {s : EncodeSession} {work : List ℤ} {cs : List Call} {rs : List Reply} (t : Trace r.session work cs rs s) where
+  module _ {s : EncodeSession} {work : List ℤ} {cs : List Call} {rs : List Reply} (t : Trace opened-as work cs rs s) where
     -- the replies are the plain machine's, and the session stands for what it becomes
     pub lists : (rs ≡ replies (opened a) cs) × Stands s (finally (opened a) cs)
     lists = lists-from (opened a) (o.holds n e work) t

@@ -3,8 +3,6 @@ use Rattle.std.specs.Prelude.{ℕ, ◌+◌, ◌≡◌, Bool, true, not, List, �
 use Rattle.error.specs.declared.WbmpError.{WbmpError}
 use Rattle.error.specs.Answer.{Answer, gives, refuses, refusal, bind, checked, written as meant_written}
 use Rattle.error.specs.Emits.{Emits}
-use Rattle.ext_write.specs.Internal.Left.{Left, ChecksPairs}
-use Rattle.ext_write.specs.declared.PairsBegun.{PairsBegun}
 use Rattle.header.specs.Write.{ext_header}
 use Rattle.options.specs.Defaults.{made_frames}
 use Rattle.options.specs.declared.EncodeOptions.{EncodeOptions}
@@ -12,10 +10,7 @@ use Rattle.quantize.specs.Internal.Engine.{Runs, QuantizerAt, QuantizerAfter}
 use Rattle.encode_session.specs.Model.{Opening, opening, setting_of, header, Model, opened, frames_done, shut, feed, close, Told, took}
 use Rattle.encode_session.specs.Model.{closed, outcome}
 use Rattle.encode_session.specs.declared.EncodeSession.{EncodeSession}
-use Rattle.encode_session.specs.declared.EncodeOpened.{EncodeOpened}
 use Rattle.error.specs.declared.Fed.{Fed}
-use Rattle.encode_session.specs.declared.EncodeFed.{EncodeFed}
-use Rattle.encode_session.specs.declared.EncodeClosed.{EncodeClosed}
 
 -- what the code's answers mean
 abbrev pub fed_meaning : Result Fed WbmpError → Answer Told
@@ -41,10 +36,10 @@ pub record Holds (s : EncodeSession) (work : List ℤ) (m : Model) : Type 0 wher
 
 -- Opening: the header is written; whatever a work buffer holds, the session then stands for the opened model. A session whose opening is
 -- refused stands for the closed one.
-pub record Opens (a : Opening) (work : ℕ) (r : EncodeOpened) (old new : List ℕ) : Type 0 where
-  pub emits : Emits (header a work) (meant_written r.answer) old new
-  pub holds : (n : ℕ) → meant_written r.answer ≡ gives n → (any : List ℤ) → Holds r.session any (opened a)
-  pub refused : (code place : ℕ) → meant_written r.answer ≡ refuses code place → (any : List ℤ) → Holds r.session any (shut (opened a))
+pub record Opens (a : Opening) (work : ℕ) (s : EncodeSession) (r : Result ℕ WbmpError) (old new : List ℕ) : Type 0 where
+  pub emits : Emits (header a work) (meant_written r) old new
+  pub holds : (n : ℕ) → meant_written r ≡ gives n → (any : List ℤ) → Holds s any (opened a)
+  pub refused : (code place : ℕ) → meant_written r ≡ refuses code place → (any : List ℤ) → Holds s any (shut (opened a))
 
 -- The tests of opening: behind them the header is that of its fields.
 abbrev pub ChecksOpening : EncodeOptions → ℕ → ℕ → ℕ → Result (Unit {0}) WbmpError → Type 0
@@ -52,38 +47,26 @@ ChecksOpening o width height work r =
     (text lengths : List ℕ)
     → header (opening o width height text lengths) work ≡ bind (checked r) (λ _. ext_header o.strict width height o.ext text lengths)
 
--- Opening begun: all but the pairs of the header is written, and what is left of them is named. `found` is the answer of the pairs' check.
-abbrev pub BeginsOpening : EncodeOptions → ℕ → ℕ → List ℕ → Result ℕ WbmpError → ℕ → List ℕ → List ℕ → PairsBegun → Type 0
-BeginsOpening o width height text found work old new b =
-    (lengths : List ℕ) → ChecksPairs o.strict text lengths found
-    → Left o.strict text lengths new b (Emits (header (opening o width height text lengths) work) (meant_written b.answer) old)
-
--- What opening hands back, by its answer: where that is a header's, it is an opening.
-abbrev pub OpensBy : EncodeOptions → ℕ → ℕ → Result ℕ WbmpError → EncodeOpened → Type 0
-OpensBy o width height answer r =
-    (text lengths : List ℕ) (work : ℕ) (old new : List ℕ)
-    → Emits (header (opening o width height text lengths) work) (meant_written answer) old new
-    → Opens (opening o width height text lengths) work r old new
-
 -- Feeding. Answers and counts are the model's whatever the work buffer holds; the bytes are too where it is as the last call left it. What
 -- the engine does with other numbers is its own contract, `Runs`: one outside -128..128 counts as the nearer end.
-pub record Feeds (s : EncodeSession) (xs out : List ℕ) (work : List ℤ) (r : EncodeFed) (out' : List ℕ) (work' : List ℤ) : Type 0 where
-  pub refused : (code place : ℕ) → fed_meaning r.answer ≡ refuses code place → (r.session ≡ s) × ((out' ≡ out) × (work' ≡ work))
-  pub runs : (n b : ℕ) → r.answer ≡ Ok (record { taken = n; written = b })
-      → Runs s.quantizer xs out work (record { quantizer = r.session.quantizer; taken = n; written = b }) out' work'
+pub record Feeds (s : EncodeSession) (xs out : List ℕ) (work : List ℤ) (r : Result Fed WbmpError) (s' : EncodeSession) (out' : List ℕ)
+    (work' : List ℤ) : Type 0 where
+  pub refused : (code place : ℕ) → fed_meaning r ≡ refuses code place → (s' ≡ s) × ((out' ≡ out) × (work' ≡ work))
+  pub runs : (n b : ℕ) → r ≡ Ok (record { taken = n; written = b })
+      → Runs s.quantizer xs out work s'.quantizer (record { taken = n; written = b }) out' work'
   pub counts : (m : Model) → Stands s m
-      → (fed_meaning r.answer ≡ (outcome m (feed xs out (length work))).reply.answer)
-      × Stands r.session (outcome m (feed xs out (length work))).next
+      → (fed_meaning r ≡ (outcome m (feed xs out (length work))).reply.answer)
+      × Stands s' (outcome m (feed xs out (length work))).next
   pub does : (m : Model) → Holds s work m
       → (out' ≡ (outcome m (feed xs out (length work))).reply.output)
-      × Holds r.session work' (outcome m (feed xs out (length work))).next
+      × Holds s' work' (outcome m (feed xs out (length work))).next
 
 -- Closing: it is lent nothing, and the buffer stays as it is.
-pub record Closes (s : EncodeSession) (r : EncodeClosed) : Type 0 where
-  pub refused : (code place : ℕ) → closed_meaning r.answer ≡ refuses code place → r.session ≡ s
+pub record Closes (s : EncodeSession) (r : Result (Unit {0}) WbmpError) (s' : EncodeSession) : Type 0 where
+  pub refused : (code place : ℕ) → closed_meaning r ≡ refuses code place → s' ≡ s
   pub counts : (m : Model) → Stands s m
-      → (closed_meaning r.answer ≡ (outcome m close).reply.answer) × Stands r.session (outcome m close).next
-  pub does : (m : Model) (work : List ℤ) → Holds s work m → Holds r.session work (outcome m close).next
+      → (closed_meaning r ≡ (outcome m close).reply.answer) × Stands s' (outcome m close).next
+  pub does : (m : Model) (work : List ℤ) → Holds s work m → Holds s' work (outcome m close).next
 
 -- ---- what can be asked of a session
 

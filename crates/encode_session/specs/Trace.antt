@@ -1,27 +1,29 @@
 -- Lists of calls (document 01, "Lists"): "Each gets the session that the last call returned; a feeding call, unless 30, .. or 28 answers
 -- it, also gets the work .. buffer as left".
-use Rattle.std.specs.Prelude.{ℕ, ◌≡◌, List, [], ◌∷◌, ◌++◌, ℤ, length, take}
+use Rattle.std.specs.Prelude.{ℕ, ◌≡◌, List, [], ◌∷◌, ◌++◌, ℤ, length, take, Result}
 use Rattle.error.specs.Answer.{Answer, gives, refuses}
+use Rattle.error.specs.declared.Fed.{Fed}
+use Rattle.error.specs.declared.WbmpError.{WbmpError}
 use Rattle.encode_session.specs.Model.{Call, feed, close, Told, took, closed, Reply}
 use Rattle.encode_session.specs.Session.{fed_meaning, closed_meaning, Feeds, Closes}
 use Rattle.encode_session.specs.declared.EncodeSession.{EncodeSession}
-use Rattle.encode_session.specs.declared.EncodeFed.{EncodeFed}
-use Rattle.encode_session.specs.declared.EncodeClosed.{EncodeClosed}
 
--- calls from a session and a work buffer on, what they reply, and the session that the last one returns
+-- calls from a session and a work buffer on, what they reply, and the session that the last one leaves
 pub data Trace : EncodeSession → List ℤ → List Call → List Reply → EncodeSession → Type 0 where
   none : {s : EncodeSession} {work : List ℤ} → Trace s work [] [] s
   -- with the buffer as left
-  fed : {s s' : EncodeSession} {xs out out' : List ℕ} {work work' : List ℤ} {r : EncodeFed} {cs : List Call} {rs : List Reply}
-      → Feeds s xs out work r out' work' → Trace r.session work' cs rs s'
-      → Trace s work (feed xs out (length work) ∷ cs) (record { answer = fed_meaning r.answer; output = out' } ∷ rs) s'
+  fed : {s next s' : EncodeSession} {xs out out' : List ℕ} {work work' : List ℤ} {r : Result Fed WbmpError} {cs : List Call}
+      {rs : List Reply}
+      → Feeds s xs out work r next out' work' → Trace next work' cs rs s'
+      → Trace s work (feed xs out (length work) ∷ cs) (record { answer = fed_meaning r; output = out' } ∷ rs) s'
   -- a call that is refused may be lent any buffer
-  refused : {s s' : EncodeSession} {xs out out' : List ℕ} {work any any' : List ℤ} {r : EncodeFed} {cs : List Call} {rs : List Reply}
-      {code place : ℕ} → Feeds s xs out any r out' any' → fed_meaning r.answer ≡ refuses code place → Trace r.session work cs rs s'
-      → Trace s work (feed xs out (length any) ∷ cs) (record { answer = fed_meaning r.answer; output = out' } ∷ rs) s'
-  shut : {s s' : EncodeSession} {work : List ℤ} {r : EncodeClosed} {cs : List Call} {rs : List Reply}
-      → Closes s r → Trace r.session work cs rs s'
-      → Trace s work (close ∷ cs) (record { answer = closed_meaning r.answer; output = [] } ∷ rs) s'
+  refused : {s next s' : EncodeSession} {xs out out' : List ℕ} {work any any' : List ℤ} {r : Result Fed WbmpError} {cs : List Call}
+      {rs : List Reply} {code place : ℕ}
+      → Feeds s xs out any r next out' any' → fed_meaning r ≡ refuses code place → Trace next work cs rs s'
+      → Trace s work (feed xs out (length any) ∷ cs) (record { answer = fed_meaning r; output = out' } ∷ rs) s'
+  shut : {s next s' : EncodeSession} {work : List ℤ} {r : Result (Unit {0}) WbmpError} {cs : List Call} {rs : List Reply}
+      → Closes s r next → Trace next work cs rs s'
+      → Trace s work (close ∷ cs) (record { answer = closed_meaning r; output = [] } ∷ rs) s'
 
 -- how many samples a call took
 abbrev pub took_of : Answer Told → ℕ

@@ -3,12 +3,14 @@
 
 ghost use Rattle.std.specs.Prelude.{◌*◌, ◌≡◌, true, length};
 ghost use Rattle.rules.specs.Rule.{Rule, enough_work};
-ghost use Rattle.encode_session.specs.Model.{opening};
-ghost use Rattle.encode_session.specs.Session.{ChecksOpening, BeginsOpening, OpensBy, Opens, Feeds, Closes};
+ghost use Rattle.error.specs.Answer.{written};
+ghost use Rattle.error.specs.Emits.{Emits};
+ghost use Rattle.encode_session.specs.Model.{opening, header};
+ghost use Rattle.encode_session.specs.Session.{ChecksOpening, Opens, Feeds, Closes};
 ghost use Rattle.encode_session.specs.Session.{TellsClosed, TellsFrames};
 
 use error::{Fed, Refusal, Result, WbmpError};
-use ext_write::{PairList, PairsBegun};
+use ext_write::PairList;
 use options::{EncodeOptions, MAX_MADE_FRAMES};
 use quantize::Quantizer;
 
@@ -27,80 +29,37 @@ pub struct EncodeSession {
     live: bool,
 }
 
-// What opening answers: how many bytes of header it wrote, and the session, which is closed where opening is refused.
-#[derive(Clone, Copy)]
-pub struct EncodeOpened {
-    pub session: EncodeSession,
-    pub answer: Result<usize>,
-}
-
-// What feeding answers.
-#[derive(Clone, Copy)]
-pub struct EncodeFed {
-    pub session: EncodeSession,
-    pub answer: Result<Fed>,
-}
-
-// What closing answers.
-#[derive(Clone, Copy)]
-pub struct EncodeClosed {
-    pub session: EncodeSession,
-    pub answer: Result<()>,
-}
-
-// The tests before the header is written; refusals have place 0.
+// The tests before the header is written; refusals have place 0. They are the first two of a scan's too; a function for two tests would be
+// no plainer.
 fn check_opening(width: u32, height: u32, options: EncodeOptions, work: usize) -> Result<()>
     ensures { ChecksOpening options width height work result }
 {
     if width == 0 || height == 0 {
         return Err(WbmpError::new(Refusal::ZeroDimension, 0));
     }
-    if !quantize::known_rule(options.quantize) {
-        return Err(WbmpError::new(Refusal::UnknownSetting, 0));
-    }
-    if !quantize::enough_work(options.quantize, width as usize, work) {
-        return Err(WbmpError::new(Refusal::BufferTooShort, 0));
-    }
-    Ok(())
+    quantize::check_rule(options.quantize, width, work)
 }
 
-// The header at the front of the lent output, up to its pairs, which were checked before, if the rule and so many numbers of work serve.
-fn begin_opening(
+// The header at the front of the lent output, if the rule and so many numbers of work serve.
+fn write_opening<P: PairList + Copy>(
     width: u32,
     height: u32,
     options: EncodeOptions,
     text: &[u8],
-    found: Result<usize>,
+    pairs: P,
     work: usize,
     out: &mut [u8],
-) -> PairsBegun
-    ensures { BeginsOpening options width height text.now found work out.old out.new result }
+) -> Result<usize>
+    ensures { Emits (header (opening options width height text.now (P.lengths pairs)) work)
+        (written result) out.old out.new }
 {
-    match check_opening(width, height, options, work) {
-        Ok(()) => header::begin_header(width, height, options.ext, text, found, out),
-        // No pairs are left to put.
-        Err(e) => PairsBegun {
-            to: out.len(),
-            answer: Err(e),
-        },
-    }
-}
-
-// What opening hands back, by what it answers: the session is open where the answer is bytes.
-fn opened(width: u32, height: u32, options: EncodeOptions, answer: Result<usize>) -> EncodeOpened
-    ensures { OpensBy options width height answer result }
-{
-    EncodeOpened {
-        session: EncodeSession {
-            quantizer: Quantizer::new(options.quantize, width, height, MAX_MADE_FRAMES),
-            live: answer.is_ok(),
-        },
-        answer,
-    }
+    check_opening(width, height, options, work)?;
+    header::write_header_ext(width, height, options.ext, text, pairs, options.strict, out)
 }
 
 impl EncodeSession {
-    // Writes the header. The work buffer is only measured; feeding calls are lent it again.
+    // Writes the header, and answers its length. The work buffer is only measured; feeding calls are lent it again. A refused opening
+    // hands back a session too, a closed one, so the answer stands beside it.
     pub fn open<P: PairList + Copy>(
         width: u32,
         height: u32,
@@ -109,31 +68,21 @@ impl EncodeSession {
         pairs: P,
         work: &[i16],
         out: &mut [u8],
-    ) -> EncodeOpened
-        ensures { Opens (opening options width height text.now (P.lengths pairs)) (length work.now) result
-            out.old out.new }
+    ) -> (EncodeSession, Result<usize>)
+        ensures { Opens (opening options width height text.now (P.lengths pairs)) (length work.now)
+            result.0 result.1 out.old out.new }
     {
-        let found = ext_write::check_pairs(text, pairs, options.strict);
-        let begun = begin_opening(width, height, options, text, found, work.len(), &mut *out);
-        let answer = ext_write::put_pairs(text, pairs, begun, out);
-        opened(width, height, options, answer)
+        let answer = write_opening(width, height, options, text, pairs, work.len(), out);
+        let session = EncodeSession {
+            quantizer: Quantizer::new(options.quantize, width, height, MAX_MADE_FRAMES),
+            live: answer.is_ok(),
+        };
+        (session, answer)
     }
 
-    // Takes the most samples whose finished bytes fit the lent output, none past 16 frames.
-    pub fn feed(mut self, samples: &[u8], work: &mut [i16], out: &mut [u8]) -> EncodeFed
-        ensures { Feeds self samples.now out.old work.old result out.new work.new }
-    {
-        let answer = self.take(samples, work, out);
-        EncodeFed {
-            session: self,
-            answer,
-        }
-    }
-
-    // The same; a refused call leaves the session as it was.
-    fn take(&mut self, samples: &[u8], work: &mut [i16], out: &mut [u8]) -> Result<Fed>
-        ensures { Feeds self.old samples.now out.old work.old (record { session = self.new; answer = result })
-            out.new work.new }
+    // Takes the most samples whose finished bytes fit the lent output, none past 16 frames. A refused call leaves the session as it was.
+    pub fn feed(&mut self, samples: &[u8], work: &mut [i16], out: &mut [u8]) -> Result<Fed>
+        ensures { Feeds self.old samples.now out.old work.old result self.new out.new work.new }
     {
         if !self.live {
             return Err(WbmpError::new(Refusal::SessionClosed, 0));
@@ -141,12 +90,7 @@ impl EncodeSession {
         if !self.quantizer.serves(work.len()) {
             return Err(WbmpError::new(Refusal::BufferTooShort, 0));
         }
-        let ran = self.quantizer.run(samples, out, work);
-        self.quantizer = ran.quantizer;
-        Ok(Fed {
-            taken: ran.taken,
-            written: ran.written,
-        })
+        Ok(self.quantizer.run(samples, out, work))
     }
 
     pub fn is_closed(self) -> bool
@@ -159,24 +103,12 @@ impl EncodeSession {
     pub fn frames(self) -> u32
         ensures { TellsFrames self result }
     {
-        let spot = self.quantizer.spot();
-        (MAX_MADE_FRAMES as usize).saturating_sub(spot.frames) as u32
+        (MAX_MADE_FRAMES as usize).saturating_sub(self.quantizer.frames_left()) as u32
     }
 
-    // Inside a frame, or before the first one ended, the session stays open.
-    pub fn close(mut self) -> EncodeClosed
-        ensures { Closes self result }
-    {
-        let answer = self.end();
-        EncodeClosed {
-            session: self,
-            answer,
-        }
-    }
-
-    // The same; a refused call leaves the session as it was.
-    fn end(&mut self) -> Result<()>
-        ensures { Closes self.old (record { session = self.new; answer = result }) }
+    // Inside a frame, or before the first one ended, closing is refused and the session stays open.
+    pub fn close(&mut self) -> Result<()>
+        ensures { Closes self.old result self.new }
     {
         if !self.live {
             return Err(WbmpError::new(Refusal::SessionClosed, 0));

@@ -1,13 +1,11 @@
 -- From a header with room for the planes behind it to the file.
-use Rattle.std.proofs.Common.{Result}
-use Rattle.error.specs.declared.WbmpError.{WbmpError}
 use Prim.Native.Nat.{ℕ, ◌+◌, ◌-◌, ◌*◌, ◌≤◌}
 use mathlib.Core.Path.{◌≡◌, refl, sym, ap, ◌∙◌, subst}
 use mathlib.Core.List.{List, ◌++◌}
 use native.Mathlib.Omega.{arith}
 use borrow.Rule.Slice.PartMut.{mid_of, put_mid}
 use lib.ListN.{length, drop}
-use Rattle.error.specs.Answer.{Answer, gives, refuses, bind, written}
+use Rattle.error.specs.Answer.{Answer, gives, refuses, bind}
 use Rattle.error.specs.Emits.{Emits}
 use Rattle.header.specs.Write.{ext_header}
 use Rattle.image.specs.Geometry.{plane_bytes}
@@ -18,11 +16,6 @@ use Rattle.encoder.specs.Write.{check_planes, wire_planes, file_of_planes}
 use Rattle.encoder.specs.Internal.Parts.{Heads}
 use Rattle.encoder.proofs.HeaderBefore.{header-some, body-room, file-written, file-refused, behind}
 use Rattle.encoder.proofs.PlanesLoop.{planes-length}
-
--- by what the header's writer answered
-pub answered : {a : Answer (List ℕ)} {body : ℕ} {old mid : List ℕ} (r x : Result ℕ WbmpError) → r ≡ x → Heads a body (written r) old mid
-    → Heads a body (written x) old mid
-answered {a} {body} {old} {mid} r x e c = subst (λ (y : Result ℕ WbmpError). Heads a body (written y) old mid) e c
 
 module _ (o : EncodeOptions) (w h : ℕ) (text lengths old : List ℕ) where
   abbrev header : Answer (List ℕ)

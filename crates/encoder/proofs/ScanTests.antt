@@ -13,6 +13,7 @@ use Rattle.options.specs.declared.EncodeOptions.{EncodeOptions}
 use Rattle.options.specs.declared.Quantize.{Quantize}
 use Rattle.rules.specs.Rule.{Rule, enough_work, known_rule, rule_asked, rule_named, rule_given}
 use Rattle.rules.proofs.RuleAsked.{asked-if}
+use Rattle.quantize.proofs.RuleChecked.{rule_checked, checked-first}
 use Rattle.encoder.specs.File.{check_count}
 use Rattle.encoder.specs.Make.{check_scans}
 use Rattle.encoder.proofs.CountTests.{Counted, counted, accepted}
@@ -38,43 +39,50 @@ module _ (ceiling : ℕ) (o : EncodeOptions) (w h n gray work : ℕ) where
   abbrev rest : Answer (Unit {0})
   rest = tests (known_rule rule) (enough_work (rule_given (rule_named rule)) w work) (ltb gray (n * (w * h)))
 
+  -- the last test, and those behind the count's
+  abbrev short : Answer (Unit {0})
+  short = if (ltb gray (n * (w * h))) (refuses 22 0) (gives tt)
+
+  abbrev behind : Rule → Answer (Unit {0})
+  behind asked = if (enough_work asked w work) short (refuses 28 0)
+
   by_count : (a : Answer (Unit {0})) → check_count ceiling w h n ≡ a → scans ≡ bind a (λ _. rest)
   unfolding check_scans
   by_count a e =
       ap (λ (a : Answer (Unit {0})). bind a (λ _. bind (rule_asked o) behind)) e
       ∙ ap (λ (r : Answer (Unit {0})). bind a (λ _. r)) (asked-if o behind)
-    where
-      behind : Rule → Answer (Unit {0})
-      behind asked = if (enough_work asked w work) (if (ltb gray (n * (w * h))) (refuses 22 0) (gives tt)) (refuses 28 0)
 
   pub not-counted : (code place : ℕ) → check_count ceiling w h n ≡ refuses code place → scans ≡ refuses code place
   not-counted code place e = by_count (refuses code place) e
 
   module _ (c : check_count ceiling w h n ≡ gives tt) where
-    pub not_known : known_rule rule ≡ false → scans ≡ refuses 29 0
-    not_known e = by_count (gives tt) c ∙ rw e
+    by-rule : (r : Answer (Unit {0})) → r ≡ rule_checked rule w work → scans ≡ bind r (λ _. short)
+    unfolding check_scans
+    by-rule r e =
+        ap (λ (a : Answer (Unit {0})). bind a (λ _. bind (rule_asked o) behind)) c
+        ∙ checked-first rule w work short
+        ∙ ap (λ (a : Answer (Unit {0})). bind a (λ _. short)) (sym e)
 
-    module _ (known : known_rule rule ≡ true) where
-      pub not-enough-work : enough_work (rule_given (rule_named rule)) w work ≡ false → scans ≡ refuses 28 0
-      not-enough-work e = by_count (gives tt) c ∙ rw (e, known)
+    pub not-served : (code place : ℕ) → refuses code place ≡ rule_checked rule w work → scans ≡ refuses code place
+    not-served code place e = by-rule (refuses code place) e
 
-      module _ (room : enough_work (rule_given (rule_named rule)) w work ≡ true) where
-        area : 0 < w * h
-        area = let s = counted ceiling w h n c in mul-pos s.wide s.high
+    module _ (served : gives tt ≡ rule_checked rule w work) where
+      area : 0 < w * h
+      area = let s = counted ceiling w h n c in mul-pos s.wide s.high
 
-        pub too_short : gray / (w * h) < n → scans ≡ refuses 22 0
-        too_short l =
-            let s : gray < n * (w * h) = (div-lt_iff_lt-mul {k = w * h} {x = gray} {y = n} area).0 l in
-            by_count (gives tt) c ∙ rw (room, known, lt-ltb gray (n * (w * h)) s)
+      pub too_short : gray / (w * h) < n → scans ≡ refuses 22 0
+      too_short l =
+          let s : gray < n * (w * h) = (div-lt_iff_lt-mul {k = w * h} {x = gray} {y = n} area).0 l in
+          by-rule (gives tt) served ∙ rw (lt-ltb gray (n * (w * h)) s)
 
-        pub long-enough : n ≤ gray / (w * h) → scans ≡ gives tt
-        long-enough l =
-            let s : n * (w * h) ≤ gray = le-or-lt
-            (λ s. let b = (div-lt_iff_lt-mul {k = w * h} {x = gray} {y = n} area).1 s in omega arith) in
-            by_count (gives tt) c ∙ rw (room, known, le-ltb gray (n * (w * h)) s)
-          where
-            le-or-lt : (gray < n * (w * h) → ⊥) → n * (w * h) ≤ gray
-            le-or-lt f = omega arith
+      pub long-enough : n ≤ gray / (w * h) → scans ≡ gives tt
+      long-enough l =
+          let s : n * (w * h) ≤ gray = le-or-lt
+          (λ s. let b = (div-lt_iff_lt-mul {k = w * h} {x = gray} {y = n} area).1 s in omega arith) in
+          by-rule (gives tt) served ∙ rw (le-ltb gray (n * (w * h)) s)
+        where
+          le-or-lt : (gray < n * (w * h) → ⊥) → n * (w * h) ≤ gray
+          le-or-lt f = omega arith
 
   pub passes : Passed ceiling rule w h n gray work → scans ≡ gives tt
   passes p =

@@ -24,7 +24,8 @@ pub(crate) fn check_count(width: u32, height: u32, count: usize) -> Result<()>
     Ok(())
 }
 
-// The header, up to its pairs, at the front of the lent output, if it and a body of so many bytes fit.
+// The header, up to its pairs, at the front of the lent output, if it and a body of so many bytes fit. `found` answers the pairs' check,
+// which alone is generic over their list, and whose refusal comes behind those of sizes, count, rule, planes and scans.
 pub(crate) fn begin_header_before(
     body: usize,
     width: u32,
@@ -33,13 +34,9 @@ pub(crate) fn begin_header_before(
     text: &[u8],
     found: Result<usize>,
     out: &mut [u8],
-) -> PairsBegun
+) -> Result<PairsBegun>
     ensures { BeginsBefore body width height options text.now found out.old out.new result }
 {
     let room = out.len().saturating_sub(body);
-    let mut begun = header::begin_header(width, height, options.ext, text, found, &mut out[..room]);
-    if begun.to >= room {
-        begun.to = out.len();
-    }
-    begun
+    header::begin_header(width, height, options.ext, text, found, &mut out[..room])
 }

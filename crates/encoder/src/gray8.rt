@@ -27,12 +27,7 @@ fn check_scans(scans: Scans, options: EncodeOptions, gray: usize, work: usize) -
     ensures { checked result ≡ check_scans made_frames options scans.width scans.height scans.count gray work }
 {
     check_count(scans.width, scans.height, scans.count)?;
-    if !quantize::known_rule(options.quantize) {
-        return Err(WbmpError::new(Refusal::UnknownSetting, 0));
-    }
-    if !quantize::enough_work(options.quantize, scans.width as usize, work) {
-        return Err(WbmpError::new(Refusal::BufferTooShort, 0));
-    }
+    quantize::check_rule(options.quantize, scans.width, work)?;
     let area = scans.width as usize * scans.height as usize;
     if gray / area < scans.count {
         return Err(WbmpError::new(Refusal::GrayTooShort, 0));
@@ -41,6 +36,7 @@ fn check_scans(scans: Scans, options: EncodeOptions, gray: usize, work: usize) -
 }
 
 // The planes of scans that passed the test, each in its own stretch of the lent output.
+// By index: after a loop over `chunks_exact_mut` nothing is known of `out`.
 fn put_scans(scans: Scans, gray: &[u8], options: EncodeOptions, work: &mut [i16], out: &mut [u8])
     requires work_value { check_scans made_frames options scans.width scans.height scans.count (length gray.now)
         (length work.old) ≡ gives tt }
@@ -67,7 +63,8 @@ fn put_scans(scans: Scans, gray: &[u8], options: EncodeOptions, work: &mut [i16]
     }
 }
 
-// A file of scans, up to the pairs of its header, which were checked before.
+// A file of scans, up to the pairs of its header, which were checked before. `begin_images` has the same steps: a trait of both would lend
+// planes a work buffer that they do not have.
 fn begin_gray8(
     scans: Scans,
     gray: &[u8],
@@ -76,24 +73,24 @@ fn begin_gray8(
     found: Result<usize>,
     work: &mut [i16],
     out: &mut [u8],
-) -> PairsBegun
+) -> Result<PairsBegun>
     ensures { BeginsMade scans.width scans.height scans.count gray.now options text.now found
         work.old work.new out.old out.new result }
 {
-    if let Err(e) = check_scans(scans, options, gray.len(), work.len()) {
-        return PairsBegun {
-            to: out.len(),
-            answer: Err(e),
-        };
-    }
+    check_scans(scans, options, gray.len(), work.len())?;
     let body = scans.count * PlaneLayout::new(scans.width, scans.height).total_bytes;
-    let mut begun = begin_header_before(body, scans.width, scans.height, options, text, found, out);
-    if let Ok(start) = begun.answer {
-        put_scans(scans, gray, options, work, &mut out[start..]);
-        let end = start + body;
-        begun.answer = Ok(end);
-    }
-    begun
+    let mut begun = begin_header_before(
+        body,
+        scans.width,
+        scans.height,
+        options,
+        text,
+        found,
+        out,
+    )?;
+    put_scans(scans, gray, options, work, &mut out[begun.end..]);
+    begun.end += body;
+    Ok(begun)
 }
 
 // A file of `count` scans, each width × height samples; surplus gray is ignored. Nothing is written on a refusal.
@@ -117,7 +114,8 @@ pub fn encode_gray8<P: PairList + Copy>(
         height,
         count,
     };
+    // These three steps are those of `encode_images`: a closure for the middle one would borrow `out`, which `put_pairs` needs behind it.
     let found = ext_write::check_pairs(text, pairs, options.strict);
-    let begun = begin_gray8(scans, gray, options, text, found, work, &mut *out);
-    ext_write::put_pairs(text, pairs, begun, out)
+    let begun = begin_gray8(scans, gray, options, text, found, work, &mut *out)?;
+    Ok(ext_write::put_pairs(text, pairs, begun, out))
 }

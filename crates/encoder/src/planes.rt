@@ -23,7 +23,7 @@ struct Planes {
     format: PixelFormat,
 }
 
-// The bytes from the start of a plane's first row to the end of its last.
+// The bytes from the start of a plane's first row to the end of its last; `check_geometry` answers only whether they fit, as in the Rust.
 fn needed_bytes(width: u32, height: u32, stride: usize) -> usize
     requires { (0 < height) × (needed_bytes width height stride < 2 ^ 64) }
     ensures { result ≡ needed_bytes width height stride }
@@ -44,6 +44,7 @@ fn check_planes(lent: Planes, bytes: usize) -> Result<()>
 }
 
 // Planes that were tested, as a file has them, each in its own stretch of the lent output.
+// By index: after a loop over `chunks_exact_mut` nothing is known of `out`.
 fn write_planes(lent: Planes, planes: &[u8], out: &mut [u8])
     requires planes_value { check_planes made_frames lent.width lent.height lent.count lent.stride (length planes.now) ≡ gives tt }
     requires height_in_bounds { lent.count * plane_bytes lent.width lent.height ≤ length out.old }
@@ -80,23 +81,16 @@ fn begin_images(
     text: &[u8],
     found: Result<usize>,
     out: &mut [u8],
-) -> PairsBegun
+) -> Result<PairsBegun>
     ensures { BeginsImages lent.width lent.height lent.count planes.now lent.stride lent.format options
         text.now found out.old out.new result }
 {
-    if let Err(e) = check_planes(lent, planes.len()) {
-        return PairsBegun {
-            to: out.len(),
-            answer: Err(e),
-        };
-    }
+    check_planes(lent, planes.len())?;
     let body = lent.count * PlaneLayout::new(lent.width, lent.height).total_bytes;
-    let mut begun = begin_header_before(body, lent.width, lent.height, options, text, found, out);
-    if let Ok(start) = begun.answer {
-        write_planes(lent, planes, &mut out[start..]);
-        begun.answer = Ok(start + body);
-    }
-    begun
+    let mut begun = begin_header_before(body, lent.width, lent.height, options, text, found, out)?;
+    write_planes(lent, planes, &mut out[begun.end..]);
+    begun.end += body;
+    Ok(begun)
 }
 
 // A file of `count` planes that are lent end to end, each stride × (height - 1) + row bytes: the header, then the planes without gaps,
@@ -124,6 +118,6 @@ pub fn encode_images<P: PairList + Copy>(
         format,
     };
     let found = ext_write::check_pairs(text, pairs, options.strict);
-    let begun = begin_images(lent, planes, options, text, found, &mut *out);
-    ext_write::put_pairs(text, pairs, begun, out)
+    let begun = begin_images(lent, planes, options, text, found, &mut *out)?;
+    Ok(ext_write::put_pairs(text, pairs, begun, out))
 }

@@ -78,7 +78,7 @@ pub enum Refusal {
 }
 
 impl Refusal {
-    // The number in the table.
+    // The number in the table. Not `From`: a conversion would not say which number it is.
     pub fn number(self) -> u8
         ensures { result ≡ number self }
     {

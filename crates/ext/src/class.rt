@@ -15,13 +15,14 @@ pub fn is_rfc2234_alpha_digit(byte: u8) -> bool
     byte.is_ascii_alphanumeric()
 }
 
-// Whether an identifier is in its class, where strict asks for it.
+// Whether an identifier is in its class, where strict asks for it. One function for both classes would take the class as a closure.
 pub fn identifier_in_class(bytes: &[u8], strict: bool) -> bool
     ensures { result ≡ in_class strict is_char bytes.now }
 {
     !strict || bytes.iter().all(|b| is_rfc2234_char(*b))
 }
 
+// The same of a value.
 pub fn value_in_class(bytes: &[u8], strict: bool) -> bool
     ensures { result ≡ in_class strict is_alpha_digit bytes.now }
 {

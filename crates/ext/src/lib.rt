@@ -1,15 +1,15 @@
 // Extension fields, WAP 4.4.1 to 4.4.3: their kinds and classes, read and looked up.
 #![tactic(auto)]
 
-ghost use Rattle.std.specs.Prelude.{◌≡◌};
-ghost use Rattle.ext.specs.Kinds.{SplitFix, pair_header};
+ghost use Rattle.std.specs.Prelude.{◌≡◌, ◌-◌};
+ghost use Rattle.ext.specs.Kinds.{SplitFix, pair_header, kind_number, span, fields_span};
 
 mod class;
 pub mod find;
 mod read;
 
 pub use class::{identifier_in_class, is_rfc2234_alpha_digit, is_rfc2234_char, value_in_class};
-pub use read::{parse_ext_fields, parse_ext_fields_strict};
+pub use read::{parse_ext_fields, parse_ext_fields_inner, parse_ext_fields_strict};
 
 // An octet or a pair starts less than this far from the first one.
 pub const MAX_EXT_FIELD_BYTES: usize = 4096;
@@ -23,7 +23,7 @@ pub enum ExtFieldType {
     ParameterPairs11,
 }
 
-// The FixHeader byte, taken apart.
+// The FixHeader byte, taken apart: the Rust's, its public fields too.
 #[derive(Clone, Copy)]
 pub struct FixHeaderField {
     pub raw: u8,
@@ -39,6 +39,7 @@ impl FixHeaderField {
         FixHeaderField {
             raw,
             ext_fields_follow: 128 <= raw,
+            // No `TryFrom`: of two bits none is refused.
             ext_type: match raw / 32 % 4 {
                 0 => ExtFieldType::Bitfield00,
                 1 => ExtFieldType::Reserved01,
@@ -79,14 +80,21 @@ pub struct ExtFields {
     pub pairs: usize,
 }
 
-// Whether one more pair follows, and the offset after this one.
-#[derive(Drop)]
-struct PairEnd {
-    more: bool,
-    end: usize,
+impl ExtFields {
+    // Fields that stand from `start` to `end`.
+    pub fn new(ext_type: ExtFieldType, start: usize, end: usize, pairs: usize) -> ExtFields
+        ensures { fields_span result ≡ span (kind_number ext_type) start (end - start) pairs }
+    {
+        ExtFields {
+            ext_type,
+            start,
+            len: end.saturating_sub(start),
+            pairs,
+        }
+    }
 }
 
-// The value of a pair, by its bytes in the input.
+// The value of a pair, by its place in the input, which a slice of it would not tell.
 #[derive(Clone, Copy)]
 pub struct ValueSpan {
     pub start: usize,

@@ -1,25 +1,17 @@
-// Reading extension fields.
-ghost use Rattle.std.specs.Prelude.{◌≡◌, true, false, ◌-◌, ◌<◌, ◌≤◌, length};
+// Reading extension fields. By offset: places of refusals and spans of fields are places in the whole input.
+ghost use Rattle.std.specs.Prelude.{◌≡◌, true, false, ◌<◌, ◌≤◌, length};
 ghost use Rattle.error.specs.Answer.{map};
-ghost use Rattle.ext.specs.Kinds.{kind_number, span, span_of, fields_span, fields_read, meaning};
+ghost use Rattle.ext.specs.Kinds.{kind_number, span_of, fields_read, meaning};
 ghost use Rattle.ext.specs.Read.{read_pair, read_fields};
 ghost use Rattle.ext.specs.Internal.Pairwise.{pair_meaning, pair_step, pair_behind};
 
 use crate::class::{identifier_in_class, value_in_class};
-use crate::{ExtFieldType, ExtFields, FixHeaderField, MAX_EXT_FIELD_BYTES, PairEnd, PairHeader};
+use crate::{ExtFieldType, ExtFields, FixHeaderField, MAX_EXT_FIELD_BYTES, PairHeader};
 use error::{Refusal, Result, WbmpError};
+use std::ops::ControlFlow;
 
-fn found(ext_type: ExtFieldType, start: usize, end: usize, pairs: usize) -> ExtFields
-    requires { start ≤ end }
-    ensures { fields_span result ≡ span (kind_number ext_type) start (end - start) pairs }
-{
-    ExtFields {
-        ext_type,
-        start,
-        len: end - start,
-        pairs,
-    }
-}
+// The offset after a pair, which one more follows, or which is the last.
+type PairEnd = ControlFlow<usize, usize>;
 
 // The pair behind its header byte, where the identifier starts at an offset.
 #[tactic(auto, using(std::proofs::lemmas::Bool::Decides::nat_tests, crate::proofs::SliceSame::lent_part), unfolding(crate::specs::Internal::Pairwise::pair_behind))]
@@ -47,9 +39,10 @@ fn parse_parts(bytes: &[u8], identifier: usize, header: PairHeader, strict: bool
     if !value_in_class(&bytes[value..end], strict) {
         return Err(WbmpError::new(Refusal::ValueClass, end));
     }
-    Ok(PairEnd {
-        more: header.more,
-        end,
+    Ok(if header.more {
+        ControlFlow::Continue(end)
+    } else {
+        ControlFlow::Break(end)
     })
 }
 
@@ -69,16 +62,19 @@ fn parse_parameter_pairs(bytes: &[u8], offset: usize, strict: bool) -> Result<Ex
 {
     let mut at = offset;
     let mut pairs: usize = 0;
+    // No iterator: each pair tells where the next one starts, or that it was the last.
     while at < bytes.len() {
         if MAX_EXT_FIELD_BYTES <= at - offset {
             return Err(WbmpError::new(Refusal::ExtTooLong, at));
         }
         let pair = parse_pair(bytes, at, strict)?;
         pairs += 1;
-        if !pair.more {
-            return Ok(found(ExtFieldType::ParameterPairs11, offset, pair.end, pairs));
+        match pair {
+            ControlFlow::Continue(end) => at = end,
+            ControlFlow::Break(end) => {
+                return Ok(ExtFields::new(ExtFieldType::ParameterPairs11, offset, end, pairs));
+            }
         }
-        at = pair.end;
     }
     Err(WbmpError::new(Refusal::ExtTruncated, at))
 }
@@ -88,12 +84,13 @@ fn parse_parameter_pairs(bytes: &[u8], offset: usize, strict: bool) -> Result<Ex
 fn parse_bitfield00(bytes: &[u8], offset: usize) -> Result<ExtFields>
     ensures { fields_read result ≡ map (span_of offset) (read_fields false true 0 bytes.now offset) }
 {
+    // Not `position`: the first of the two tests that holds decides.
     for at in offset..bytes.len() {
         if MAX_EXT_FIELD_BYTES <= at - offset {
             return Err(WbmpError::new(Refusal::ExtTooLong, at));
         }
         if bytes[at] < 128 {
-            return Ok(found(ExtFieldType::Bitfield00, offset, at + 1, 0));
+            return Ok(ExtFields::new(ExtFieldType::Bitfield00, offset, at + 1, 0));
         }
     }
     Err(WbmpError::new(Refusal::ExtTruncated, offset.max(bytes.len())))
@@ -108,11 +105,12 @@ fn read_single_octet(ext_type: ExtFieldType, bytes: &[u8], offset: usize) -> Res
     if bytes.len() <= offset {
         return Err(WbmpError::new(Refusal::ExtTruncated, offset));
     }
-    Ok(found(ext_type, offset, offset + 1, 0))
+    Ok(ExtFields::new(ext_type, offset, offset + 1, 0))
 }
 
+// The fields at an offset of an input, which stand behind the FixHeader byte; strict asks for the classes.
 #[tactic(auto, unfolding(crate::specs::Read::read_fields))]
-fn parse_ext_fields_inner(
+pub fn parse_ext_fields_inner(
     fix_header: FixHeaderField,
     bytes: &[u8],
     offset: usize,
@@ -124,6 +122,7 @@ fn parse_ext_fields_inner(
     if !fix_header.ext_fields_follow {
         return Ok(None);
     }
+    // Each kind is read in its own way: this match is the one place that tells them apart.
     Ok(Some(match fix_header.ext_type {
         ExtFieldType::Bitfield00 => parse_bitfield00(bytes, offset)?,
         kind @ (ExtFieldType::Reserved01 | ExtFieldType::Reserved10) => {
@@ -133,7 +132,7 @@ fn parse_ext_fields_inner(
     }))
 }
 
-// The fields at an offset of an input, which stand behind the FixHeader byte.
+// The same without the classes. A name of the Rust ("names included", the tender), and so is the next.
 pub fn parse_ext_fields(
     fix_header: FixHeaderField,
     bytes: &[u8],
@@ -145,7 +144,7 @@ pub fn parse_ext_fields(
     parse_ext_fields_inner(fix_header, bytes, offset, false)
 }
 
-// The same, and the strict classes.
+// The same with the classes.
 pub fn parse_ext_fields_strict(
     fix_header: FixHeaderField,
     bytes: &[u8],

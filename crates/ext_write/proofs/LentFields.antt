@@ -1,16 +1,16 @@
 -- Lent fields of each kind.
 use Prim.Native.Nat.{ℕ}
-use mathlib.Core.Path.{◌≡◌, ◌∙◌, sym, ap, refl}
+use mathlib.Core.Path.{◌≡◌, ◌∙◌, sym, ap, refl, subst⁻¹}
 use mathlib.Core.Bool.{Bool, true, false}
+use mathlib.Core.Logic.{◌⊎◌, inl, inr}
 use mathlib.Core.List.{List, [], ◌∷◌}
 use lib.Dec.{eqb}
 use lib.ListN.{length}
 use borrow.Author.Tests.{eqb-true, eqb-false}
-use Rattle.error.specs.Answer.{Answer, gives, refuses, bind, map}
+use Rattle.error.specs.Answer.{Answer, gives, refuses, bind}
 use Rattle.laws.proofs.Tests.{if-false, zero_one}
 use Rattle.ext.specs.Kinds.{Fields, kind_number}
 use Rattle.ext_write.specs.Write.{octets_bytes, octet_bytes, cut_pairs, sum, lent_fields, lent_bytes, fields_bytes}
-use Rattle.ext_write.specs.Internal.Steps.{octet_length}
 use Rattle.ext.specs.declared.ExtFieldType.{ExtFieldType}
 use Rattle.ext.specs.declared.ExtFieldType.TheVariants.{Reserved01, Reserved10}
 use Rattle.ext_write.proofs.PairsLaid.{laid, pairs-laid, pairs-some}
@@ -21,17 +21,9 @@ pub record Single (kind : ℕ) : Type 0 where
   pub not0 : eqb kind 0 ≡ false
   pub not3 : eqb kind 3 ≡ false
 
-pub single-01 : (t : ExtFieldType) → t ≡ Reserved01 → Single (kind_number t)
-single-01 t e = record {
-  not0 = ap (λ (u : ExtFieldType). eqb (kind_number u) 0) e;
-  not3 = ap (λ (u : ExtFieldType). eqb (kind_number u) 3) e;
-}
-
-pub single-10 : (t : ExtFieldType) → t ≡ Reserved10 → Single (kind_number t)
-single-10 t e = record {
-  not0 = ap (λ (u : ExtFieldType). eqb (kind_number u) 0) e;
-  not3 = ap (λ (u : ExtFieldType). eqb (kind_number u) 3) e;
-}
+pub single : (t : ExtFieldType) → (t ≡ Reserved01) ⊎ (t ≡ Reserved10) → Single (kind_number t)
+single t (inl e) = subst⁻¹ (λ (u : ExtFieldType). Single (kind_number u)) e (record { not0 = refl; not3 = refl })
+single t (inr e) = subst⁻¹ (λ (u : ExtFieldType). Single (kind_number u)) e (record { not0 = refl; not3 = refl })
 
 module _ (strict : Bool) (lengths : List ℕ) where
   pub lent-octets : (text : List ℕ) (kind : ℕ) → kind ≡ 0 → lent_bytes strict kind text lengths ≡ octets_bytes text
@@ -48,14 +40,6 @@ module _ (strict : Bool) (lengths : List ℕ) where
         (if-false _ _ _ single.not0 ∙ if-false _ _ _ single.not3)
     lent-octet (o ∷ os) = ap (λ (a : Answer Fields). bind a (fields_bytes strict))
         (if-false _ _ _ single.not0 ∙ if-false _ _ _ single.not3)
-
-    pub octet-length : (text : List ℕ) → octet_length text ≡ map length (lent_bytes strict kind text lengths)
-    unfolding octet_bytes
-    octet-length text = by-text text ∙ ap (map length) (sym (lent-octet text))
-      where
-        by-text : (s : List ℕ) → octet_length s ≡ map length (octet_bytes s)
-        by-text [] = refl
-        by-text (o ∷ os) = refl
 
   -- what accepted pairs are
   pub pairs-accepted : (text bytes : List ℕ) → lent_bytes strict 3 text lengths ≡ gives bytes

@@ -11,14 +11,14 @@ use Rattle.std.specs.Prelude.{nat_lt}
 use Rattle.ext.specs.Classes.{all}
 use lib.ListN.{length, get_or, drop, set, length-set, drop_of_length-le}
 use lib.Seq.{sets}
-use borrow.Author.Tests.{lt-ltb, le-ltb, ltb-true}
+use borrow.Author.Tests.{lt-ltb, ltb-true}
 use Rattle.error.specs.Choice.{if}
 use Rattle.error.specs.Answer.{Answer, gives, refuses, map}
 use Rattle.laws.proofs.Answers.{map_gives, when}
 use Rattle.laws.proofs.Lists.{drop_at}
-use Rattle.laws.proofs.Tests.{if-true, if-false, zero_one}
+use Rattle.laws.proofs.Tests.{if-true, zero_one}
 use Rattle.ext_write.specs.Write.{octets_bytes}
-use Rattle.ext_write.specs.Internal.Steps.{octet_length, Small, continued}
+use Rattle.ext_write.specs.Internal.Steps.{Small, continued}
 use Rattle.ext_write.proofs.PairSteps.{left-more}
 
 pub length-continued : (s : List ℕ) → length (continued s) ≡ length s
@@ -40,14 +40,6 @@ pub octets-none : (s : List ℕ) → length s ≡ 0 → octets_bytes s ≡ refus
 unfolding octets_bytes
 octets-none [] h = refl
 octets-none (o ∷ os) h = absurd (omega arith)
-
-pub octet-none : (s : List ℕ) → length s ≡ 0 → octet_length s ≡ refuses 23 0
-octet-none [] h = refl
-octet-none (o ∷ os) h = absurd (omega arith)
-
-pub octet-some : (s : List ℕ) → (length s ≡ 0 → ⊥) → octet_length s ≡ gives 1
-octet-some [] h = absurd (h refl)
-octet-some (o ∷ os) h = refl
 
 -- one octet with bit 7 refuses them all
 longer : (o : ℕ) (r : Answer (List ℕ)) → map length (map (λ (bytes : List ℕ). (128 + o) ∷ bytes) r) ≡ map suc (map length r)

@@ -7,19 +7,16 @@ use native.Mathlib.Nat.{add-zero}
 use native.Mathlib.Numerals.{add-one}
 use native.Mathlib.Omega.{arith}
 use lib.Dec.{ltb}
-use lib.ListN.{length, get_or, take, drop, set, length-drop, length-set, drop_of_length-le}
-use lib.Seq.{sets, sets-eq, drop-drop, get_or-drop, take-add, length-sets}
+use lib.ListN.{length, get_or, take, drop, set, length-drop, drop_of_length-le}
+use lib.Seq.{sets, sets-eq, drop-drop, get_or-drop, take-add}
 use borrow.Rule.Slice.PartMut.{put_mid}
-use borrow.Author.Tests.{lt-ltb, le-ltb, le-leb, lt-leb, eq-eqb, ne_eqb, ltb-true, ltb-false}
+use borrow.Author.Tests.{lt-ltb, le-ltb, le-leb, lt-leb, ltb-true, ltb-false}
 use Rattle.error.specs.Choice.{if}
-use Rattle.error.specs.Answer.{Answer, code_of}
-use Rattle.laws.proofs.Lists.{drop_at, length_part}
+use Rattle.laws.proofs.Lists.{length_part}
 use Rattle.laws.proofs.Tests.{if-true, if-false}
-use Rattle.ext.specs.Kinds.{Pair}
-use Rattle.ext_write.specs.Write.{check_pair, pair_bytes}
-use Rattle.ext_write.specs.Internal.Steps.{lent_pair, start_after, first_code, check_step, check_pairs, can_put, put_step}
-use Rattle.ext_write.specs.Internal.Steps.{put_output, put_pairs}
-use Rattle.ext_write.specs.Internal.Steps.{Checking}
+use Rattle.ext_write.specs.Write.{pair_bytes}
+use Rattle.ext_write.specs.Internal.Steps.{Checking, lent_pair, start_after, first_code, check_step, check_pairs}
+use Rattle.ext_write.specs.Internal.Steps.{can_put, put_step, put_output, put_pairs}
 use Rattle.ext_write.specs.declared.PairsPut.{PairsPut}
 
 -- what is left of the lengths
@@ -86,14 +83,6 @@ module _ (text : List ℕ) where
   unfolding put_pairs
   put-end lengths k out s h = rw (drop_of_length-le lengths h) refl
 
-  pub put-long : (out : List ℕ) (s : PairsPut) (i v : ℕ) (more : Bool) → length (put_output text out s i v more) ≡ length out
-  unfolding put_output
-  put-long out s i v more = by-test (can_put text out s i v)
-    where
-      by-test : (b : Bool) → length (if b (sets out s.to (pair_bytes more (lent_pair text s.at i v))) out) ≡ length out
-      by-test true = length-sets out s.to (pair_bytes more (lent_pair text s.at i v))
-      by-test false = refl
-
 -- `k` bytes of the text stored in a part of a list
 pub put-copied : (text l part : List ℕ) (at to n m k : ℕ) → n ≡ k → m ≡ k → at + k ≤ length text → to + k ≤ length l
     → part ≡ take m (drop at text) → put_mid to n l part ≡ sets l to (take k (drop at text))
@@ -101,13 +90,6 @@ put-copied text l part at to n m k e f h g q =
     let long = length_part k at text h in
     rw (q, e, f)
     (sym (sets-eq (take k (drop at text)) l to (omega (arith, long)) ∙ append_assoc (take to l) _ _ ∙ rw (long, drop-drop k to l) refl))
-
-module _ (strict : Bool) (code : ℕ) (p : Pair) where
-  pub first-kept : (code ≡ 0 → ⊥) → code ≡ first_code strict code p
-  first-kept n = sym (if-false _ _ _ (ne_eqb _ _ n))
-
-  pub first-new : code ≡ 0 → (a : Answer (Unit {0})) → a ≡ check_pair strict p → code_of a ≡ first_code strict code p
-  first-new z a e = ap code_of e ∙ sym (if-true _ _ _ (eq-eqb _ _ z))
 
 -- one step of a check
 module _ (strict : Bool) (text : List ℕ) (s : Checking) (i v : ℕ) where

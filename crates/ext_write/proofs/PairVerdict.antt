@@ -1,14 +1,14 @@
 -- The tests of a pair to be written, one by one.
-use Prim.Native.Nat.{ℕ, ◌≤◌, ◌<◌}
-use mathlib.Core.Path.{◌≡◌, ◌∙◌, refl}
+use Prim.Native.Nat.{ℕ, ◌≤◌}
+use mathlib.Core.Path.{◌≡◌, refl}
 use mathlib.Core.Bool.{Bool, true, false, ◌&&◌}
 use native.Mathlib.Omega.{arith}
 use lib.Dec.{leb}
 use lib.ListN.{length}
-use borrow.Author.Tests.{le-leb, lt-leb, leb-true}
+use borrow.Author.Tests.{leb-true}
 use Rattle.error.specs.Choice.{if}
 use Rattle.error.specs.Answer.{Answer, gives, refuses}
-use Rattle.laws.proofs.Tests.{if-true, if-false, zero_one}
+use Rattle.laws.proofs.Tests.{zero_one}
 use Rattle.ext.specs.Kinds.{Pair}
 use Rattle.ext.specs.Classes.{is_char, is_alpha_digit, in_class}
 use Rattle.ext_write.specs.Write.{check_pair}
@@ -16,39 +16,6 @@ use Rattle.ext_write.specs.Write.{check_pair}
 -- a length from 1 to a most
 abbrev pub in_range : ℕ → ℕ → Bool
 in_range most n = leb 1 n && leb n most
-
-pub in-range : (most n : ℕ) → 1 ≤ n → n ≤ most → in_range most n ≡ true
-in-range most n h k = rw (le-leb 1 n h, le-leb n most k)
-
-pub below-range : (most n : ℕ) → n < 1 → in_range most n ≡ false
-below-range most n h = rw (lt-leb 1 n h)
-
-pub above-range : (most n : ℕ) → 1 ≤ n → most < n → in_range most n ≡ false
-above-range most n h k = rw (le-leb 1 n h, lt-leb n most k)
-
-module _ (strict : Bool) (p : Pair) where
-  pub refused-11 : in_range 7 (length p.identifier) ≡ false → check_pair strict p ≡ refuses 11 0
-  unfolding check_pair
-  refused-11 e = if-false _ _ _ e
-
-  module _ (i : in_range 7 (length p.identifier) ≡ true) where
-    pub refused-14 : in_class strict is_char p.identifier ≡ false → check_pair strict p ≡ refuses 14 0
-    unfolding check_pair
-    refused-14 e = if-true _ _ _ i ∙ if-false _ _ _ e
-
-    module _ (k : in_class strict is_char p.identifier ≡ true) where
-      pub refused-12 : in_range 15 (length p.value) ≡ false → check_pair strict p ≡ refuses 12 0
-      unfolding check_pair
-      refused-12 e = if-true _ _ _ i ∙ if-true _ _ _ k ∙ if-false _ _ _ e
-
-      module _ (v : in_range 15 (length p.value) ≡ true) where
-        pub refused-15 : in_class strict is_alpha_digit p.value ≡ false → check_pair strict p ≡ refuses 15 0
-        unfolding check_pair
-        refused-15 e = if-true _ _ _ i ∙ if-true _ _ _ k ∙ if-true _ _ _ v ∙ if-false _ _ _ e
-
-        pub accepted : in_class strict is_alpha_digit p.value ≡ true → check_pair strict p ≡ gives tt
-        unfolding check_pair
-        accepted e = if-true _ _ _ i ∙ if-true _ _ _ k ∙ if-true _ _ _ v ∙ if-true _ _ _ e
 
 -- A check either gives nothing more, or refuses with a number and offset 0.
 abbrev pub Verdict : Answer (Unit {0}) → Type 0

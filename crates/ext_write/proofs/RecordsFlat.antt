@@ -1,26 +1,19 @@
 -- Pairs lent as records: what runs over the records come to, by their lengths, two each.
-use Prim.Native.Nat.{ℕ, zero, suc, ◌+◌, ◌*◌, ◌≤◌, ◌<◌}
+use Prim.Native.Nat.{ℕ, zero, suc, ◌+◌, ◌*◌, ◌<◌}
 use mathlib.Core.Path.{◌≡◌, ◌∙◌, sym, ap, refl}
 use mathlib.Core.Bool.{Bool, true, false}
 use mathlib.Core.List.{List, [], ◌∷◌}
 use native.Mathlib.Nat.{pos_of_ne-zero}
-use native.Mathlib.Numerals.{add-one}
 use native.Mathlib.Omega.{arith}
-use lib.Dec.{ltb, eqb}
-use lib.ListN.{length, get_or, drop, length-drop, drop_of_length-le}
-use lib.Seq.{drop-cons}
-use borrow.Author.Tests.{lt-ltb, le-ltb, eq-eqb, ne_eqb, eqb-true, eqb-false, ltb-true, ltb-false}
-use Rattle.error.specs.Answer.{map, answered}
+use lib.Dec.{eqb}
+use lib.ListN.{length, get_or}
+use borrow.Author.Tests.{eq-eqb, ne_eqb, eqb-true, eqb-false}
+use Rattle.error.specs.Answer.{map}
 use Rattle.laws.proofs.Tests.{if-false}
 use Rattle.ext_write.specs.Write.{flattened, lent_bytes}
-use Rattle.ext_write.specs.Internal.Steps.{check_start, check_step, check_pairs, pairs_length, put_step, put_output, put_pairs}
+use Rattle.ext_write.specs.Internal.Steps.{Checking, check_start, check_pairs, pairs_length}
 use Rattle.ext_write.specs.declared.Parameter.{Parameter}
-use Rattle.ext_write.specs.Internal.Steps.{Checking}
-use Rattle.ext_write.specs.declared.PairsPut.{PairsPut}
 use Rattle.ext_write.proofs.CheckRun.{pairs-31, pairs-23, pairs_first, pairs-size}
-
-abbrev pub no_parameter : Parameter
-no_parameter = record { identifier_len = 0; value_len = 0 }
 
 pub flat-long : (ps : List Parameter) → length (flattened ps) ≡ length ps * 2
 flat-long [] = refl

@@ -20,7 +20,8 @@ pub struct Parameter {
 }
 
 // A check of pairs on its way: where the next pair stands in the text, where it starts in the fields, and the first refusal.
-// `start` is exact up to the pair that passes 4,096, and stays from there on.
+// `start` is exact up to the pair that passes 4,096, and stays from there on. No check reads it: it is what a ceiling of 4,096 on where a
+// pair starts would test, as `proofs/StartCounted` says. `at` is an index, here and below: the rest of the text would bring its lifetime.
 #[derive(Drop)]
 struct PairsCheck {
     at: usize,
@@ -35,10 +36,9 @@ struct PairsPut {
     to: usize,
 }
 
-// Fields begun: all but the pairs is written. The first pair goes to `to`, which is the output's end where none is left to put; `answer` is
-// the writer's.
+// All but the pairs is written: how many bytes that is with them, and where the first pair goes, where any is left to put.
 #[derive(Clone, Copy)]
 pub struct PairsBegun {
-    pub to: usize,
-    pub answer: Result<usize>,
+    pub end: usize,
+    pub pairs: Option<usize>,
 }

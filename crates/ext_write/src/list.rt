@@ -1,5 +1,5 @@
 // The pairs to be written as a list of their lengths.
-ghost use Rattle.std.specs.Prelude.{◌≡◌, ◌<◌, ◌^◌, ℕ, List, length, get_or};
+ghost use Rattle.std.specs.Prelude.{◌≡◌, ◌<◌, ◌+◌, ◌*◌, ◌^◌, ℕ, List, length, get_or};
 ghost use Rattle.ext_write.specs.Write.{flattened};
 
 use crate::Parameter;
@@ -18,6 +18,18 @@ pub trait PairList {
         ensures { result ≡ get_or (lengths self) k 0 };
 }
 
+// The pair at an index. A length that stands alone at the end is an identifier's, before a value of no bytes.
+pub(crate) fn pair_at<P: PairList + Copy>(pairs: P, i: usize) -> Parameter
+    requires { i < 2 ^ 62 }
+    ensures identifier { result.identifier_len ≡ get_or (P.lengths pairs) (2 * i) 0 }
+    ensures value { result.value_len ≡ get_or (P.lengths pairs) (2 * i + 1) 0 }
+{
+    Parameter {
+        identifier_len: pairs.length(2 * i),
+        value_len: pairs.length(2 * i + 1),
+    }
+}
+
 impl PairList for &[usize] {
     ghost lengths = { λ list. list.now };
 
@@ -26,7 +38,7 @@ impl PairList for &[usize] {
     }
 
     fn length(self, k: usize) -> usize {
-        if k < self.len() { self[k] } else { 0 }
+        self.get(k).copied().unwrap_or(0)
     }
 }
 

@@ -6,7 +6,7 @@ ghost use Rattle.ext_write.specs.Internal.Steps.{checking, check_start, start_af
 ghost use Rattle.ext_write.specs.Internal.Steps.{put_start, put_step, put_output};
 
 use crate::validate::check_parameter;
-use crate::{PairsCheck, PairsPut};
+use crate::{PairsCheck, PairsPut, Parameter};
 use error::{Refusal, Result, WbmpError};
 use ext::MAX_EXT_FIELD_BYTES;
 
@@ -21,12 +21,12 @@ pub(crate) fn check_start() -> PairsCheck
 }
 
 // Where the pair behind one that starts at `start` starts.
-fn start_after(start: usize, identifier_len: usize, value_len: usize) -> usize
-    requires { identifier_len + value_len < 2 ^ 63 }
-    ensures { result ≡ start_after start identifier_len value_len }
+fn start_after(start: usize, pair: Parameter) -> usize
+    requires { pair.identifier_len + pair.value_len < 2 ^ 63 }
+    ensures { result ≡ start_after start pair.identifier_len pair.value_len }
 {
     if start < MAX_EXT_FIELD_BYTES {
-        start + 1 + identifier_len + value_len
+        start + 1 + pair.identifier_len + pair.value_len
     } else {
         start
     }
@@ -44,20 +44,13 @@ fn first_refusal(
     if before.is_some() {
         return before;
     }
-    match check_parameter(identifier, value, strict) {
-        Ok(()) => None,
-        Err(e) => Some(e.kind),
-    }
+    check_parameter(identifier, value, strict)
+        .err()
+        .map(|e| e.kind)
 }
 
-pub(crate) fn check_pair(
-    text: &[u8],
-    s: PairsCheck,
-    identifier_len: usize,
-    value_len: usize,
-    strict: bool,
-) -> PairsCheck
-    ensures { checking result ≡ check_step strict text.now (checking s) identifier_len value_len }
+pub(crate) fn check_pair(text: &[u8], s: PairsCheck, pair: Parameter, strict: bool) -> PairsCheck
+    ensures { checking result ≡ check_step strict text.now (checking s) pair.identifier_len pair.value_len }
 {
     let at = s.at;
     let past = PairsCheck {
@@ -65,15 +58,15 @@ pub(crate) fn check_pair(
         start: s.start,
         refusal: Some(Refusal::PairLengths),
     };
-    if text.len() < at || text.len() - at < identifier_len {
+    if text.len() < at || text.len() - at < pair.identifier_len {
         return past;
     }
-    let value = at + identifier_len;
-    if text.len() - value < value_len {
+    let value = at + pair.identifier_len;
+    if text.len() - value < pair.value_len {
         return past;
     }
-    let end = value + value_len;
-    let start = start_after(s.start, identifier_len, value_len);
+    let end = value + pair.value_len;
+    let start = start_after(s.start, pair);
     let refusal = first_refusal(s.refusal, &text[at..value], &text[value..end], strict);
     PairsCheck {
         at: end,
@@ -100,12 +93,19 @@ pub(crate) fn pairs_length(size: usize, number: usize, s: PairsCheck) -> Result<
     }
 }
 
-fn pair_header(identifier_len: usize, value_len: usize, more: bool) -> u8
-    requires { (identifier_len ≤ 7) × (value_len ≤ 15) }
-    ensures { result ≡ if more 128 0 + identifier_len * 16 + value_len }
+// Bit 7 of a byte says that more follow.
+pub(crate) fn with_more(byte: u8, more: bool) -> u8
+    requires { byte < 128 }
+    ensures { result ≡ if more 128 0 + byte }
 {
-    let lengths = (identifier_len * 16 + value_len) as u8;
-    if more { 128 + lengths } else { lengths }
+    if more { 128 + byte } else { byte }
+}
+
+fn pair_header(pair: Parameter, more: bool) -> u8
+    requires { (pair.identifier_len ≤ 7) × (pair.value_len ≤ 15) }
+    ensures { result ≡ if more 128 0 + pair.identifier_len * 16 + pair.value_len }
+{
+    with_more((pair.identifier_len * 16 + pair.value_len) as u8, more)
 }
 
 pub(crate) fn put_start(to: usize) -> PairsPut
@@ -117,20 +117,19 @@ pub(crate) fn put_start(to: usize) -> PairsPut
 pub(crate) fn put_pair(
     text: &[u8],
     s: PairsPut,
-    identifier_len: usize,
-    value_len: usize,
+    pair: Parameter,
     more: bool,
     out: &mut [u8],
 ) -> PairsPut
-    ensures { (result ≡ put_step text.now out.old s identifier_len value_len)
-        × (out.new ≡ put_output text.now out.old s identifier_len value_len more) }
+    ensures { (result ≡ put_step text.now out.old s pair.identifier_len pair.value_len)
+        × (out.new ≡ put_output text.now out.old s pair.identifier_len pair.value_len more) }
 {
     let at = s.at;
     let to = s.to;
-    if 7 < identifier_len || 15 < value_len {
+    if 7 < pair.identifier_len || 15 < pair.value_len {
         return s;
     }
-    let len = identifier_len + value_len;
+    let len = pair.identifier_len + pair.value_len;
     if text.len() < at || text.len() - at < len || out.len() <= to {
         return s;
     }
@@ -138,7 +137,7 @@ pub(crate) fn put_pair(
     if out.len() - body < len {
         return s;
     }
-    out[to] = pair_header(identifier_len, value_len, more);
+    out[to] = pair_header(pair, more);
     out[body..body + len].copy_from_slice(&text[at..at + len]);
     PairsPut {
         at: at + len,

@@ -12,19 +12,13 @@ use ext::{identifier_in_class, value_in_class};
 pub fn check_parameter(identifier: &[u8], value: &[u8], strict: bool) -> Result<()>
     ensures { checked result ≡ check_pair strict (record { identifier = identifier.entry.now; value = value.now }) }
 {
-    if identifier.len() < 1 {
-        return Err(WbmpError::new(Refusal::IdentifierLength, 0));
-    }
-    if 7 < identifier.len() {
+    if !matches!(identifier.len(), 1..=7) {
         return Err(WbmpError::new(Refusal::IdentifierLength, 0));
     }
     if !identifier_in_class(identifier, strict) {
         return Err(WbmpError::new(Refusal::IdentifierClass, 0));
     }
-    if value.len() < 1 {
-        return Err(WbmpError::new(Refusal::ValueLength, 0));
-    }
-    if 15 < value.len() {
+    if !matches!(value.len(), 1..=15) {
         return Err(WbmpError::new(Refusal::ValueLength, 0));
     }
     if !value_in_class(value, strict) {
@@ -34,6 +28,7 @@ pub fn check_parameter(identifier: &[u8], value: &[u8], strict: bool) -> Result<
 }
 
 impl Parameter {
+    // A name of the Rust ("names included", the tender).
     pub fn validate(identifier: &[u8], value: &[u8]) -> Result<()>
         ensures { checked result ≡ check_pair true (record { identifier = identifier.entry.now; value = value.now }) }
     {

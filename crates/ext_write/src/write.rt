@@ -7,9 +7,10 @@ ghost use Rattle.error.specs.Emits.{Emits};
 ghost use Rattle.ext.specs.Kinds.{kind_number};
 ghost use Rattle.ext_write.specs.Write.{octets_bytes, octet_bytes, lent_bytes};
 ghost use Rattle.ext_write.specs.Internal.Left.{ChecksPairs, ChecksFields, BeginsPairs, BeginsFields};
-ghost use Rattle.ext_write.specs.Internal.Steps.{octet_length, put_start, put_pairs, continued, Small};
+ghost use Rattle.ext_write.specs.Internal.Steps.{put_start, put_pairs, put_left, continued, Small};
 
-use crate::pairs::{check_pair, check_start, pairs_length, put_pair, put_start};
+use crate::list::pair_at;
+use crate::pairs::{check_pair, check_start, pairs_length, put_pair, put_start, with_more};
 use crate::{PairList, PairsBegun};
 use error::{Refusal, Result, WbmpError};
 use ext::ExtFieldType;
@@ -18,7 +19,7 @@ use ext::ExtFieldType;
 fn check_octets(text: &[u8]) -> Result<usize>
     ensures { answered result ≡ map length (octets_bytes text.now) }
 {
-    if text.len() == 0 {
+    if text.is_empty() {
         return Err(WbmpError::new(Refusal::FieldsEmpty, 0));
     }
     if !text.iter().all(|octet| *octet < 128) {
@@ -28,10 +29,11 @@ fn check_octets(text: &[u8]) -> Result<usize>
 }
 
 // Kinds 01 and 10: the first octet; surplus is ignored.
+#[tactic(auto, unfolding(crate::specs::Write::octet_bytes))]
 fn check_octet(text: &[u8]) -> Result<usize>
-    ensures { answered result ≡ octet_length text.now }
+    ensures { answered result ≡ map length (octet_bytes text.now) }
 {
-    if text.len() == 0 {
+    if text.is_empty() {
         return Err(WbmpError::new(Refusal::FieldsEmpty, 0));
     }
     Ok(1)
@@ -44,43 +46,30 @@ pub fn check_pairs<P: PairList + Copy>(text: &[u8], pairs: P, strict: bool) -> R
     let count = pairs.count();
     let mut s = check_start();
     for i in 0..(count + 1) / 2 {
-        s = check_pair(
-            text,
-            s,
-            pairs.length(2 * i),
-            pairs.length(2 * i + 1),
-            strict,
-        );
+        s = check_pair(text, s, pair_at(pairs, i), strict);
     }
     pairs_length(text.len(), count, s)
 }
 
-// The check of fields of every kind, by that of the pairs.
+// The check of fields of every kind. `found` answers that of the pairs: it alone is generic over their list, and its refusal comes behind
+// those of sizes, count and rule, so it is handed down. Each kind is checked in its own way, and written so below.
 pub fn check_fields(ext_type: ExtFieldType, text: &[u8], found: Result<usize>) -> Result<usize>
     ensures { ChecksFields (kind_number ext_type) text.now found result }
 {
     match ext_type {
         ExtFieldType::Bitfield00 => check_octets(text),
-        ExtFieldType::Reserved01 => check_octet(text),
-        ExtFieldType::Reserved10 => check_octet(text),
+        ExtFieldType::Reserved01 | ExtFieldType::Reserved10 => check_octet(text),
         ExtFieldType::ParameterPairs11 => found,
     }
 }
 
-fn octet_byte(octet: u8, more: bool) -> u8
-    requires { octet < 128 }
-    ensures { result ≡ if more 128 0 + octet }
-{
-    if more { 128 + octet } else { octet }
-}
-
-// Every octet but the last continues.
+// Every octet but the last continues. No iterator: whether an octet is the last is told by its index.
 fn put_octets(text: &[u8], out: &mut [u8])
     requires { (length text.now ≤ length out.old) × Small text.now }
     ensures { out.new ≡ sets out.old 0 (continued text.now) }
 {
     for i in 0..text.len() {
-        out[i] = octet_byte(text[i], i + 1 < text.len());
+        out[i] = with_more(text[i], i + 1 < text.len());
     }
 }
 
@@ -100,38 +89,26 @@ fn write_octets(text: &[u8], out: &mut [u8]) -> Result<usize>
 fn write_octet(text: &[u8], out: &mut [u8]) -> Result<usize>
     ensures { Emits (octet_bytes text.now) (written result) out.old out.new }
 {
-    if text.len() == 0 {
-        return Err(WbmpError::new(Refusal::FieldsEmpty, 0));
-    }
-    if out.len() == 0 {
+    let len = check_octet(text)?;
+    if out.len() < len {
         return Err(WbmpError::new(Refusal::OutputTooShort, 0));
     }
     out[0] = text[0];
-    Ok(1)
+    Ok(len)
 }
 
 // Kind 11: pairs that have room in an output of so many bytes are left to put, at its front.
-fn begin_pairs(found: Result<usize>, end: usize) -> PairsBegun
-    ensures { BeginsPairs found end result }
+fn begin_pairs(found: Result<usize>, room: usize) -> Result<PairsBegun>
+    ensures { BeginsPairs found room result }
 {
-    match found {
-        Ok(len) => {
-            if end < len {
-                return PairsBegun {
-                    to: end,
-                    answer: Err(WbmpError::new(Refusal::OutputTooShort, 0)),
-                };
-            }
-            PairsBegun {
-                to: 0,
-                answer: Ok(len),
-            }
-        }
-        Err(e) => PairsBegun {
-            to: end,
-            answer: Err(e),
-        },
+    let end = found?;
+    if room < end {
+        return Err(WbmpError::new(Refusal::OutputTooShort, 0));
     }
+    Ok(PairsBegun {
+        end,
+        pairs: Some(0),
+    })
 }
 
 // Fields at the front of the lent output, up to their pairs, which were checked before.
@@ -140,60 +117,37 @@ pub fn begin_fields(
     text: &[u8],
     found: Result<usize>,
     out: &mut [u8],
-) -> PairsBegun
+) -> Result<PairsBegun>
     ensures { BeginsFields (kind_number ext_type) text.now found out.old out.new result }
 {
-    match ext_type {
-        ExtFieldType::Bitfield00 => {
-            let answer = write_octets(text, out);
-            PairsBegun {
-                to: out.len(),
-                answer,
-            }
-        }
-        ExtFieldType::Reserved01 => {
-            let answer = write_octet(text, out);
-            PairsBegun {
-                to: out.len(),
-                answer,
-            }
-        }
-        ExtFieldType::Reserved10 => {
-            let answer = write_octet(text, out);
-            PairsBegun {
-                to: out.len(),
-                answer,
-            }
-        }
-        ExtFieldType::ParameterPairs11 => begin_pairs(found, out.len()),
-    }
+    let end = match ext_type {
+        ExtFieldType::Bitfield00 => write_octets(text, out)?,
+        ExtFieldType::Reserved01 | ExtFieldType::Reserved10 => write_octet(text, out)?,
+        ExtFieldType::ParameterPairs11 => return begin_pairs(found, out.len()),
+    };
+    Ok(PairsBegun { end, pairs: None })
 }
 
-// The pairs that are left to put; the answer is the one begun.
+// The pairs that are left to put; the answer is how many bytes there are with them.
 pub fn put_pairs<P: PairList + Copy>(
     text: &[u8],
     pairs: P,
     begun: PairsBegun,
     out: &mut [u8],
-) -> Result<usize>
-    ensures { (result ≡ begun.answer)
-        × (out.new ≡ put_pairs text.now (P.lengths pairs) out.old (put_start begun.to)) }
+) -> usize
+    ensures { (result ≡ begun.end)
+        × (out.new ≡ put_left text.now (P.lengths pairs) out.old begun.pairs) }
 {
+    let Some(to) = begun.pairs else {
+        return begun.end;
+    };
     let count = pairs.count();
-    let mut s = put_start(begun.to);
+    let mut s = put_start(to);
     for i in 0..(count + 1) / 2 {
-        let identifier_len = pairs.length(2 * i);
-        let value_len = pairs.length(2 * i + 1);
-        s = put_pair(
-            text,
-            s,
-            identifier_len,
-            value_len,
-            2 * i + 2 < count,
-            &mut *out,
-        );
+        let pair = pair_at(pairs, i);
+        s = put_pair(text, s, pair, 2 * i + 2 < count, &mut *out);
     }
-    begun.answer
+    begun.end
 }
 
 fn write_fields<P: PairList + Copy>(
@@ -207,10 +161,11 @@ fn write_fields<P: PairList + Copy>(
         (written result) out.old out.new }
 {
     let found = check_pairs(text, pairs, strict);
-    let begun = begin_fields(ext_type, text, found, &mut *out);
-    put_pairs(text, pairs, begun, out)
+    let begun = begin_fields(ext_type, text, found, &mut *out)?;
+    Ok(put_pairs(text, pairs, begun, out))
 }
 
+// Fields at the front of the lent output. A name of the Rust ("names included", the tender), and so is the next.
 pub fn write_ext_fields<P: PairList + Copy>(
     ext_type: ExtFieldType,
     text: &[u8],

@@ -1,5 +1,6 @@
 -- The bytes of a header that is written, and how many they are.
-use Rattle.std.proofs.Common.{Option, None, Result, Err}
+use Rattle.std.proofs.Common.{Option, None, Result, Ok, Err}
+use Rattle.std.specs.Option.{option_map}
 use Rattle.ext.specs.declared.ExtFieldType.{ExtFieldType}
 use Prim.Native.Nat.{ℕ, ◌+◌, ◌-◌, ◌*◌, ◌<◌, ◌≤◌}
 use mathlib.Core.Path.{◌≡◌, ◌∙◌, refl, sym, ap, subst}
@@ -7,20 +8,21 @@ use mathlib.Core.List.{List, [], ◌∷◌, ◌++◌}
 use mathlib.Core.Bool.{Bool, true, false}
 use native.Mathlib.Omega.{arith}
 use lib.Dec.{eqb, leb}
-use borrow.Author.Tests.{eqb-true, leb-true}
+use borrow.Author.Tests.{le-leb, eqb-true, leb-true}
 use borrow.Rule.Slice.PartMut.{mid_of, put_mid, mid_len, same_len_mid}
 use lib.ListN.{length, set, length-append, length-set}
 use lib.Seq.{sets, length-sets}
 use Rattle.error.specs.Choice.{if}
-use Rattle.error.specs.Answer.{Answer, gives, refuses, bind, map, refusal, written}
+use Rattle.error.specs.Answer.{Answer, gives, refuses, bind, map, number, refusal}
 use Rattle.error.specs.Emits.{emitted, Emits}
 use Rattle.laws.proofs.Runs.{sets-append, sets-front, emits-part}
+use Rattle.laws.proofs.Emitted.{emits-refused}
 use Rattle.laws.proofs.Writers.{emits-all}
 use Rattle.mbi.specs.Bytes.{mbi_bytes, groups}
 use Rattle.mbi.proofs.Length.{bytes-five}
-use Rattle.laws.proofs.Tests.{zero_one}
+use Rattle.laws.proofs.Tests.{if-true, zero_one}
 use Rattle.ext.specs.Kinds.{Fields, bitfield, reserved, pairs}
-use Rattle.ext_write.specs.Internal.Left.{Left, none_left, pairs-left}
+use Rattle.ext_write.specs.Internal.Left.{Left, refused, none_left, pairs-left}
 use Rattle.ext_write.specs.declared.PairsBegun.{PairsBegun}
 use Rattle.error.specs.declared.WbmpError.{WbmpError}
 use Rattle.error.specs.declared.Refusal.TheVariants.{OutputTooShort}
@@ -116,15 +118,34 @@ module _ (strict : Bool) (w h kind : ℕ) (text lengths : List ℕ) where
           ap gives m ∙ ap (map length) (sym (lent_gives bytes e))
       go (refuses code offset) e q = zero_one (cc)
 
-  -- a header that is refused leaves no pairs
-  pub lent-short : (old : List ℕ) (n : ℕ) (b : PairsBegun) (e : WbmpError) → b ≡ record { to = length old; answer = Err e } → e
-      ≡ record { kind = OutputTooShort; offset = 0 }
+  -- a header that has no room
+  pub lent-short : (old : List ℕ) (n : ℕ) (e : WbmpError) → e ≡ record { kind = OutputTooShort; offset = 0 }
       → gives n ≡ map length (lent_bytes strict kind text lengths) → length old < 2 + length (size_bytes w h) + n
-      → Left strict text lengths old b (Emits (lent_header strict w h kind text lengths) (written b.answer) old)
-  lent-short old n b e q f g k =
-      none_left (ap (λ (x : PairsBegun). x.to) q)
-      (short-emitted (lent_header strict w h kind text lengths) (2 + length (size_bytes w h) + n) old (written b.answer)
-      (ap (λ (x : PairsBegun). written x.answer) q ∙ ap (λ (x : WbmpError). refusal x) f) (lent_length n g) k)
+      → Left strict text lengths old (λ a out. Emits (lent_header strict w h kind text lengths) a old out) (Err e)
+  lent-short old n e f g k =
+      refused e
+      (short-emitted (lent_header strict w h kind text lengths) (2 + length (size_bytes w h) + n) old (refusal e)
+      (ap (λ (x : WbmpError). refusal x) f) (lent_length n g) k)
+
+  -- a header whose fields are refused
+  lent_refuses : (e : WbmpError) → refusal {A = ℕ} e ≡ map length (lent_bytes strict kind text lengths)
+      → refusal {A = ℕ} e ≡ map length (lent_header strict w h kind text lengths)
+  lent_refuses e = go (lent_fields kind text lengths)
+    where
+      bytes : (f : Fields) (a : Answer (List ℕ)) → refusal {A = ℕ} e ≡ map length a
+          → refusal {A = ℕ} e ≡ map length (map (λ b. header_bytes (fix_byte f) b w h) a)
+      bytes f (gives b) q = zero_one (cc)
+      bytes f (refuses code offset) q = q
+
+      go : (a : Answer Fields) → refusal {A = ℕ} e ≡ map length (bind a (fields_bytes strict))
+          → refusal {A = ℕ} e ≡ map length (bind a (fields_header strict w h))
+      go (gives f) q = bytes f (fields_bytes strict f) q
+      go (refuses code offset) q = q
+
+  pub lent-refused : (old : List ℕ) (e : WbmpError) → refusal {A = ℕ} e ≡ map length (lent_bytes strict kind text lengths)
+      → Left strict text lengths old (λ a out. Emits (lent_header strict w h kind text lengths) a old out) (Err e)
+  lent-refused old e q =
+      refused e (emits-refused (lent_header strict w h kind text lengths) (number e.kind) e.offset old (lent_refuses e q))
 
   -- its parts: the sizes first, then the fields before them
   lent-put : (old : List ℕ) (n : ℕ) (bytes : List ℕ) → lent_bytes strict kind text lengths ≡ gives bytes → n ≡ length bytes
@@ -142,98 +163,105 @@ module _ (strict : Bool) (w h kind : ℕ) (text lengths : List ℕ) where
       (header-put (128 + kind * 32) bytes w h old (2 + length (size_bytes w h) + length bytes)
       (omega (arith, header-length (128 + kind * 32) bytes w h)) (omega arith))
 
-  -- what is left of the fields that were begun in the output from index 2 on, once the rest of the header is there
-  pub lent-left : (old l part : List ℕ) (n : ℕ) (b b' : PairsBegun) → gives n ≡ map length (lent_bytes strict kind text lengths)
-      → 2 + length (size_bytes w h) + n ≤ length old
-      → l ≡ sets (set (set old 0 0) 1 (128 + kind * 32)) (2 + n) (size_bytes w h) → length part ≡ length (mid_of 2 (length l - 2) l)
-      → b'.to ≡ 2 + b.to → written b'.answer ≡ gives (2 + length (size_bytes w h) + n)
-      → Left strict text lengths part b (Emits (lent_bytes strict kind text lengths) (written b.answer) (mid_of 2 (length l - 2) l))
-      → Left strict text lengths (put_mid 2 (length l - 2) l part) b'
-      (Emits (lent_header strict w h kind text lengths) (written b'.answer) old)
-  lent-left old l part n b b' e f g k to answer x = go x
-    where
-      long : length l ≡ length old
-      long = ap length g ∙ length-sets (set (set old 0 0) 1 (128 + kind * 32)) (2 + n) (size_bytes w h)
-          ∙ length-set (set old 0 0) 1 (128 + kind * 32) ∙ length-set old 0 0
+  -- the fields are begun in the output from index 2 on, where the rest of the header is there
+  module _ (old l part : List ℕ) (n : ℕ) (e : gives n ≡ map length (lent_bytes strict kind text lengths))
+      (f : 2 + length (size_bytes w h) + n ≤ length old) (g : l ≡ sets (set (set old 0 0) 1 (128 + kind * 32)) (2 + n) (size_bytes w h))
+      (k : length part ≡ length (mid_of 2 (length l - 2) l)) where
+    long : length l ≡ length old
+    long = ap length g ∙ length-sets (set (set old 0 0) 1 (128 + kind * 32)) (2 + n) (size_bytes w h)
+        ∙ length-set (set old 0 0) 1 (128 + kind * 32) ∙ length-set old 0 0
 
-      -- the part, and the whole with it put back
-      behind : length part ≡ length l - 2
-      behind = k ∙ mid_len 2 (length l) l (omega arith)
+    -- the part, and the whole with it put back
+    behind : length part ≡ length l - 2
+    behind = k ∙ mid_len 2 (length l) l (omega arith)
 
-      whole : length (put_mid 2 (length l - 2) l part) ≡ length l
-      whole = same_len_mid 2 (length l - 2) l part k
+    whole : length (put_mid 2 (length l - 2) l part) ≡ length l
+    whole = same_len_mid 2 (length l - 2) l part k
 
-      -- fields that the part holds are the header's
-      done : (bytes new : List ℕ) (r : Answer ℕ) → lent_bytes strict kind text lengths ≡ gives bytes
-          → Emits (lent_bytes strict kind text lengths) r (mid_of 2 (length l - 2) l) new
-          → Emits (lent_header strict w h kind text lengths) (gives (2 + length (size_bytes w h) + n)) old (put_mid 2 (length l - 2) l new)
-      done bytes new r p m =
-          let q : n ≡ length bytes = length-given (lent_bytes strict kind text lengths) n bytes e p in
-          let d = emits-part 2 l bytes new r (omega (arith, long))
-          (subst (λ (a : Answer (List ℕ)). Emits a r (mid_of 2 (length l - 2) l) new) p m) in
-          subst (Emits (lent_header strict w h kind text lengths) (gives (2 + length (size_bytes w h) + n)) old)
-          (sym (d ∙ ap (λ (z : List ℕ). sets z 2 bytes) g)) (lent-put old n bytes p q f)
+    -- fields that the part holds are the header's
+    done : (bytes new : List ℕ) (r : Answer ℕ) → lent_bytes strict kind text lengths ≡ gives bytes
+        → Emits (lent_bytes strict kind text lengths) r (mid_of 2 (length l - 2) l) new
+        → Emits (lent_header strict w h kind text lengths) (gives (2 + length (size_bytes w h) + n)) old (put_mid 2 (length l - 2) l new)
+    done bytes new r p m =
+        let q : n ≡ length bytes = length-given (lent_bytes strict kind text lengths) n bytes e p in
+        let d = emits-part 2 l bytes new r (omega (arith, long))
+        (subst (λ (a : Answer (List ℕ)). Emits a r (mid_of 2 (length l - 2) l) new) p m) in
+        subst (Emits (lent_header strict w h kind text lengths) (gives (2 + length (size_bytes w h) + n)) old)
+        (sym (d ∙ ap (λ (z : List ℕ). sets z 2 bytes) g)) (lent-put old n bytes p q f)
 
-      fields : (bytes : List ℕ) × (lent_bytes strict kind text lengths ≡ gives bytes)
-      fields = given (lent_bytes strict kind text lengths) n e
+    fields : (bytes : List ℕ) × (lent_bytes strict kind text lengths ≡ gives bytes)
+    fields = given (lent_bytes strict kind text lengths) n e
 
-      go : Left strict text lengths part b (Emits (lent_bytes strict kind text lengths) (written b.answer) (mid_of 2 (length l - 2) l))
-          → Left strict text lengths (put_mid 2 (length l - 2) l part) b'
-          (Emits (lent_header strict w h kind text lengths) (written b'.answer) old)
-      go (none_left t m) =
-          none_left (omega (arith, to, t, behind, whole, long))
-          (subst (λ (r : Answer ℕ). Emits (lent_header strict w h kind text lengths) r old (put_mid 2 (length l - 2) l part)) (sym answer)
-          (done fields.0 part (written b.answer) fields.1 m))
-      go (pairs-left bytes end p a t u m) =
-          pairs-left bytes (2 + length (size_bytes w h) + n) p answer
-          (omega (arith, to, t, ended end (sym a ∙ m.answer)))
-          (omega (arith, whole, long))
-          (subst (Emits (lent_header strict w h kind text lengths) (written b'.answer) old)
-          (sym (ap (λ (i : ℕ). sets (put_mid 2 (length l - 2) l part) i bytes) to
-          ∙ sets-mid 2 (length l - 2) l part b.to bytes (omega (arith, long)) (omega (arith, t, u))))
-          (subst (λ (r : Answer ℕ). Emits (lent_header strict w h kind text lengths) r old
-          (put_mid 2 (length l - 2) l (sets part b.to bytes))) (sym answer)
-          (done fields.0 (sets part b.to bytes) (written b.answer) fields.1 m)))
-        where
-          -- the fields end where their bytes do
-          ended : (end : ℕ) → gives end ≡ emitted (lent_bytes strict kind text lengths) (mid_of 2 (length l - 2) l) → end ≡ n
-          ended end q = emitted-length (lent_bytes strict kind text lengths) (mid_of 2 (length l - 2) l) n end e q
+    -- the header, where its pairs are left to put
+    abbrev begun : Option ℕ → Type 0
+    begun to =
+        Left strict text lengths (put_mid 2 (length l - 2) l part) (λ a out. Emits (lent_header strict w h kind text lengths) a old out)
+        (Ok (record { end = 2 + length (size_bytes w h) + n; pairs = to }))
 
--- what is answered is within the output
-pub none_within : (new : List ℕ) (b : PairsBegun) (e : WbmpError) (to : ℕ) → b ≡ record { to = to; answer = Err e } → HasRoom b new
-none_within new b e to q n g =
-    let r : written b.answer ≡ refusal e = ap (λ (y : PairsBegun). written y.answer) q in
-    zero_one (cc)
+    -- what is left of them is left of the header
+    pub lent-left : (b : PairsBegun) (to : Option ℕ) → to ≡ option_map (λ at. 2 + at) b.pairs
+        → Left strict text lengths part (λ a out. Emits (lent_bytes strict kind text lengths) a (mid_of 2 (length l - 2) l) out) (Ok b)
+        → begun to
+    lent-left b to t (none_left end m) = subst begun (sym t) (none_left _ (done fields.0 part (gives end) fields.1 m))
+    lent-left b to t (pairs-left end at bytes p u v m) =
+        let x : end ≡ n = emitted-length (lent_bytes strict kind text lengths) (mid_of 2 (length l - 2) l) n end e m.answer in
+        subst begun (sym t)
+        (pairs-left (2 + length (size_bytes w h) + n) (2 + at) bytes p (omega arith) (omega (arith, whole, long))
+        (subst (Emits (lent_header strict w h kind text lengths) (gives (2 + length (size_bytes w h) + n)) old)
+        (sym (sets-mid 2 (length l - 2) l part at bytes (omega (arith, long)) (omega (arith, u, v))))
+        (done fields.0 (sets part at bytes) (gives end) fields.1 m)))
 
-pub bytes-within : (old new : List ℕ) (b : PairsBegun) (n : ℕ) → written b.answer ≡ gives n → 0 < n → n ≤ length old → length new
-    ≡ length old → HasRoom b new
-bytes-within old new b n e h k l m f = let q : n ≡ m = cc in (omega arith, omega arith)
+    -- they are not refused
+    pub not_refused : (x : WbmpError)
+        → Left strict text lengths part (λ a out. Emits (lent_bytes strict kind text lengths) a (mid_of 2 (length l - 2) l) out) (Err x)
+        → ⊥
+    not_refused x (refused y m) =
+        let q : n ≡ length fields.0 = length-given (lent_bytes strict kind text lengths) n fields.0 e fields.1 in
+        let d = mid_len 2 (length l) l (omega (arith, long)) in
+        let t = le-leb (length fields.0) (length (mid_of 2 (length l - 2) l)) (omega (arith, long)) in
+        let r : refusal x ≡ emitted (gives fields.0) (mid_of 2 (length l - 2) l) =
+        subst (λ (a : Answer (List ℕ)). refusal x ≡ emitted a (mid_of 2 (length l - 2) l)) fields.1 m.answer in
+        let z = r ∙ if-true _ _ _ t in
+        zero_one (cc)
 
-pub plain-within : (w h : ℕ) (old new : List ℕ) (b : PairsBegun) (x : Result ℕ WbmpError) (to : ℕ) → b ≡ record { to = to; answer = x } → length new
-    ≡ length old
-    → Emits (plain_header w h) (written x) old new → HasRoom b new
-plain-within w h old new b x to q l m n e = by-test (leb (length (header_bytes 0 [] w h)) (length old)) refl
-    (sym e ∙ ap (λ (y : PairsBegun). written y.answer) q ∙ m.answer)
+-- what is begun is within the output
+pub refused-within : (new : List ℕ) (e : WbmpError) → HasRoom (Err e) new
+refused-within new e b q = zero_one (cc)
+
+pub bytes-within : (old new : List ℕ) (end : ℕ) (to : Option ℕ) → 0 < end → end ≤ length old → length new ≡ length old
+    → HasRoom (Ok (record { end = end; pairs = to })) new
+bytes-within old new end to h k l b q =
+    let p : record { end = end; pairs = to } ≡ b = cc in
+    let f : end ≡ b.end = ap (λ (x : PairsBegun). x.end) p in
+    (omega (arith, f), omega (arith, f))
+
+pub plain-within : (w h : ℕ) (old new : List ℕ) (n : ℕ) → length new ≡ length old → Emits (plain_header w h) (gives n) old new
+    → HasRoom (Ok (record { end = n; pairs = None })) new
+plain-within w h old new n l m = by-test (leb (length (header_bytes 0 [] w h)) (length old)) refl m.answer
   where
     by-test : (t : Bool) → leb (length (header_bytes 0 [] w h)) (length old) ≡ t → gives n
-        ≡ if t (gives (length (header_bytes 0 [] w h))) (refuses 25 0) → (0 < n) × (n ≤ length new)
+        ≡ if t (gives (length (header_bytes 0 [] w h))) (refuses 25 0) → HasRoom (Ok (record { end = n; pairs = None })) new
     by-test true t r =
         let f : n ≡ length (header_bytes 0 [] w h) = cc in
         let k = leb-true (length (header_bytes 0 [] w h)) (length old) t in
-        (omega (arith, header-length 0 [] w h), omega arith)
+        bytes-within old new n None (omega (arith, header-length 0 [] w h)) (omega arith) l
     by-test false t r = zero_one (cc)
 
 -- What is left of the fields that are lent, or of none.
-module _ (strict : Bool) (w h : ℕ) (text lengths old new : List ℕ) (b : PairsBegun) where
-  pub presence-left : (t : Bool) (p q : Option ExtFieldType) → t ≡ false → p ≡ q
-      → Left strict text lengths new b (Emits (bind (presented q text lengths) (fields_header strict w h)) (written b.answer) old)
-      → Left strict text lengths new b (Emits (if t (refuses 8 0) (bind (presented p text lengths) (fields_header strict w h)))
-      (written b.answer) old)
-  presence-left t p q e f m = rw (e, f) m
+module _ (strict : Bool) (w h : ℕ) (text lengths old new : List ℕ) where
+  pub presence-left : (r : Result PairsBegun WbmpError) (t : Bool) (p q : Option ExtFieldType) → t ≡ false → p ≡ q
+      → Left strict text lengths new (λ a out. Emits (bind (presented q text lengths) (fields_header strict w h)) a old out) r
+      → Left strict text lengths new
+      (λ a out. Emits (if t (refuses 8 0) (bind (presented p text lengths) (fields_header strict w h))) a old out) r
+  presence-left r t p q e f m = rw (e, f) m
 
-  pub absent-left : (x : Result ℕ WbmpError) → b ≡ record { to = length new; answer = x } → Emits (plain_header w h) (written x) old new
-      → Left strict text lengths new b (Emits (bind (presented None text lengths) (fields_header strict w h)) (written b.answer) old)
+  pub absent-left : (n : ℕ) → Emits (plain_header w h) (gives n) old new
+      → Left strict text lengths new (λ a out. Emits (bind (presented None text lengths) (fields_header strict w h)) a old out)
+      (Ok (record { end = n; pairs = None }))
   unfolding fields_bytes
-  absent-left x e m =
-      none_left (ap (λ (y : PairsBegun). y.to) e) (subst (λ (r : Answer ℕ). Emits (plain_header w h) r old new)
-      (sym (ap (λ (y : PairsBegun). written y.answer) e)) m)
+  absent-left n m = none_left n m
+
+  pub absent-refused : (x : WbmpError) → Emits (plain_header w h) (refusal x) old new
+      → Left strict text lengths new (λ a out. Emits (bind (presented None text lengths) (fields_header strict w h)) a old out) (Err x)
+  unfolding fields_bytes
+  absent-refused x m = refused x m

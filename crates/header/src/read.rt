@@ -1,11 +1,10 @@
-// Whole headers, by recursive descent as the Rust goes.
+// Whole headers, by recursive descent as the Rust goes. By offset: places of refusals and spans of fields are places in the whole input.
 ghost use Rattle.std.specs.Prelude.{◌≡◌, ◌&&◌};
-ghost use Rattle.error.specs.Answer.{answered, map};
-ghost use Rattle.mbi.specs.Read.{read_mbi};
+ghost use Rattle.error.specs.Answer.{map};
 ghost use Rattle.ext.specs.Kinds.{span_of, ext_span, fields_follow, kind_bits, meaning as fields_read};
 ghost use Rattle.ext.specs.Read.{read_fields};
 ghost use Rattle.header.specs.Settings.{settings, inner, ext_inner};
-ghost use Rattle.header.specs.Read.{meaning, outline, outline_sizes, read_header, read_fix, read_after_fix};
+ghost use Rattle.header.specs.Read.{meaning, outline, sized, outline_sizes, read_header, read_fix, read_after_fix};
 
 use crate::{HeaderMode, ParsedHeader};
 use error::{Refusal, Result, WbmpError};
@@ -36,16 +35,6 @@ impl HeaderMode {
         }
     }
 
-    fn read_integer(self, bytes: &[u8], offset: usize) -> Result<(u32, usize)>
-        ensures { answered result ≡ read_mbi self.shortest bytes.now offset }
-    {
-        if self.shortest {
-            mbi::read_mbi_u32_strict(bytes, offset)
-        } else {
-            mbi::read_mbi_u32(bytes, offset)
-        }
-    }
-
     // The fields behind a FixHeader byte, if they are read and follow.
     #[tactic(auto, unfolding(ext::specs::Read::read_fields))]
     fn read_fields(self, bytes: &[u8], offset: usize, fix: u8) -> Result<Option<ExtFields>>
@@ -55,61 +44,68 @@ impl HeaderMode {
         if !self.fields {
             return Ok(None);
         }
-        let fix_header = FixHeaderField::from_byte(fix);
-        if self.classes {
-            ext::parse_ext_fields_strict(fix_header, bytes, offset)
-        } else {
-            ext::parse_ext_fields(fix_header, bytes, offset)
+        ext::parse_ext_fields_inner(FixHeaderField::from_byte(fix), bytes, offset, self.classes)
+    }
+
+    // Both sizes, after the fields or none. The FixHeader byte and the fields stay two, as `ParsedHeader` has them.
+    fn parse_sizes(
+        self,
+        bytes: &[u8],
+        at: usize,
+        fix: u8,
+        fields: Option<ExtFields>,
+    ) -> Result<ParsedHeader>
+        ensures { meaning result ≡ outline_sizes self.shortest bytes.now fix (ext_span fields) at }
+    {
+        let (width, between) = mbi::read_mbi(self.shortest, bytes, at)?;
+        let (height, data_offset) = mbi::read_mbi(self.shortest, bytes, between)?;
+        ParsedHeader::new(width, height, data_offset, fix, fields)
+    }
+
+    #[tactic(auto, using(crate::proofs::HeaderParts::after_fields, crate::proofs::HeaderParts::fields_end))]
+    fn parse_after_fix(self, bytes: &[u8], at: usize, fix: u8) -> Result<ParsedHeader>
+        ensures { meaning result ≡ map outline (read_after_fix (settings self) bytes.now fix at) }
+    {
+        let fields = self.read_fields(bytes, at, fix)?;
+        let end = fields.map_or(at, |f| f.start + f.len);
+        self.parse_sizes(bytes, end, fix, fields)
+    }
+
+    fn parse_fix(self, bytes: &[u8], at: usize) -> Result<ParsedHeader>
+        ensures { meaning result ≡ map outline (read_fix (settings self) bytes.now at) }
+    {
+        let Some(&fix) = bytes.get(at) else {
+            return Err(WbmpError::new(Refusal::FixHeaderMissing, at));
+        };
+        if self.fix_zero && fix != 0 {
+            return Err(WbmpError::new(Refusal::FixHeaderNotZero, at));
         }
+        self.parse_after_fix(bytes, at + 1, fix)
     }
 }
 
-// Both sizes, after the fields or none.
-fn parse_sizes(
-    bytes: &[u8],
-    at: usize,
-    fix: u8,
-    fields: Option<ExtFields>,
-    mode: HeaderMode,
-) -> Result<ParsedHeader>
-    ensures { meaning result ≡ outline_sizes mode.shortest bytes.now fix (ext_span fields) at }
-{
-    let (width, between) = mode.read_integer(bytes, at)?;
-    let (height, data_offset) = mode.read_integer(bytes, between)?;
-    if width == 0 || height == 0 {
-        return Err(WbmpError::new(Refusal::ZeroDimension, data_offset));
+impl ParsedHeader {
+    // A header whose sizes were read, refused where one of them is 0.
+    pub fn new(
+        width: u32,
+        height: u32,
+        data_offset: usize,
+        fix_header: u8,
+        ext_fields: Option<ExtFields>,
+    ) -> Result<ParsedHeader>
+        ensures { meaning result ≡ sized fix_header (ext_span ext_fields) width (height, data_offset) }
+    {
+        if width == 0 || height == 0 {
+            return Err(WbmpError::new(Refusal::ZeroDimension, data_offset));
+        }
+        Ok(ParsedHeader {
+            width,
+            height,
+            data_offset,
+            fix_header,
+            ext_fields,
+        })
     }
-    Ok(ParsedHeader {
-        width,
-        height,
-        data_offset,
-        fix_header: fix,
-        ext_fields: fields,
-    })
-}
-
-#[tactic(auto, using(crate::proofs::HeaderParts::after_fields, crate::proofs::HeaderParts::fields_end))]
-fn parse_after_fix(bytes: &[u8], at: usize, fix: u8, mode: HeaderMode) -> Result<ParsedHeader>
-    ensures { meaning result ≡ map outline (read_after_fix (settings mode) bytes.now fix at) }
-{
-    let fields = mode.read_fields(bytes, at, fix)?;
-    let end = match fields {
-        None => at,
-        Some(f) => f.start + f.len,
-    };
-    parse_sizes(bytes, end, fix, fields, mode)
-}
-
-fn parse_fix(bytes: &[u8], at: usize, mode: HeaderMode) -> Result<ParsedHeader>
-    ensures { meaning result ≡ map outline (read_fix (settings mode) bytes.now at) }
-{
-    let Some(&fix) = bytes.get(at) else {
-        return Err(WbmpError::new(Refusal::FixHeaderMissing, at));
-    };
-    if mode.fix_zero && fix != 0 {
-        return Err(WbmpError::new(Refusal::FixHeaderNotZero, at));
-    }
-    parse_after_fix(bytes, at + 1, fix, mode)
 }
 
 // A header read in any mode.
@@ -117,21 +113,21 @@ fn parse_fix(bytes: &[u8], at: usize, mode: HeaderMode) -> Result<ParsedHeader>
 pub fn parse_header_mode(bytes: &[u8], mode: HeaderMode) -> Result<ParsedHeader>
     ensures { meaning result ≡ map outline (read_header (settings mode) bytes.now) }
 {
-    let (value, offset) = mode.read_integer(bytes, 0)?;
+    let (value, offset) = mbi::read_mbi(mode.shortest, bytes, 0)?;
     if value != 0 {
         return Err(WbmpError::new(Refusal::TypeUnsupported, offset));
     }
-    parse_fix(bytes, offset, mode)
+    mode.parse_fix(bytes, offset)
 }
 
-// The FixHeader byte is skipped, or 0 if strict; no fields are read.
+// The FixHeader byte is skipped, or 0 if strict; no fields are read. A name of the Rust ("names included", the tender).
 pub fn parse_header_inner(bytes: &[u8], strict: bool) -> Result<ParsedHeader>
     ensures { meaning result ≡ map outline (read_header (inner strict) bytes.now) }
 {
     parse_header_mode(bytes, HeaderMode::inner(strict))
 }
 
-// Fields are read where the FixHeader byte says that they follow.
+// Fields are read where the FixHeader byte says that they follow. A name of the Rust, as above.
 pub fn parse_header_ext_inner(bytes: &[u8], strict: bool) -> Result<ParsedHeader>
     ensures { meaning result ≡ map outline (read_header (ext_inner strict) bytes.now) }
 {

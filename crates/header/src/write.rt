@@ -19,7 +19,7 @@ fn plain_len(width: u32, height: u32) -> usize
     2 + mbi::mbi_u32_len(width) + mbi::mbi_u32_len(height)
 }
 
-// An integer, from an index on; the answer is the index after it.
+// An integer, from an index on, not in a lent rest of the output: the answer is the index after it.
 fn put_integer(value: u32, out: &mut [u8], at: usize) -> usize
     requires { at + length (mbi_bytes value) ≤ length out.old }
     ensures { (result ≡ at + length (mbi_bytes value)) × (out.new ≡ sets out.old at (mbi_bytes value)) }
@@ -57,13 +57,6 @@ fn fix_byte(ext_type: ExtFieldType) -> u8
     128 + (ext_type as u8) * 32
 }
 
-// A refusal, where no pairs are left to put in an output of so many bytes.
-fn none_begun(to: usize, answer: Result<usize>) -> PairsBegun
-    ensures { result ≡ record { to = to; answer = answer } }
-{
-    PairsBegun { to, answer }
-}
-
 // A header with fields of a kind, up to their pairs: all is checked before anything is written.
 fn begin_fields_header(
     width: u32,
@@ -72,26 +65,23 @@ fn begin_fields_header(
     text: &[u8],
     found: Result<usize>,
     out: &mut [u8],
-) -> PairsBegun
+) -> Result<PairsBegun>
     ensures { BeginsLent width height (kind_number ext_type) text.now found out.old out.new result }
 {
-    match ext_write::check_fields(ext_type, text, found) {
-        Ok(len) => {
-            let total = plain_len(width, height).saturating_add(len);
-            if out.len() < total {
-                return none_begun(out.len(), Err(WbmpError::new(Refusal::OutputTooShort, 0)));
-            }
-            out[0] = 0;
-            out[1] = fix_byte(ext_type);
-            put_sizes(width, height, out, 2 + len);
-            let begun = ext_write::begin_fields(ext_type, text, found, &mut out[2..]);
-            PairsBegun {
-                to: 2 + begun.to,
-                answer: Ok(total),
-            }
-        }
-        Err(e) => none_begun(out.len(), Err(e)),
+    let len = ext_write::check_fields(ext_type, text, found)?;
+    let end = plain_len(width, height).saturating_add(len);
+    if out.len() < end {
+        return Err(WbmpError::new(Refusal::OutputTooShort, 0));
     }
+    out[0] = 0;
+    out[1] = fix_byte(ext_type);
+    put_sizes(width, height, out, 2 + len);
+    // What passed the check is not refused.
+    let begun = ext_write::begin_fields(ext_type, text, found, &mut out[2..])?;
+    Ok(PairsBegun {
+        end,
+        pairs: begun.pairs.map(|to| 2 + to),
+    })
 }
 
 // A header of sizes that are not 0, with the lent fields or none, up to their pairs, which were checked before.
@@ -102,16 +92,16 @@ pub fn begin_header(
     text: &[u8],
     found: Result<usize>,
     out: &mut [u8],
-) -> PairsBegun
+) -> Result<PairsBegun>
     ensures { BeginsHeader width height ext text.now found out.old out.new result }
 {
     if width == 0 || height == 0 {
-        return none_begun(out.len(), Err(WbmpError::new(Refusal::ZeroDimension, 0)));
+        return Err(WbmpError::new(Refusal::ZeroDimension, 0));
     }
     match ext {
         None => {
-            let answer = write_header(width, height, out);
-            none_begun(out.len(), answer)
+            let end = write_header(width, height, out)?;
+            Ok(PairsBegun { end, pairs: None })
         }
         Some(ext_type) => begin_fields_header(width, height, ext_type, text, found, out),
     }
@@ -131,6 +121,6 @@ pub fn write_header_ext<P: PairList + Copy>(
         (written result) out.old out.new }
 {
     let found = ext_write::check_pairs(text, pairs, strict);
-    let begun = begin_header(width, height, ext, text, found, &mut *out);
-    ext_write::put_pairs(text, pairs, begun, out)
+    let begun = begin_header(width, height, ext, text, found, &mut *out)?;
+    Ok(ext_write::put_pairs(text, pairs, begun, out))
 }

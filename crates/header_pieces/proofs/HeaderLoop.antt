@@ -9,19 +9,18 @@ use Rattle.laws.proofs.Tests.{zero_one}
 use Rattle.header.specs.Settings.{Settings}
 use Rattle.header.specs.Read.{Outline, outline, read_header}
 use Rattle.header_reader.specs.Internal.Machine.{State, start, in_fields, Step, more, done, refused, step_of, steps, after, resume}
-use Rattle.header_reader.specs.Internal.Represents.{Represents, Answers, ReaderStepped}
+use Rattle.header_reader.specs.Internal.Represents.{HeaderStep, Represents, Answers, ReaderStepped}
 use Rattle.header_reader.specs.Internal.Pieces.{onward}
 use Rattle.header.specs.declared.ParsedHeader.{ParsedHeader}
 use Rattle.header_reader.specs.declared.reader.HeaderReader.{HeaderReader}
-use Rattle.header_reader.specs.declared.reader.HeaderStep.{HeaderStep}
+use Rattle.std.specs.declared.ops.ControlFlow.TheVariants.{Continue, Break}
 use Rattle.header_reader.proofs.Machine.{one-step, steps-cons, steps-law, steps-append}
 use Rattle.header_pieces.proofs.Direct.{direct}
 use Rattle.header_reader.proofs.StepReachable.{ReachableStep, reachable-step}
 use Rattle.header_pieces.proofs.BytesTaken.{Moves, taken, moves-step}
 use Rattle.header_pieces.specs.Extension.{field_bytes}
-use Rattle.header_pieces.specs.Internal.Head.{Reached, HasRead, Ends, Heads, is_kept, Keeps}
+use Rattle.header_pieces.specs.Internal.Head.{HeadFed, Reached, HasRead, Ends, Heads, is_kept, Keeps}
 use Rattle.header_pieces.specs.declared.HeadReading.{HeadReading}
-use Rattle.header_pieces.specs.declared.HeadFed.{HeadFed}
 use Rattle.header_pieces.proofs.Readings.{reached-bound}
 use Rattle.header_pieces.proofs.FieldsGrown.{stores, Follow, grown, taken-so}
 use Rattle.header_pieces.proofs.FieldsStored.{Stored, stored_more}
@@ -50,12 +49,12 @@ Headed o bytes piece ext kept r ext' =
 
 -- the code's test and the law's agree
 kept-as : (o : Settings) (st : State) (at : ℕ) (x : Result HeaderStep WbmpError) (y : Step) → Answers o x y → is_kept (in_fields st) at x ≡ stores st at y
-kept-as o st at (Ok (HeaderStep.More r)) (more s) h = refl
-kept-as o st at (Ok (HeaderStep.More r)) (done g) h = absurd h
-kept-as o st at (Ok (HeaderStep.More r)) (refused code place) h = absurd h
-kept-as o st at (Ok (HeaderStep.Done p)) (more s) h = absurd h
-kept-as o st at (Ok (HeaderStep.Done p)) (done g) h = refl
-kept-as o st at (Ok (HeaderStep.Done p)) (refused code place) h = absurd h
+kept-as o st at (Ok (Continue r)) (more s) h = refl
+kept-as o st at (Ok (Continue r)) (done g) h = absurd h
+kept-as o st at (Ok (Continue r)) (refused code place) h = absurd h
+kept-as o st at (Ok (Break p)) (more s) h = absurd h
+kept-as o st at (Ok (Break p)) (done g) h = refl
+kept-as o st at (Ok (Break p)) (refused code place) h = absurd h
 kept-as o st at (Err e) (more s) h = absurd h
 kept-as o st at (Err e) (done g) h = absurd h
 kept-as o st at (Err e) (refused code place) h = ap (λ (n : ℕ). in_fields st && ltb at n) h.1
@@ -104,11 +103,11 @@ module _ (o : Settings) (bytes piece ext₀ : List ℕ) (at kept i : ℕ) (r : H
       ∙ ap (λ (k : Step). after o k (drop (i + 1) piece)) e
 
   -- it goes on
-  pub turn_more : (next : HeaderReader) → x ≡ Ok (HeaderStep.More next) → Going o bytes piece ext₀ at kept (i + 1) next count' ext'
+  pub turn_more : (next : HeaderReader) → x ≡ Ok (Continue next) → Going o bytes piece ext₀ at kept (i + 1) next count' ext'
   unfolding steps
   turn_more next e = go (step_of o st b) refl (subst (λ (k : Result HeaderStep WbmpError). Answers o k (step_of o st b)) e answers)
     where
-      go : (y : Step) → step_of o st b ≡ y → Answers o (Ok (HeaderStep.More next)) y → Going o bytes piece ext₀ at kept (i + 1) next count' ext'
+      go : (y : Step) → step_of o st b ≡ y → Answers o (Ok (Continue next)) y → Going o bytes piece ext₀ at kept (i + 1) next count' ext'
       go (more s) q a =
           let m = behind [] (more s) q (subst⁻¹ (λ (k : Result HeaderStep WbmpError). Answers o k (more s)) e a) refl in
           record {
@@ -127,12 +126,12 @@ module _ (o : Settings) (bytes piece ext₀ : List ℕ) (at kept i : ℕ) (r : H
       go (refused code place) q a = absurd a
 
   -- it has ended with the header
-  pub turn-done : (h : ParsedHeader) → x ≡ Ok (HeaderStep.Done h)
-      → Headed o bytes piece ext₀ kept (Ok (HeadFed.Done h (i + 1))) ext'
+  pub turn-done : (h : ParsedHeader) → x ≡ Ok (Break h)
+      → Headed o bytes piece ext₀ kept (Ok (Break (h, i + 1))) ext'
   turn-done h e = go (step_of o st b) refl (subst (λ (k : Result HeaderStep WbmpError). Answers o k (step_of o st b)) e answers) (moves-step o st b)
     where
-      go : (y : Step) → step_of o st b ≡ y → Answers o (Ok (HeaderStep.Done h)) y → Moves (taken st) y
-          → Headed o bytes piece ext₀ kept (Ok (HeadFed.Done h (i + 1))) ext'
+      go : (y : Step) → step_of o st b ≡ y → Answers o (Ok (Break h)) y → Moves (taken st) y
+          → Headed o bytes piece ext₀ kept (Ok (Break (h, i + 1))) ext'
       go (more s) q a m = absurd a
       go (done y) q a m =
           let body : h.data_offset ≡ y.body = ap (λ (k : Outline). k.body) a in
@@ -175,7 +174,7 @@ going-first o bytes piece ext at kept r h =
 -- behind the last byte
 pub going-last : (o : Settings) (bytes piece ext₀ : List ℕ) (at kept i : ℕ) (r : HeaderReader) (count : ℕ) (ext : List ℕ) (now : ℕ)
     → Going o bytes piece ext₀ at kept i r count ext → length piece ≤ i → now ≡ (at + i) % 2 ^ 64
-    → Headed o bytes piece ext₀ kept (Ok (HeadFed.More (record { reader = r; at = now; kept = count }))) ext
+    → Headed o bytes piece ext₀ kept (Ok (Continue (record { reader = r; at = now; kept = count }))) ext
 going-last o bytes piece ext₀ at kept i r count ext now g l n =
     let e : take i piece ≡ piece = take_all i piece l in
     let b = reached-bound o (bytes ++ take i piece) r (at + i) count g.reached in
@@ -185,16 +184,22 @@ going-last o bytes piece ext₀ at kept i r count ext now g l n =
       subst (λ (p : List ℕ). ext ≡ sets ext₀ kept (drop kept (field_bytes o (bytes ++ p)))) e g.stored.buffer,
     )
 
+-- how many bytes of a piece a header that ended in it took
+abbrev pub took : Result HeadFed WbmpError → ℕ
+took (Ok (Continue next)) = 0
+took (Ok (Break (h, taken))) = taken
+took (Err e) = 0
+
 -- for every reading
 pub ends : {h₀ : HeadReading} {piece ext : List ℕ} {r : Result HeadFed WbmpError} {ext' : List ℕ}
-    → 4118 ≤ length ext → ((h : ParsedHeader) (taken : ℕ) → r ≡ Ok (HeadFed.Done h taken) → taken ≤ length piece)
+    → 4118 ≤ length ext → ((h : ParsedHeader) (taken : ℕ) → r ≡ Ok (Break (h, taken)) → taken ≤ length piece)
     → ((o : Settings) (bytes : List ℕ) → HasRead o bytes h₀ → Headed o bytes piece ext h₀.kept r ext')
     → Heads h₀ piece ext r ext'
 ends big n h =
     record { within = n; short = λ l. absurd (omega arith); does = λ b o bytes p. (h o bytes p).0; stores = λ b o bytes p. (h o bytes p).1 }
 
 -- over a short buffer
-pub untaken : (h₀ : HeadReading) (piece ext : List ℕ) → length ext < 4118 → Heads h₀ piece ext (Ok (HeadFed.More h₀)) ext
+pub untaken : (h₀ : HeadReading) (piece ext : List ℕ) → length ext < 4118 → Heads h₀ piece ext (Ok (Continue h₀)) ext
 untaken h₀ piece ext l =
     record {
       within = λ h n e. zero_one (cc);

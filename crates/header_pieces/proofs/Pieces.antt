@@ -7,14 +7,14 @@ use Rattle.mbi.specs.Read.{read_byte}
 use Rattle.header.specs.Settings.{Settings, settings}
 use Rattle.header.specs.Read.{Outline, outline, parsed, read_header}
 use Rattle.header_reader.specs.Internal.Machine.{State, start, Step, more, done, refused, step_of, steps, after, resume}
-use Rattle.header_reader.specs.Internal.Represents.{Represents, Answers, ReaderStepped}
+use Rattle.header_reader.specs.Internal.Represents.{HeaderStep, Represents, Answers, ReaderStepped}
 use Rattle.header_reader.specs.Internal.Pieces.{join, onward, Fed, nothing, byte, last, bad, Run, closed, piece, whole, met}
 use Rattle.header.specs.declared.HeaderMode.{HeaderMode}
 use Rattle.header.specs.declared.ParsedHeader.{ParsedHeader}
 use Rattle.header_reader.specs.declared.phase.PartialInteger.{PartialInteger}
 use Rattle.header_reader.specs.declared.phase.Phase.{Phase}
 use Rattle.header_reader.specs.declared.reader.HeaderReader.{HeaderReader}
-use Rattle.header_reader.specs.declared.reader.HeaderStep.{HeaderStep}
+use Rattle.std.specs.declared.ops.ControlFlow.TheVariants.{Continue, Break}
 use Rattle.header_reader.proofs.Machine.{steps-cons, steps-law}
 use Rattle.header_reader.proofs.StepReachable.{reachable-start}
 use Rattle.header_reader.proofs.ReaderPromises.{goes-on, is-done}
@@ -22,12 +22,12 @@ use Rattle.header_pieces.proofs.Direct.{direct}
 
 module _ (o : Settings) where
   -- what a case of the code's step says of the definitions' step
-  open_is : {r : HeaderReader} (x : Step) → Answers o (Ok (HeaderStep.More r)) x → (st : State) × ((x ≡ more st) × Represents r o st)
+  open_is : {r : HeaderReader} (x : Step) → Answers o (Ok (Continue r)) x → (st : State) × ((x ≡ more st) × Represents r o st)
   open_is (more st) h = (st, (refl, h))
   open_is (done g) h = absurd h
   open_is (refused code offset) h = absurd h
 
-  done-is : (p : ParsedHeader) (x : Step) → Answers o (Ok (HeaderStep.Done p)) x → x ≡ done (parsed p)
+  done-is : (p : ParsedHeader) (x : Step) → Answers o (Ok (Break p)) x → x ≡ done (parsed p)
   done-is p (more st) h = absurd h
   done-is p (done g) h = ap done (sym h)
   done-is p (refused code offset) h = absurd h
@@ -97,19 +97,19 @@ third = record { mode = lenient; phase = Phase.InWidth 0 None (begun 2); reachab
 abbrev fourth : HeaderReader
 fourth = record { mode = lenient; phase = Phase.InHeight 0 None 9 (begun 3); reachable = omega arith }
 
-type : ReaderStepped first 0 (Ok (HeaderStep.More second))
+type : ReaderStepped first 0 (Ok (Continue second))
 unfolding step_of read_byte
 type = goes-on first 0 second refl refl
 
-fix : ReaderStepped second 0 (Ok (HeaderStep.More third))
+fix : ReaderStepped second 0 (Ok (Continue third))
 unfolding step_of
 fix = goes-on second 0 third refl refl
 
-width : ReaderStepped third 9 (Ok (HeaderStep.More fourth))
+width : ReaderStepped third 9 (Ok (Continue fourth))
 unfolding step_of read_byte
 width = goes-on third 9 fourth refl refl
 
-height : ReaderStepped fourth 2 (Ok (HeaderStep.Done sized))
+height : ReaderStepped fourth 2 (Ok (Break sized))
 unfolding step_of read_byte
 height = is-done fourth 2 sized refl
 

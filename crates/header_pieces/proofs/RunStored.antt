@@ -12,7 +12,7 @@ use Rattle.header_reader.specs.Internal.Standing.{Reachable}
 use Rattle.header_reader.specs.Internal.Pieces.{onward}
 use Rattle.header_reader.specs.Internal.Run.{fields_start, Inside, RunReached, ReaderRuns}
 use Rattle.header_reader.specs.declared.reader.HeaderReader.{HeaderReader}
-use Rattle.header_reader.specs.declared.reader.HeaderRun.{HeaderRun}
+use Rattle.header_reader.specs.declared.run.Ran.{Ran}
 use Rattle.header_reader.proofs.Machine.{steps-append}
 use Rattle.header_pieces.proofs.BytesTaken.{taken}
 use Rattle.header_pieces.specs.Extension.{field_bytes}
@@ -59,9 +59,9 @@ in_bounds (in_width fix f at v n) e s = zero_one (cc)
 in_bounds (in_height fix f w at v n) e s = zero_one (cc)
 
 -- what the code does from byte i on
-pub runs_on : (r₀ : HeaderReader) (kept i : ℕ) (piece ext : List ℕ) (x : HeaderRun) (count : ℕ) (ext' : List ℕ) → i ≤ length piece
+pub runs_on : (r₀ : HeaderReader) (kept i : ℕ) (piece ext : List ℕ) (x : Ran HeaderReader) (count : ℕ) (ext' : List ℕ) → i ≤ length piece
     → ReaderRuns r₀ (take (length piece - i) (drop i piece)) x → KeepsRun kept (take (i + x.taken - i) (drop i piece)) ext count ext'
-    → RunsOn r₀ kept i piece ext (record { taken = i + x.taken; kept = count; reader = x.reader }) ext'
+    → RunsOn r₀ kept i piece ext (record { taken = i + x.taken; kept = count; reader = x.next }) ext'
 runs_on r₀ kept i piece ext x count ext' h a k =
     let rest : take (length piece - i) (drop i piece) ≡ drop i piece =
     take_all (length piece - i) (drop i piece) (rw length-drop (omega arith)) in
@@ -70,7 +70,7 @@ runs_on r₀ kept i piece ext x count ext' h a k =
     record {
       later = omega arith;
       within = omega (arith, b.within, length-drop i piece);
-      ran = λ o st p. subst⁻¹ (λ (m : ℕ). RunReached o st (take m (drop i piece)) x.reader) n (b.does o st p);
+      ran = λ o st p. subst⁻¹ (λ (m : ℕ). RunReached o st (take m (drop i piece)) x.next) n (b.does o st p);
       keeps = k;
     }
 

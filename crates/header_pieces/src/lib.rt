@@ -11,6 +11,7 @@ use error::{Result, WbmpError};
 use ext::MAX_EXT_FIELD_BYTES;
 use header::{HeaderMode, ParsedHeader};
 use header_reader::{FieldsSeen, HeaderReader, HeaderStep};
+use std::ops::ControlFlow;
 
 // The least length of an extension buffer, 4,118: no fields are longer, since the last pair starts at 4,095 at most and has a header byte
 // and 7 and 15 bytes.
@@ -26,11 +27,7 @@ pub struct HeadReading {
 }
 
 // What a piece does: the header goes on behind it, or ended with so many of its bytes.
-#[derive(Clone, Copy)]
-pub enum HeadFed {
-    More(HeadReading),
-    Done(ParsedHeader, usize),
-}
+pub type HeadFed = ControlFlow<(ParsedHeader, usize), HeadReading>;
 
 impl HeadReading {
     pub fn new(mode: HeaderMode) -> HeadReading
@@ -63,25 +60,13 @@ fn is_kept(inside: bool, at: usize, i: usize, step: Result<HeaderStep>) -> bool
     ensures { result ≡ is_kept inside (at + i) step }
 {
     match step {
-        Ok(HeaderStep::More(_)) => inside,
-        Ok(HeaderStep::Done(_)) => false,
+        Ok(ControlFlow::Continue(_)) => inside,
+        Ok(ControlFlow::Break(_)) => false,
         Err(e) => inside && at < e.offset && i < e.offset - at,
     }
 }
 
-// Stores a byte that is wanted behind those kept, and says how many are kept then. The count stands beside the buffer, which is lent anew
-// with each piece.
-fn keep(ext: &mut [u8], kept: usize, byte: u8, wanted: bool) -> usize
-    ensures { Keeps kept byte wanted ext.old result ext.new }
-{
-    if wanted && kept < ext.len() {
-        ext[kept] = byte;
-        return kept + 1;
-    }
-    kept
-}
-
-// How far into a piece a reader has come, and how many extension bytes are kept by then.
+// How far into a piece a reader has come, and how many extension bytes are kept by then. No HeadReading: its `at` counts within the file.
 #[derive(Clone, Copy)]
 struct HeadRun {
     taken: usize,
@@ -89,7 +74,8 @@ struct HeadRun {
     reader: HeaderReader,
 }
 
-// Stores a run of bytes behind those kept, where it has room, and says how many are kept then.
+// Stores a run of bytes behind those kept, where it has room, and says how many are kept then. The count stands beside the buffer, which
+// is lent anew with each piece.
 fn keep_run(ext: &mut [u8], kept: usize, run: &[u8]) -> usize
     ensures { KeepsRun kept run.now ext.old result ext.new }
 {
@@ -101,7 +87,19 @@ fn keep_run(ext: &mut [u8], kept: usize, run: &[u8]) -> usize
     end
 }
 
-// Takes and stores the bytes from byte `from` of a piece on that the reader takes at once.
+// The same for a byte that is wanted.
+fn keep(ext: &mut [u8], kept: usize, byte: u8, wanted: bool) -> usize
+    ensures { Keeps kept byte wanted ext.old result ext.new }
+{
+    if wanted {
+        keep_run(ext, kept, &[byte])
+    } else {
+        kept
+    }
+}
+
+// Takes and stores the bytes from byte `from` of a piece on that the reader takes at once. The place stays beside the piece, since the
+// contract speaks of the whole piece.
 fn run_on(reader: HeaderReader, kept: usize, from: usize, piece: &[u8], ext: &mut [u8]) -> HeadRun
     requires { from ≤ length piece.now }
     ensures { RunsOn reader kept from piece.now ext.old result ext.new }
@@ -111,7 +109,7 @@ fn run_on(reader: HeaderReader, kept: usize, from: usize, piece: &[u8], ext: &mu
     HeadRun {
         taken,
         kept: keep_run(ext, kept, &piece[from..taken]),
-        reader: run.reader,
+        reader: run.next,
     }
 }
 
@@ -120,7 +118,7 @@ pub fn feed_header(reading: HeadReading, piece: &[u8], ext: &mut [u8]) -> Result
     ensures { Heads reading piece.now ext.old result ext.new }
 {
     if ext.len() < EXTENSION_BYTES {
-        return Ok(HeadFed::More(reading));
+        return Ok(ControlFlow::Continue(reading));
     }
     let mut run = HeadRun {
         taken: 0,
@@ -136,11 +134,11 @@ pub fn feed_header(reading: HeadReading, piece: &[u8], ext: &mut [u8]) -> Result
         let kept = keep(ext, run.kept, byte, wanted);
         let taken = run.taken + 1;
         match step? {
-            HeaderStep::More(next) => run = run_on(next, kept, taken, piece, ext),
-            HeaderStep::Done(header) => return Ok(HeadFed::Done(header, taken)),
+            ControlFlow::Continue(next) => run = run_on(next, kept, taken, piece, ext),
+            ControlFlow::Break(header) => return Ok(ControlFlow::Break((header, taken))),
         }
     }
-    Ok(HeadFed::More(HeadReading {
+    Ok(ControlFlow::Continue(HeadReading {
         reader: run.reader,
         at: reading.at.wrapping_add(run.taken),
         kept: run.kept,

@@ -1,17 +1,15 @@
 -- From what a phase does to what its reader promises.
-use Rattle.std.proofs.Common.{Ok, Err}
+use Rattle.std.proofs.Common.{Ok}
 use Prim.Native.Nat.{ℕ}
 use mathlib.Core.Path.{◌≡◌, ◌∙◌, refl, ap, subst, subst⁻¹}
-use Rattle.error.specs.Answer.{number}
-use Rattle.error.specs.declared.WbmpError.{WbmpError}
 use Rattle.header.specs.Settings.{Settings, settings}
 use Rattle.header.specs.Read.{parsed}
 use Rattle.header.specs.declared.ParsedHeader.{ParsedHeader}
-use Rattle.header_reader.specs.Internal.Machine.{State, Step, more, done, refused, step_of}
+use Rattle.header_reader.specs.Internal.Machine.{State, Step, more, done, step_of}
 use Rattle.header_reader.specs.Internal.Standing.{state, Reachable}
 use Rattle.header_reader.specs.Internal.Represents.{Represents, Answers, ReaderStepped}
 use Rattle.header_reader.specs.declared.reader.HeaderReader.{HeaderReader}
-use Rattle.header_reader.specs.declared.reader.HeaderStep.{HeaderStep}
+use Rattle.std.specs.declared.ops.ControlFlow.TheVariants.{Continue, Break}
 use Rattle.header_reader.proofs.StepReachable.{ReachableStep, reachable-step}
 
 module _ (r : HeaderReader) (b : ℕ) where
@@ -25,18 +23,14 @@ module _ (r : HeaderReader) (b : ℕ) where
   next-reachable st e = subst⁻¹ ReachableStep e (reachable-step (settings r.mode) (state r.phase) b r.reachable)
 
   pub goes-on : (next : HeaderReader) → next.mode ≡ r.mode → more (state next.phase) ≡ step_of (settings r.mode) (state r.phase) b
-      → ReaderStepped r b (Ok (HeaderStep.More next))
+      → ReaderStepped r b (Ok (Continue next))
   goes-on next m e =
       record {
-        does = λ o st h. subst (λ (k : Step). Answers o (Ok (HeaderStep.More next)) k) (step-is _ e o st h)
+        does = λ o st h. subst (λ (k : Step). Answers o (Ok (Continue next)) k) (step-is _ e o st h)
             (record { mode_is = ap settings m ∙ h.mode_is; phase_is = refl; reachable = next.reachable });
       }
 
   pub is-done : (p : ParsedHeader) → done (parsed p) ≡ step_of (settings r.mode) (state r.phase) b
-      → ReaderStepped r b (Ok (HeaderStep.Done p))
+      → ReaderStepped r b (Ok (Break p))
   is-done p e =
-      record { does = λ o st h. subst (λ (k : Step). Answers o (Ok (HeaderStep.Done p)) k) (step-is _ e o st h) refl }
-
-  pub is-refused : (e : WbmpError) → refused (number e.kind) e.offset ≡ step_of (settings r.mode) (state r.phase) b → ReaderStepped r b (Err e)
-  is-refused e q =
-      record { does = λ o st h. subst (λ (k : Step). Answers o (Err e) k) (step-is _ q o st h) (refl, refl) }
+      record { does = λ o st h. subst (λ (k : Step). Answers o (Ok (Break p)) k) (step-is _ e o st h) refl }

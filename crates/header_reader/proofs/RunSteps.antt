@@ -5,7 +5,7 @@ use Rattle.std.proofs.Common.{zero, nat_le, cond}
 use Rattle.std.specs.List.{prefix_len}
 use mathlib.Core.Bool.{Bool, true, false}
 use mathlib.Core.List.{List, [], ◌∷◌}
-use mathlib.Core.Logic.{◌⊎◌, inl, inr}
+use mathlib.Core.Logic.{inl, inr}
 use native.Mathlib.Numerals.{add-one, one-add}
 use native.Mathlib.Omega.{arith}
 use borrow.Author.Tests.{lt-ltb, le-ltb, le-leb, lt-leb, ne_eqb, leb-true}
@@ -13,16 +13,16 @@ use lib.ListN.{length, take, drop, get_or, length-take, length-drop, take-append
 use lib.Seq.{take-add, drop-cons}
 use Rattle.ext.specs.Internal.Bytewise.{identifier_fault, value_fault}
 use Rattle.header.specs.Settings.{Settings, settings}
-use Rattle.header_reader.specs.Internal.Machine.{State, in_octets, at_pair, in_identifier, in_value, Step, more, step_of, steps}
+use Rattle.header_reader.specs.Internal.Machine.{in_octets, at_pair, in_identifier, in_value, Step, more, step_of, steps}
 use Rattle.header_reader.specs.Internal.Standing.{fields_state, state, Reachable}
 use Rattle.header_reader.specs.Internal.Pieces.{onward}
-use Rattle.header_reader.specs.Internal.Run.{Inside, ReaderRuns, FieldsRuns, Continued}
+use Rattle.header_reader.specs.Internal.Run.{ReaderRuns, FieldsRuns, Continued}
 use Rattle.header_reader.specs.Internal.Run.{PairsAhead}
 use Rattle.header_reader.specs.declared.phase.FieldsPhase.{FieldsPhase}
 use Rattle.header_reader.specs.declared.phase.PairChain.{PairChain}
 use Rattle.header_reader.specs.declared.phase.Phase.{Phase}
 use Rattle.header_reader.specs.declared.run.PairsRun.{PairsRun}
-use Rattle.header_reader.specs.declared.run.FieldsRun.{FieldsRun}
+use Rattle.header_reader.specs.declared.run.Ran.{Ran}
 use Rattle.header_reader.specs.declared.reader.HeaderReader.{HeaderReader}
 use Rattle.header_reader.proofs.Machine.{steps-cons, steps-append}
 use Rattle.header_reader.proofs.StepReachable.{ReachableStep, reachable-steps}
@@ -194,18 +194,18 @@ module _ (most : ℕ) (piece : List ℕ) where
 -- ---- where a reading stands
 
 -- the same under an equation
-pub phased : {p q : FieldsPhase} {o : Settings} {piece : List ℕ} {r : FieldsRun} → p ≡ q → FieldsRuns o (fields_state q) piece r
+pub phased : {p q : FieldsPhase} {o : Settings} {piece : List ℕ} {r : Ran FieldsPhase} → p ≡ q → FieldsRuns o (fields_state q) piece r
     → FieldsRuns o (fields_state p) piece r
 phased {o = o} {piece = piece} {r = r} e a = subst⁻¹ (λ (x : FieldsPhase). FieldsRuns o (fields_state x) piece r) e a
 
-pub stayed : {p : FieldsPhase} {piece : List ℕ} {r : FieldsRun} → r ≡ record { taken = 0; phase = p } → (o : Settings)
+pub stayed : {p : FieldsPhase} {piece : List ℕ} {r : Ran FieldsPhase} → r ≡ record { taken = 0; next = p } → (o : Settings)
     → FieldsRuns o (fields_state p) piece r
 unfolding steps
 stayed {p} {piece} e o =
-    subst⁻¹ (λ (x : FieldsRun). FieldsRuns o (fields_state p) piece x) e (record { within = omega arith; reached = refl; inside = inl refl })
+    subst⁻¹ (λ (x : Ran FieldsPhase). FieldsRuns o (fields_state p) piece x) e (record { within = omega arith; reached = refl; inside = inl refl })
 
 pub octets-run : (most : ℕ) {fix start at n : ℕ} {piece : List ℕ} → n ≡ prefix_len (nat_le 128) (take most piece) → at + most ≤ start + 4096
-    → (o : Settings) → FieldsRuns o (in_octets fix start at) piece (record { taken = n; phase = FieldsPhase.InOctets fix start (at + n) })
+    → (o : Settings) → FieldsRuns o (in_octets fix start at) piece (record { taken = n; next = FieldsPhase.InOctets fix start (at + n) })
 octets-run most {piece = piece} e h o =
     let a = octets-ahead most piece _ e in
     record { within = a.within; reached = a.reached o _ _ _ h; inside = inr (record { here = refl; there = refl; same = refl }) }
@@ -216,7 +216,7 @@ further c r = record { fix = c.fix; start = c.start; at = c.at + r.taken; pairs 
 
 pub pairs-run : {c : PairChain} {most : ℕ} {piece : List ℕ} {r : PairsRun} → PairsAhead most piece r → c.at + most ≤ c.start + 4096
     → (o : Settings) → o.classes ≡ false
-    → FieldsRuns o (fields_state (FieldsPhase.AtPair c)) piece (record { taken = r.taken; phase = FieldsPhase.AtPair (further c r) })
+    → FieldsRuns o (fields_state (FieldsPhase.AtPair c)) piece (record { taken = r.taken; next = FieldsPhase.AtPair (further c r) })
 pairs-run a h o off =
     record { within = a.within; reached = a.reached o _ _ _ _ off h; inside = inr (record { here = refl; there = refl; same = refl }) }
 
@@ -224,42 +224,13 @@ pairs-run a h o off =
 
 module _ (r : HeaderReader) (piece : List ℕ) where
   -- behind a run it stands where a reading can
-  pub run-reachable : {p : FieldsPhase} {x : FieldsRun} → r.phase ≡ Phase.InFields p → FieldsRuns (settings r.mode) (fields_state p) piece x
-      → Reachable (fields_state x.phase)
+  pub run-reachable : {p : FieldsPhase} {x : Ran FieldsPhase} → r.phase ≡ Phase.InFields p → FieldsRuns (settings r.mode) (fields_state p) piece x
+      → Reachable (fields_state x.next)
   run-reachable {p} {x} e a =
       subst ReachableStep a.reached
       (reachable-steps (settings r.mode) (take x.taken piece) (fields_state p) (subst (λ (k : Phase). Reachable (state k)) e r.reachable))
 
-  pub ran : {p : FieldsPhase} {x : FieldsRun} {next : HeaderReader} → r.phase ≡ Phase.InFields p
-      → FieldsRuns (settings r.mode) (fields_state p) piece x → next.mode ≡ r.mode → next.phase ≡ Phase.InFields x.phase
-      → ReaderRuns r piece (record { taken = x.taken; reader = next })
-  ran {p} {x} {next} e a m n =
-      record {
-        within = a.within;
-        does = λ o st h.
-            let is : fields_state p ≡ st = sym (ap state e) ∙ h.phase_is in
-            let run : FieldsRuns o st piece x =
-            subst (λ (k : State). FieldsRuns o k piece x) is
-            (subst (λ (k : Settings). FieldsRuns k (fields_state p) piece x) h.mode_is a) in
-            record {
-              next = fields_state x.phase;
-              represents =
-                  record {
-                    mode_is = ap settings m ∙ h.mode_is;
-                    phase_is = ap state n;
-                    reachable = subst ReachableStep run.reached (reachable-steps o (take x.taken piece) st h.reachable);
-                  };
-              reached = run.reached;
-              inside = none_or o st run.inside;
-            };
-      }
-    where
-      none_or : (o : Settings) (st : State) → (x.taken ≡ 0) ⊎ Inside st (fields_state x.phase)
-          → (take x.taken piece ≡ []) ⊎ Inside st (fields_state x.phase)
-      none_or o st (inl e) = inl (ap (λ (k : ℕ). take k piece) e)
-      none_or o st (inr i) = inr i
-
   -- none taken
-  pub unmoved : ReaderRuns r piece (record { taken = 0; reader = r })
+  pub unmoved : ReaderRuns r piece (record { taken = 0; next = r })
   unfolding steps
   unmoved = record { within = omega arith; does = λ o st h. record { next = st; represents = h; reached = refl; inside = inl refl } }

@@ -1,4 +1,5 @@
-// The class refusal that waits for a pair's end: an identifier's comes before a value's.
+// The class refusal that waits for a pair's end: an identifier's comes before a value's. Two functions: each has its class, and only a
+// value's refusal gives way to the one that waits.
 #![tactic(auto, unfolding(ext::specs::Internal::Bytewise::identifier_fault, ext::specs::Internal::Bytewise::value_fault))]
 
 ghost use Rattle.std.specs.Prelude.{◌≡◌};
@@ -11,16 +12,18 @@ pub(crate) fn identifier_fault(strict: bool, fault: Option<Refusal>, byte: u8) -
     ensures { number_or_0 result ≡ identifier_fault strict (number_or_0 fault) byte }
 {
     if !strict || ext::is_rfc2234_char(byte) {
-        return fault;
+        fault
+    } else {
+        Some(Refusal::IdentifierClass)
     }
-    Some(Refusal::IdentifierClass)
 }
 
 pub(crate) fn value_fault(strict: bool, fault: Option<Refusal>, byte: u8) -> Option<Refusal>
     ensures { number_or_0 result ≡ value_fault strict (number_or_0 fault) byte }
 {
     if !strict || fault.is_some() || ext::is_rfc2234_alpha_digit(byte) {
-        return fault;
+        fault
+    } else {
+        Some(Refusal::ValueClass)
     }
-    Some(Refusal::ValueClass)
 }

@@ -4,9 +4,8 @@
 ghost use Rattle.std.specs.Prelude.{◌≡◌, ◌&&◌, ℕ, ◌≤◌};
 ghost use Rattle.error.specs.Choice.{if};
 ghost use Rattle.error.specs.Answer.{number_or_0};
-ghost use Rattle.ext.specs.Kinds.{absent, fields_follow, kind_bits, kind_number};
+ghost use Rattle.ext.specs.Kinds.{absent, ext_span, fields_follow, kind_bits, kind_number};
 ghost use Rattle.header.specs.Settings.{Settings, settings};
-ghost use Rattle.ext.specs.Kinds.{ext_span};
 ghost use Rattle.header_reader.specs.Internal.Machine.{at_fix, in_octets, at_octet, to_width, to_fields, found, step_of};
 ghost use Rattle.header_reader.specs.Internal.Standing.{fields_state, Reachable};
 ghost use Rattle.header_reader.specs.Internal.Phase.{moved, after_pair};
@@ -36,13 +35,8 @@ fn after_fields(fix: u8, start: usize, end: usize, pairs: usize) -> Result<Phase
     requires { start ≤ end }
     ensures { moved result ≡ to_width fix (found fix start end pairs) end }
 {
-    let fields = Some(ExtFields {
-        ext_type: FixHeaderField::from_byte(fix).ext_type,
-        start,
-        len: end - start,
-        pairs,
-    });
-    to_width(fix, fields, end)
+    let ext_type = FixHeaderField::from_byte(fix).ext_type;
+    to_width(fix, Some(ExtFields::new(ext_type, start, end, pairs)), end)
 }
 
 // Fields of the FixHeader byte's kind come next.

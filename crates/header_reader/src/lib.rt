@@ -11,7 +11,8 @@ mod reader;
 mod run;
 mod step;
 
-pub use reader::{HeaderReader, HeaderRun, HeaderStep};
+pub use reader::{HeaderReader, HeaderStep};
+pub use run::Ran;
 
 // The fields of a file so far, once their last byte was taken. In an Option of an Option two of three values would be None.
 #[derive(Clone, Copy)]

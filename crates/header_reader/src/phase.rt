@@ -1,15 +1,18 @@
 // Where a reading of a header stands between two bytes. `at` is how many bytes were taken.
-ghost use Rattle.std.specs.Prelude.{◌≡◌, [], ◌+◌, ◌-◌, ◌<◌};
+ghost use Rattle.std.specs.Prelude.{◌≡◌, Ok, [], ◌+◌, ◌-◌, ◌<◌};
 ghost use Rattle.error.specs.Answer.{refusal};
 ghost use Rattle.mbi.specs.Read.{read_byte, step_meaning};
 ghost use Rattle.header.specs.Settings.{Settings};
 ghost use Rattle.header_reader.specs.Internal.Machine.{resume};
 ghost use Rattle.header_reader.specs.Internal.Standing.{fields_state};
+ghost use Rattle.header_reader.specs.declared.phase.Phase.{Phase};
+ghost use Rattle.std.specs.declared.ops.ControlFlow.TheVariants.{Continue};
 
 use error::{Refusal, Result, WbmpError};
 use ext::ExtFields;
 use header::{HeaderMode, ParsedHeader};
 use mbi::{MbiStep, mbi_step};
+use std::ops::ControlFlow;
 
 // An integer so far: the value of its first `count` bytes.
 #[derive(Clone, Copy)]
@@ -40,6 +43,7 @@ pub struct PairPart {
 
 #[derive(Clone, Copy)]
 pub enum FieldsPhase {
+    // No `PairChain`: octets have no pairs to count.
     InOctets {
         fix: u8,
         start: usize,
@@ -68,6 +72,7 @@ pub enum Phase {
         at: usize,
     },
     InFields(FieldsPhase),
+    // The FixHeader byte and the fields, here and below, as `ParsedHeader` has them.
     InWidth {
         fix: u8,
         fields: Option<ExtFields>,
@@ -81,27 +86,25 @@ pub enum Phase {
     },
 }
 
-// What one byte does: the header goes on or ends. `HeaderStep` says the same of a reader; a parameter for the two would save no line.
-#[derive(Clone, Copy)]
-pub enum PhaseStep {
-    More(Phase),
-    Done(ParsedHeader),
-}
+// What one byte does: the header goes on or ends.
+pub(crate) type PhaseStep = ControlFlow<ParsedHeader, Phase>;
 
 // The header goes on.
 pub(crate) fn more(phase: Phase) -> Result<PhaseStep>
-    ensures { result ≡ Ok (PhaseStep.More phase) }
+    ensures { result ≡ Ok (Continue phase) }
 {
-    Ok(PhaseStep::More(phase))
+    Ok(ControlFlow::Continue(phase))
 }
 
 // The fields go on.
 pub(crate) fn more_fields(phase: FieldsPhase) -> Result<PhaseStep>
-    ensures { result ≡ Ok (PhaseStep.More (Phase.InFields phase)) }
+    ensures { result ≡ Ok (Continue (Phase.InFields phase)) }
 {
     more(Phase::InFields(phase))
 }
 
+// The bounds that the steps below ask are those of `Reachable`. Kept in the types they would have to hold of what a step makes, which only
+// the whole phase tells.
 impl PartialInteger {
     pub(crate) fn start(at: usize) -> PartialInteger
         ensures { result ≡ record { at = at; value = 0; count = 0 } }

@@ -2,11 +2,12 @@
 ghost use Rattle.header_reader.specs.Internal.Standing.{state, Reachable, reachable_prop};
 
 use crate::FieldsSeen;
-use crate::phase::{PartialInteger, Phase, PhaseStep};
-use crate::run::run_fields;
+use crate::phase::{PartialInteger, Phase};
+use crate::run::{Ran, run_fields, stay};
 use crate::step::step_phase;
 use error::{Refusal, Result, WbmpError};
 use header::{HeaderMode, ParsedHeader};
+use std::ops::ControlFlow;
 
 #[derive(Clone, Copy)]
 pub struct HeaderReader {
@@ -17,18 +18,7 @@ pub struct HeaderReader {
 }
 
 // What one byte does: the header goes on or ends.
-#[derive(Clone, Copy)]
-pub enum HeaderStep {
-    More(HeaderReader),
-    Done(ParsedHeader),
-}
-
-// How many bytes of a piece were taken at once, and the reader behind them.
-#[derive(Clone, Copy)]
-pub struct HeaderRun {
-    pub taken: usize,
-    pub reader: HeaderReader,
-}
+pub type HeaderStep = ControlFlow<ParsedHeader, HeaderReader>;
 
 impl HeaderReader {
     ghost use Rattle.std.specs.Prelude.{◌≡◌};
@@ -52,34 +42,31 @@ impl HeaderReader {
         ensures { ReaderStepped self byte result }
     {
         Ok(match step_phase(self.phase, self.mode, byte)? {
-            PhaseStep::More(phase) => HeaderStep::More(HeaderReader {
+            ControlFlow::Continue(phase) => ControlFlow::Continue(HeaderReader {
                 mode: self.mode,
                 phase,
             }),
-            PhaseStep::Done(header) => HeaderStep::Done(header),
+            ControlFlow::Break(header) => ControlFlow::Break(header),
         })
     }
 
     // Many bytes of extension fields at once, if the fields go on behind them: octets, or whole pairs where no classes are tested. It may
     // take none; `step` then goes on.
-    pub fn run(self, piece: &[u8]) -> HeaderRun
+    pub fn run(self, piece: &[u8]) -> Ran<HeaderReader>
         ensures { ReaderRuns self piece.now result }
     {
         match self.phase {
             Phase::InFields(fields) => {
                 let run = run_fields(fields, self.mode, piece);
-                HeaderRun {
+                Ran {
                     taken: run.taken,
-                    reader: HeaderReader {
+                    next: HeaderReader {
                         mode: self.mode,
-                        phase: Phase::InFields(run.phase),
+                        phase: Phase::InFields(run.next),
                     },
                 }
             }
-            _ => HeaderRun {
-                taken: 0,
-                reader: self,
-            },
+            _ => stay(self),
         }
     }
 

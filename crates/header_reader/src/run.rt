@@ -11,14 +11,14 @@ use crate::phase::{FieldsPhase, PairChain};
 use ext::{MAX_EXT_FIELD_BYTES, PairHeader};
 use header::HeaderMode;
 
-// How many bytes of a piece are taken, and where in the fields the reading stands then.
+// How many bytes of a piece are taken at once, and where the reading stands behind them.
 #[derive(Clone, Copy)]
-pub struct FieldsRun {
+pub struct Ran<T> {
     pub taken: usize,
-    pub phase: FieldsPhase,
+    pub next: T,
 }
 
-// How many bytes whole pairs have, and how many pairs they are.
+// How many bytes whole pairs have, and how many pairs they are. No `Ran`: its `next` is where a reading stands, not a count.
 #[derive(Clone, Copy)]
 pub struct PairsRun {
     pub taken: usize,
@@ -40,7 +40,7 @@ fn pair_size(byte: u8) -> Option<usize>
     if !header.more || header.identifier_len == 0 || header.value_len == 0 {
         return None;
     }
-    Some(1 + header.identifier_len as usize + header.value_len as usize)
+    Some(1 + usize::from(header.identifier_len) + usize::from(header.value_len))
 }
 
 // The whole pairs at the front of a piece behind which others come, each of which starts before byte `most`.
@@ -62,20 +62,20 @@ fn pairs_ahead(most: usize, piece: &[u8]) -> PairsRun
     run
 }
 
-fn stay(phase: FieldsPhase) -> FieldsRun
-    ensures { result ≡ record { taken = 0; phase = phase } }
+pub(crate) fn stay<T>(next: T) -> Ran<T>
+    ensures { result ≡ record { taken = 0; next = next } }
 {
-    FieldsRun { taken: 0, phase }
+    Ran { taken: 0, next }
 }
 
-fn run_octets(fix: u8, start: usize, at: usize, piece: &[u8]) -> FieldsRun
+fn run_octets(fix: u8, start: usize, at: usize, piece: &[u8]) -> Ran<FieldsPhase>
     requires { Reachable (in_octets fix start at) }
     ensures { (o : Settings) → FieldsRuns o (in_octets fix start at) piece.now result }
 {
     let taken = octets_ahead(start + MAX_EXT_FIELD_BYTES - at, piece);
-    FieldsRun {
+    Ran {
         taken,
-        phase: FieldsPhase::InOctets {
+        next: FieldsPhase::InOctets {
             fix,
             start,
             at: at + taken,
@@ -83,7 +83,7 @@ fn run_octets(fix: u8, start: usize, at: usize, piece: &[u8]) -> FieldsRun
     }
 }
 
-fn run_pairs(chain: PairChain, piece: &[u8]) -> FieldsRun
+fn run_pairs(chain: PairChain, piece: &[u8]) -> Ran<FieldsPhase>
     requires { Reachable (fields_state (FieldsPhase.AtPair chain)) }
     ensures { (o : Settings) → o.classes ≡ false
         → FieldsRuns o (fields_state (FieldsPhase.AtPair chain)) piece.now result }
@@ -92,9 +92,9 @@ fn run_pairs(chain: PairChain, piece: &[u8]) -> FieldsRun
         return stay(FieldsPhase::AtPair(chain));
     }
     let run = pairs_ahead(chain.start + MAX_EXT_FIELD_BYTES - chain.at, piece);
-    FieldsRun {
+    Ran {
         taken: run.taken,
-        phase: FieldsPhase::AtPair(PairChain {
+        next: FieldsPhase::AtPair(PairChain {
             at: chain.at + run.taken,
             pairs: chain.pairs + run.pairs,
             ..chain
@@ -102,8 +102,8 @@ fn run_pairs(chain: PairChain, piece: &[u8]) -> FieldsRun
     }
 }
 
-// Whole pairs are taken at once where their classes are not tested, and octets up to the last.
-pub(crate) fn run_fields(phase: FieldsPhase, mode: HeaderMode, piece: &[u8]) -> FieldsRun
+// Whole pairs are taken at once where their classes are not tested, and octets up to the last. The match picks as in `step`.
+pub(crate) fn run_fields(phase: FieldsPhase, mode: HeaderMode, piece: &[u8]) -> Ran<FieldsPhase>
     requires { Reachable (fields_state phase) }
     ensures { FieldsRuns (settings mode) (fields_state phase) piece.now result }
 {

@@ -1,4 +1,4 @@
-// What one byte more does, by where a reading stands.
+// What one byte more does, by where a reading stands: a match picks the function, since each phase has parts of its own.
 ghost use Rattle.std.specs.Prelude.{◌≡◌};
 ghost use Rattle.header.specs.Settings.{settings};
 ghost use Rattle.header_reader.specs.Internal.Machine.{step_of};
@@ -26,7 +26,7 @@ fn step_fields(phase: FieldsPhase, mode: HeaderMode, byte: u8) -> Result<PhaseSt
     }
 }
 
-// What is `Reachable` of a reader is asked of its phase here and below: no part of a phase has it by itself.
+// What is `Reachable` of a reader is asked of its phase here, in fields.rt and in run.rt: a phase is an enum, which has no invariant.
 pub(crate) fn step_phase(phase: Phase, mode: HeaderMode, byte: u8) -> Result<PhaseStep>
     requires { Reachable (state phase) }
     ensures { moved result ≡ step_of (settings mode) (state phase) byte }

@@ -13,5 +13,6 @@ pub mod PaddingCleared
 pub mod WireDots
 pub mod ConvertedBytes
 pub mod ConvertDots
+pub mod RowEndsCleared
 pub mod PackedAsRows
 pub mod Examples

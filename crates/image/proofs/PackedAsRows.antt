@@ -4,25 +4,24 @@ use mathlib.Core.Path.{◌≡◌, refl, ap, sym, ◌∙◌}
 use mathlib.Core.Bool.{Bool, true, false}
 use mathlib.Core.List.{List, [], ◌++◌, append-nil}
 use mathlib.Core.Logic.{inr}
-use native.Mathlib.Nat.{mul_comm, mul-le-mul_right, mod-lt, div-add-mod', div-lt_iff_lt-mul}
+use native.Mathlib.Nat.{mul_comm, mul-le-mul_right, mod-lt, div-add-mod', div-lt_iff_lt-mul, mul-add-mod_self_right, mod-eq_of_lt, zero-add}
 use native.Mathlib.Omega.{arith}
 use borrow.Author.Tests.{eqb-true, eqb-false, ltb-true, ltb-false}
 use lib.Arith.{lt_of_le-ne}
-use lib.Bits.{bit_and}
 use lib.Dec.{eqb, ltb}
-use lib.ListN.{length, get_or, set, take, drop, length-append, length-drop, length-set, get_or-append}
+use lib.ListN.{length, get_or, take, drop, length-append, length-drop, length-set, get_or-append}
 use lib.Seq.{length-take-le, take_all, drop-length, get_or-append-add, get_or-take}
-use lib.Seq.{get_or-drop, get_or-set_same, get_or-set_other, set-get_or, ext_get_or}
+use lib.Seq.{get_or-drop, get_or-set_same, get_or-set_other, ext_get_or}
+use Rattle.error.specs.Choice.{if}
 use Rattle.laws.proofs.Products.{up_to, some_size}
-use Rattle.image.specs.Geometry.{row_bytes, plane_bytes, padding_bits, padding_mask}
-use Rattle.image.specs.Internal.Parts.{clear_rows}
-use Rattle.image.specs.Rows.{clear_low, invert, source_row, to_native, convert_rows, wire_bits}
+use Rattle.image.specs.Geometry.{row_bytes, plane_bytes, padding_bits}
+use Rattle.image.specs.Internal.Parts.{clear_rows, Cleared}
+use Rattle.image.specs.Rows.{clear_low, padded, invert, source_row, to_native, convert_rows, wire_bits}
 use Rattle.image.specs.declared.PixelFormat.{PixelFormat}
 use Rattle.image.specs.declared.PixelFormat.TheVariants.{MonoBlack, MonoWhite}
 use Rattle.image.proofs.PaddingCleared.{padding_at}
 use Rattle.image.proofs.ConvertedBytes.{AllThere, rows-length, rows-outside, rows_inside}
 use Rattle.image.proofs.InvertedBytes.{invert-length, invert-at}
-use Rattle.image.proofs.MaskClears.{mask_low}
 use Rattle.image.proofs.PlaneSizes.{byte_inside}
 use Rattle.image.proofs.WireDots.{wire-byte}
 use Rattle.image.proofs.WireRows.{source-there, source-length, native-length, wire-length}
@@ -35,29 +34,6 @@ module _ (w : ℕ) where
   unfolding clear_rows
   clear-length zero plane = refl
   clear-length (suc h) plane = simp length-set (clear-length h plane)
-
-  -- nothing is cleared where the rows have no padding
-  pub clear_none : w % 8 ≡ 0 → (h : ℕ) (plane : List ℕ) → plane ≡ clear_rows w h plane
-  unfolding clear_rows
-  clear_none e zero plane = refl
-  clear_none e (suc h) plane =
-      let last = h * row + (row - 1) in
-      let p = clear_rows w h plane in
-      let z : padding_bits w ≡ 0 = omega arith in
-      let b : get_or p last 0 ≡ clear_low 0 (get_or p last 0) = omega arith in
-      clear_none e h plane ∙ sym (set-get_or p last 0) ∙ ap (set p last) (b ∙ ap (λ (k : ℕ). clear_low k (get_or p last 0)) (sym z))
-
-  -- one row more, by the mask
-  pub clear_next : (h mask : ℕ) (plane p : List ℕ) → mask ≡ padding_mask w → p ≡ clear_rows w h plane → get_or p (h * row + (row - 1)) 0 < 256
-      → set p (h * row + (row - 1)) (bit_and (get_or p (h * row + (row - 1)) 0) mask) ≡ clear_rows w (h + 1) plane
-  unfolding clear_rows
-  clear_next h mask plane p m e b =
-      let last = h * row + (row - 1) in
-      let n : h + 1 ≡ suc h = omega arith in
-      ap (λ (k : ℕ). set p last (bit_and (get_or p last 0) k)) m
-      ∙ ap (set p last) (mask_low (padding_bits w) (get_or p last 0) (omega arith) b)
-      ∙ ap (λ (l : List ℕ). set l last (clear_low (padding_bits w) (get_or l last 0))) e
-      ∙ ap (λ (k : ℕ). clear_rows w k plane) (sym n)
 
   module _ (wide : 0 < row) where
     -- the rows after the first h are as they were
@@ -127,6 +103,38 @@ module _ (w h : ℕ) (a b : List ℕ)
       ap (λ (n : ℕ). get_or a n 0) (sym e)
       ∙ same (k / r) (k % r) ((div-lt_iff_lt-mul p).1 l) (mod-lt k p) p
       ∙ ap (λ (n : ℕ). get_or b n 0) e
+
+-- byte j of row y
+pub row-padded : (w y j b : ℕ) → j < row_bytes w → padded w (y * row_bytes w + j) b ≡ clear_low (padding_at w j) b
+row-padded w y j b h =
+    ap (λ (k : ℕ). if (eqb (k + 1) (row_bytes w)) (clear_low (padding_bits w) b) b) (mul-add-mod_self_right y (row_bytes w) j ∙ mod-eq_of_lt h)
+    ∙ go (eqb (j + 1) (row_bytes w)) refl
+  where
+    go : (t : Bool) → eqb (j + 1) (row_bytes w) ≡ t → if t (clear_low (padding_bits w) b) b ≡ clear_low (padding_at w j) b
+    go true e =
+        let l = eqb-true (j + 1) (row_bytes w) e in
+        let p : padding_bits w ≡ padding_at w j = omega arith in
+        ap (λ (k : ℕ). clear_low k b) p
+    go false e =
+        let l = eqb-false (j + 1) (row_bytes w) e in
+        let p : 0 ≡ padding_at w j = omega arith in
+        let s : b ≡ clear_low 0 b = omega arith in
+        s ∙ ap (λ (k : ℕ). clear_low k b) p
+
+-- row ends that are cleared are those of all rows
+pub ends_rows : (w h : ℕ) (old new : List ℕ) → length old ≡ plane_bytes w h → Cleared w 0 old new → new ≡ clear_rows w h old
+ends_rows w h old new e c =
+    ext_get_or 0 new (clear_rows w h old) (c.same ∙ sym (clear-length w h old))
+    (λ k l. rows_same w h new (clear_rows w h old) at_place k (omega (arith, e, c.same, mul_comm (row_bytes w) h)))
+  where
+    at_place : (y j : ℕ) → y < h → j < row_bytes w → 0 < row_bytes w
+        → get_or new (y * row_bytes w + j) 0 ≡ get_or (clear_rows w h old) (y * row_bytes w + j) 0
+    at_place y j a b p =
+        let b₀ = get_or old (y * row_bytes w + j) 0 in
+        c.byte (y * row_bytes w + j) (omega (arith, e, byte_inside w h y j a b))
+        ∙ ap (λ (n : ℕ). padded w n b₀) (zero-add (y * row_bytes w + j))
+        ∙ row-padded w y j b₀ b
+        ∙ sym (clear_at w p old j b h y (omega (arith, e, mul_comm (row_bytes w) h)) a)
 
 -- a plane with room for all rows
 module _ (w h : ℕ) (plane : List ℕ) (room : plane_bytes w h ≤ length plane) where

@@ -25,9 +25,6 @@ module _ (w h : ℕ) where
 
 -- a layout that was made for a size
 module _ {w h : ℕ} {l : PlaneLayout} (made : l ≡ layout_of w h) where
-  pub width_is : l.width ≡ w
-  width_is = ap (λ (k : PlaneLayout). k.width) made
-
   pub stride-is : l.stride ≡ row_bytes w
   stride-is = ap (λ (k : PlaneLayout). k.stride) made
 

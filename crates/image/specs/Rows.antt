@@ -1,5 +1,5 @@
 -- Planes in another format, and the bytes of a plane as a file has them (document 01, image.rs). Rows are worked on from the top.
-use Rattle.std.specs.Prelude.{ℕ, zero, suc, ◌+◌, ◌-◌, ◌*◌, ◌/◌, ◌^◌, Bool, List, [], ◌++◌, map, leb, eqb, length, get_or, take, drop, set, replicate}
+use Rattle.std.specs.Prelude.{ℕ, zero, suc, ◌+◌, ◌-◌, ◌*◌, ◌/◌, ◌%◌, ◌^◌, Bool, List, [], ◌++◌, map, leb, eqb, length, get_or, take, drop, set, replicate}
 use Rattle.error.specs.Choice.{if}
 use Rattle.image.specs.Format.{white_bit}
 use Rattle.image.specs.Geometry.{row_bytes, padding_bits}
@@ -13,6 +13,10 @@ clear_low bits b = b / 2 ^ bits * 2 ^ bits
 -- a row whose padding, in its last byte, is cleared
 unfoldable pub clear_padding : ℕ → List ℕ → List ℕ
 clear_padding width row = set row (length row - 1) (clear_low (padding_bits width) (get_or row (length row - 1) 0))
+
+-- byte `at` of a plane without gaps, with its padding cleared if it is the last of its row
+abbrev pub padded : ℕ → ℕ → ℕ → ℕ
+padded width at b = if (eqb (at % row_bytes width + 1) (row_bytes width)) (clear_low (padding_bits width) b) b
 
 abbrev pub invert : List ℕ → List ℕ
 invert row = map (λ b. 255 - b) row

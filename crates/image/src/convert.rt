@@ -7,7 +7,7 @@ ghost use Rattle.image.specs.Internal.Parts.{mask_last, clear_rows};
 ghost use Rattle.image.specs.Rows.{convert_format, convert_rows, invert};
 
 use crate::geometry::row_start;
-use crate::packed::clear_rows;
+use crate::packed::clear_ends;
 use crate::rows::{copy, invert, invert_from, mask_last};
 use crate::{PixelFormat, PlaneLayout};
 use error::{Refusal, Result, WbmpError};
@@ -32,13 +32,14 @@ fn convert_rows(plane: &mut [u8], layout: PlaneLayout, stride: usize)
     }
 }
 
-// All rows of a plane without gaps at once.
+// All rows of a plane without gaps at once. Lengths that go together are a clause, here and in all of this crate: each is a fact of two
+// arguments, one of them `&mut`, and a struct of both would be made for one call.
 fn convert_packed(plane: &mut [u8], layout: PlaneLayout)
     requires { length plane.old ≡ plane_bytes layout.width layout.height }
     ensures { plane.new ≡ clear_rows layout.width layout.height (invert plane.old) }
 {
     invert(plane);
-    clear_rows(plane, layout);
+    clear_ends(plane, layout.width, 0);
 }
 
 // Rows are converted from the top, up to the first that is not wholly there; nothing is changed where the format stays the same.
@@ -78,7 +79,7 @@ fn convert_from(
     let layout = PlaneLayout::new(width, height);
     if from != to && plane.len() == layout.total_bytes {
         invert_from(plane, out);
-        clear_rows(out, layout);
+        clear_ends(out, width, 0);
     } else {
         copy(plane, out);
         convert_format(out, width, height, layout.stride, from, to);

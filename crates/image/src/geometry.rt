@@ -10,7 +10,7 @@ use error::{Refusal, Result, WbmpError};
 pub fn row_stride(width: u32) -> usize
     ensures { result ≡ row_bytes width }
 {
-    (width as usize + 7) / 8
+    (width as usize).div_ceil(8)
 }
 
 // What a row's last byte is masked with, so that its padding is 0.
@@ -27,7 +27,7 @@ pub(crate) fn row_start(bytes: usize, stride: usize, y: usize, count: usize) -> 
 {
     let at = y.checked_mul(stride)?;
     let end = at.checked_add(count)?;
-    if end <= bytes { Some(at) } else { None }
+    (end <= bytes).then_some(at)
 }
 
 // Whether a plane of so many bytes holds an image of this size.

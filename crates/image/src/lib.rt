@@ -15,6 +15,7 @@ mod wire;
 pub use convert::{convert_format, into_format, invert_into};
 pub use dots::is_white;
 pub use geometry::{check_geometry, row_stride};
+pub use packed::clear_ends;
 pub use wire::wire_bits;
 
 #[derive(Clone, Copy, Debug, PartialEq, Eq)]
@@ -47,7 +48,8 @@ impl PixelFormat {
     }
 }
 
-// A plane without gaps between its rows.
+// A plane without gaps between its rows. Calls have width and height as two parameters, as the Rust's and document 01's; where what follows
+// from them goes along it is this.
 #[derive(Clone, Copy)]
 pub struct PlaneLayout {
     pub width: u32,

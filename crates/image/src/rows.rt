@@ -3,7 +3,8 @@ ghost use Rattle.std.specs.Prelude.{◌≡◌, length};
 ghost use Rattle.image.specs.Internal.Parts.{mask_last};
 ghost use Rattle.image.specs.Rows.{invert};
 
-// The bytes of another list, one by one. Counted by hand, as in `copy`: with `for`, and blocks by `try_from`, reading takes four times as long.
+// The bytes of another list, one by one. Counted by hand, as in `copy`: with `for`, and blocks by `try_from`, reading takes four times as
+// long, and native reading of large planes is only 1.1 to 1.4 times as fast as the Rust's.
 fn copy_bytes(from: &[u8], to: &mut [u8])
     requires { length from.now ≡ length to.old }
     ensures { to.new ≡ from.now }
@@ -26,7 +27,7 @@ fn block(from: &[u8]) -> [u8; 16]
 }
 
 // The bytes of another list: block by block, each read whole before it is stored, and then the rest. `copy_from_slice` of any length is a
-// call of memmove, which libcapi.a may not make.
+// call of memmove, which libcapi.a, whose reading this is, may not make.
 pub(crate) fn copy(from: &[u8], to: &mut [u8])
     requires { length from.now ≡ length to.old }
     ensures { to.new ≡ from.now }
@@ -42,7 +43,7 @@ pub(crate) fn copy(from: &[u8], to: &mut [u8])
     copy_bytes(&from[i..], &mut to[i..]);
 }
 
-// The inverted bytes of another list.
+// The inverted bytes of another list. By index: by `to.iter_mut().zip(from)` was tried, after which nothing is known of `to`.
 pub(crate) fn invert_from(from: &[u8], to: &mut [u8])
     requires { length from.now ≡ length to.old }
     ensures { to.new ≡ invert from.now }
@@ -52,6 +53,7 @@ pub(crate) fn invert_from(from: &[u8], to: &mut [u8])
     }
 }
 
+// In place, so not by `invert_from`: source and target are one slice.
 pub(crate) fn invert(row: &mut [u8])
     ensures { row.new ≡ invert row.old }
 {
@@ -64,8 +66,7 @@ pub(crate) fn invert(row: &mut [u8])
 pub(crate) fn mask_last(row: &mut [u8], mask: u8)
     ensures { row.new ≡ mask_last mask row.old }
 {
-    let n = row.len();
-    if n > 0 {
-        row[n - 1] &= mask;
+    if let Some(last) = row.last_mut() {
+        *last &= mask;
     }
 }

@@ -7,12 +7,12 @@ ghost use Rattle.image.specs.Internal.Parts.{mask_last, clear_rows};
 ghost use Rattle.image.specs.Rows.{source_row, to_native, wire_bits};
 
 use crate::geometry::row_start;
-use crate::packed::clear_rows;
+use crate::packed::clear_ends;
 use crate::rows::{invert, invert_from, mask_last};
 use crate::{PixelFormat, PlaneLayout};
 use error::{Refusal, Result, WbmpError};
 
-// Row y of a plane, or zeros where it is not wholly there.
+// Row y of a plane, or zeros where it is not wholly there. A row goes by its place: whether the plane has it is a question about the place.
 fn take_row(plane: &[u8], stride: usize, y: usize, row: &mut [u8])
     ensures { row.new ≡ source_row (length row.old) stride plane.now y }
 {
@@ -40,7 +40,8 @@ fn wire_row(plane: &[u8], stride: usize, y: usize, format: PixelFormat, mask: u8
     mask_last(row, mask);
 }
 
-// All rows of a plane, each from its own place.
+// All rows of a plane, each from its own place, by index: after a loop over `chunks_exact_mut`, as after `iter_mut().zip`, nothing is known
+// of `out`.
 fn wire_rows(plane: &[u8], layout: PlaneLayout, stride: usize, format: PixelFormat, out: &mut [u8])
     requires { plane_bytes layout.width layout.height ≤ length out.old }
     ensures { out.new
@@ -62,17 +63,18 @@ fn wire_rows(plane: &[u8], layout: PlaneLayout, stride: usize, format: PixelForm
     }
 }
 
-// All rows of a plane without gaps at once.
+// All rows of a plane without gaps at once. Unlike in reading, the padding is cleared in both formats.
 fn wire_packed(plane: &[u8], layout: PlaneLayout, format: PixelFormat, out: &mut [u8])
     requires plane_len { length plane.now ≡ plane_bytes layout.width layout.height }
     requires out_len { length out.old ≡ plane_bytes layout.width layout.height }
     ensures { out.new ≡ clear_rows layout.width layout.height (to_native format plane.now) }
 {
+    // A `match`: a closure for each format would be named at one place alone.
     match format {
         PixelFormat::MonoBlack => out.copy_from_slice(plane),
         PixelFormat::MonoWhite => invert_from(plane, out),
     }
-    clear_rows(out, layout);
+    clear_ends(out, layout.width, 0);
 }
 
 // Rows end to end without gaps, 1 for white and padding 0; nothing is written where they do not fit.

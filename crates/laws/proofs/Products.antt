@@ -1,12 +1,8 @@
--- Products: how many bits they have, how they compare with a number that they may pass, and so many of one size, end to end.
-use Prim.Native.Nat.{ℕ, zero, suc, ◌+◌, ◌*◌, ◌/◌, ◌^◌, ◌≤◌, ◌<◌}
-use mathlib.Core.Path.{◌≡◌, refl, sym}
-use mathlib.Core.Bool.{Bool, true, false}
+-- Products: how many bits they have, and so many of one size, end to end.
+use Prim.Native.Nat.{ℕ, zero, suc, ◌+◌, ◌*◌, ◌^◌, ◌≤◌, ◌<◌}
 use native.Mathlib.Nat.{suc-mul, mul-zero, mul-le-mul_left, mul-le-mul_right}
-use native.Mathlib.Nat.{mul-lt-mul_of_pos_right, le_of_lt, lt_of_le_of_lt, le-div_iff_mul-le, div-lt_iff_lt-mul}
+use native.Mathlib.Nat.{mul-lt-mul_of_pos_right, le_of_lt, lt_of_le_of_lt}
 use native.Mathlib.Omega.{arith}
-use borrow.Author.Tests.{leb-true, leb-false, le-leb, lt-leb}
-use lib.Dec.{leb}
 use lib.Pow.{pow_pos, pow-add}
 
 -- a number of j bits times one of k bits has at most j + k bits
@@ -17,17 +13,6 @@ product-below j k {a} {b} p q =
 -- an example: two numbers of 32 bits fit 64
 thirty_two : 4294967295 * 4294967295 < 2 ^ 64
 thirty_two = product-below 32 32 {a = 4294967295} {b = 4294967295} (omega arith) (omega arith)
-
--- a product that may pass the machine's numbers, compared by a quotient
-pub within_none : (a most : ℕ) → leb (a * 0) most ≡ true
-within_none a most = le-leb (a * 0) most (rw mul-zero (omega arith))
-
-by-quotient : (a b most : ℕ) → 0 < b → (t : Bool) → leb a (most / b) ≡ t → leb (a * b) most ≡ t
-by-quotient a b most h true e = le-leb (a * b) most ((le-div_iff_mul-le h).0 (leb-true a (most / b) e))
-by-quotient a b most h false e = lt-leb (a * b) most ((div-lt_iff_lt-mul h).0 (leb-false a (most / b) e))
-
-pub within-some : (a b most : ℕ) → 0 < b → leb a (most / b) ≡ leb (a * b) most
-within-some a b most h = sym (by-quotient a b most h (leb a (most / b)) refl)
 
 -- the first k + 1 of n are among them
 pub up_to : (size k n : ℕ) → k < n → k * size + size ≤ n * size

@@ -1,5 +1,5 @@
 -- How many bytes an integer has.
-use Rattle.std.proofs.Common.{◌≡◌, ℕ, zero, suc, ◌+◌, ◌/◌, ◌%◌, ◌^◌, ◌<◌, ◌≤◌, [], ◌∷◌, length, refl, ap, ◌∙◌, arith}
+use Rattle.std.proofs.Common.{◌≡◌, ℕ, zero, suc, ◌+◌, ◌*◌, ◌/◌, ◌%◌, ◌^◌, ◌<◌, ◌≤◌, [], ◌∷◌, length, refl, ap, ◌∙◌, arith, max, pow_pos}
 use Rattle.laws.proofs.Digits.{div_below}
 use Rattle.mbi.specs.Bytes.{groups, mbi_bytes}
 use Rattle.mbi.proofs.Groups.{count, count-zero, count-group, length_above, bytes-above}
@@ -29,7 +29,22 @@ bytes_one n = omega (arith, length-bytes n)
 pub bytes-five : (n : ℕ) → n < 4294967296 → length (mbi_bytes n) ≤ 5
 bytes-five n h = omega (arith, length-bytes n, count-le 4 (n / 128) (omega arith))
 
-pub ruleset byte_lengths = (bytes_small, bytes-more, bytes-five)
+-- a number whose highest bit is bit r has a byte for each seven bits
+with-bit : (r v : ℕ) → 2 ^ r ≤ v → v < 2 * 2 ^ r → length (mbi_bytes v) ≡ 1 + r / 7
+with-bit (suc (suc (suc (suc (suc (suc (suc r))))))) v p q =
+    omega (arith, bytes-more v (omega (arith, pow_pos r)), with-bit r (v / 128) (omega arith) (omega arith))
+with-bit zero v p q = bytes_small v (omega arith)
+with-bit (suc zero) v p q = bytes_small v (omega arith)
+with-bit (suc (suc zero)) v p q = bytes_small v (omega arith)
+with-bit (suc (suc (suc zero))) v p q = bytes_small v (omega arith)
+with-bit (suc (suc (suc (suc zero)))) v p q = bytes_small v (omega arith)
+with-bit (suc (suc (suc (suc (suc zero))))) v p q = bytes_small v (omega arith)
+with-bit (suc (suc (suc (suc (suc (suc zero)))))) v p q = bytes_small v (omega arith)
+
+-- and 0 has one, as 1 has
+pub length_bits : (r v : ℕ) → 2 ^ r ≤ max v 1 → max v 1 < 2 * 2 ^ r → length (mbi_bytes v) ≡ 1 + r / 7
+length_bits r zero p q = omega (arith, bytes_small 0 (omega arith), bytes_small 1 (omega arith), with-bit r 1 p q)
+length_bits r (suc v) p q = with-bit r (suc v) (omega arith) (omega arith)
 
 -- 4294967295 has five
 five : length (mbi_bytes 4294967295) ≡ 5

@@ -3,8 +3,8 @@ use Rattle.std.specs.Prelude.{ℕ, ◌+◌, ◌*◌, ◌%◌, Bool, ◌&&◌, Li
 use Rattle.error.specs.Choice.{if}
 use Rattle.error.specs.Answer.{Answer, gives, refuses, number}
 use Rattle.error.specs.declared.WbmpError.{WbmpError}
-use Rattle.mbi.specs.declared.MbiStep.{MbiStep}
-use Rattle.mbi.specs.declared.MbiStep.TheVariants.{Goes, Ends}
+use Rattle.std.specs.declared.ops.ControlFlow.{ControlFlow}
+use Rattle.std.specs.declared.ops.ControlFlow.TheVariants.{Continue, Break}
 
 -- what one byte does to an integer: more follow, it was the last one, or it is refused (code and offset)
 pub data ByteRead : Type 0 where
@@ -48,7 +48,7 @@ integer strict (b ∷ τ) at value count next =
     upon (read_byte strict at value count b) (λ v. integer strict τ (at + 1) v (count + 1) next) (λ v. next v (at + 1) τ)
 
 -- what the code's values mean
-abbrev pub step_meaning : Result MbiStep WbmpError → ByteRead
-step_meaning (Ok (Goes v)) = goes v
-step_meaning (Ok (Ends v)) = ends v
+abbrev pub step_meaning : Result (ControlFlow ℕ ℕ) WbmpError → ByteRead
+step_meaning (Ok (Continue v)) = goes v
+step_meaning (Ok (Break v)) = ends v
 step_meaning (Err e) = wrong (number e.kind) e.offset

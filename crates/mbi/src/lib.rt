@@ -9,13 +9,10 @@ ghost use Rattle.mbi.specs.Read.{read_mbi};
 ghost use Rattle.mbi.specs.Internal.Step.{MbiStepped};
 
 use error::{Refusal, Result, WbmpError};
+use std::ops::ControlFlow;
 
-// What one byte more does to an integer: more bytes follow, or it was the last one.
-#[derive(Clone, Copy)]
-pub enum MbiStep {
-    Goes(u32),
-    Ends(u32),
-}
+// What one byte more does to an integer: it goes on with a value, or ends with it.
+pub type MbiStep = ControlFlow<u32, u32>;
 
 // An integer has at most this many bytes: the five of the largest, and two 0x80s before them.
 pub const MAX_MBI_BYTES: u8 = 7;
@@ -36,54 +33,49 @@ pub fn mbi_step(strict: bool, at: usize, value: u32, count: u8, byte: u8) -> Res
         return Err(WbmpError::new(Refusal::MbiTooLong, after));
     }
     Ok(if byte < 128 {
-        MbiStep::Ends(value)
+        ControlFlow::Break(value)
     } else {
-        MbiStep::Goes(value)
+        ControlFlow::Continue(value)
     })
 }
 
-// The integer at any offset, also one past the end of the bytes.
-fn read_mbi(strict: bool, bytes: &[u8], offset: usize) -> Result<(u32, usize)>
+// The integer at any offset, also one past the end of the bytes; strict asks for its smallest encoding.
+pub fn read_mbi(strict: bool, bytes: &[u8], offset: usize) -> Result<(u32, usize)>
     ensures { answered result ≡ read_mbi strict bytes.now offset }
 {
     let mut value: u32 = 0;
+    // Not `enumerate`: `mbi_step` takes the u8 that a reader byte by byte keeps.
     let mut count: u8 = 0;
     for at in offset..bytes.len() {
         match mbi_step(strict, at, value, count, bytes[at])? {
-            MbiStep::Goes(v) => value = v,
-            MbiStep::Ends(v) => return Ok((v, at + 1)),
+            ControlFlow::Continue(v) => value = v,
+            ControlFlow::Break(v) => return Ok((v, at + 1)),
         }
         count += 1;
     }
     Err(WbmpError::new(Refusal::MbiTruncated, offset.max(bytes.len())))
 }
 
-// An integer of at most 7 bytes; leading 0x80s are accepted.
+// An integer of at most 7 bytes; leading 0x80s are accepted. A name of the Rust ("names included", the tender).
 pub fn read_mbi_u32(bytes: &[u8], offset: usize) -> Result<(u32, usize)>
     ensures { answered result ≡ read_mbi false bytes.now offset }
 {
     read_mbi(false, bytes, offset)
 }
 
-// An integer in its smallest encoding.
+// An integer in its smallest encoding. A name of the Rust, as above.
 pub fn read_mbi_u32_strict(bytes: &[u8], offset: usize) -> Result<(u32, usize)>
     ensures { answered result ≡ read_mbi true bytes.now offset }
 {
     read_mbi(true, bytes, offset)
 }
 
-// How many bytes the writer writes.
-#[tactic(auto, using(crate::proofs::Length::byte_lengths))]
+// How many bytes the writer writes: one for each seven bits or the rest of them, and one for 0.
+#[tactic(auto, using(crate::proofs::Length::length_bits))]
 pub fn mbi_u32_len(value: u32) -> usize
     ensures { result ≡ length (mbi_bytes value) }
 {
-    let mut v = value;
-    let mut n: usize = 1;
-    while v >= 128 {
-        v /= 128;
-        n += 1;
-    }
-    n
+    1 + value.max(1).ilog2() as usize / 7
 }
 
 // The smallest encoding, at the front of the output; nothing is written where it does not fit.
@@ -97,6 +89,7 @@ pub fn write_mbi_u32(value: u32, out: &mut [u8]) -> Result<usize>
     }
     out[n - 1] = (value % 128) as u8;
     let mut v = value / 128;
+    // By index: over `iter_mut().rev()` the proof needs the items so far, where `k` alone says how far the writing is.
     for k in (0..n - 1).rev() {
         out[k] = (128 + v % 128) as u8;
         v /= 128;

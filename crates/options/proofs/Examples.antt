@@ -4,11 +4,18 @@ use Rattle.error.specs.Answer.{gives, refuses}
 use Rattle.image.specs.declared.PixelFormat.TheVariants.{MonoBlack}
 use Rattle.options.specs.Limits.{absent, at_most, lenient, Decoding, check_limits}
 use Rattle.options.specs.Defaults.{defaults, with_max_pixels}
-use Rattle.options.proofs.SettingsSame.{settings}
 
 -- 9 by 2 dots in 4 bytes
 abbrev small : Decoding
-small = settings (at_most 9) (at_most 2) absent (at_most 4) lenient MonoBlack
+small =
+    record {
+      max_width = at_most 9;
+      max_height = at_most 2;
+      max_pixels = absent;
+      max_bytes = at_most 4;
+      mode = lenient;
+      format = MonoBlack;
+    }
 
 met : check_limits small 9 2 4 7 ≡ gives tt
 unfolding check_limits

@@ -1,3 +1,2 @@
-pub mod SettingsSame
 pub mod Ceilings
 pub mod Examples

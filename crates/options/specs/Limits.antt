@@ -2,6 +2,7 @@
 use Rattle.std.specs.Prelude.{ℕ, ◌*◌, Bool, true, false, leb, Option, Some, None}
 use Rattle.error.specs.Choice.{if}
 use Rattle.error.specs.Answer.{Answer, gives, refuses}
+use Rattle.header.specs.Settings.{Settings, inner, ext_inner}
 use Rattle.image.specs.declared.PixelFormat.{PixelFormat}
 use Rattle.options.specs.declared.DecodeMode.{DecodeMode}
 use Rattle.options.specs.declared.DecodeMode.TheVariants.{Lenient, Strict}
@@ -25,6 +26,11 @@ pub data Mode : Type 0 where
 abbrev pub strictly : Bool → Mode
 strictly true = strict
 strictly false = lenient
+
+-- "Strict image reading uses `parse_header_inner`"; lenient reading honours fields
+abbrev pub image_settings : Mode → Settings
+image_settings lenient = ext_inner false
+image_settings strict = inner true
 
 pub record Decoding : Type 0 where
   pub max_width : Bound

@@ -3,11 +3,13 @@
 
 ghost use Rattle.std.specs.Prelude.{◌≡◌, false, None};
 ghost use Rattle.error.specs.Answer.{checked};
-ghost use Rattle.options.specs.Limits.{admits, check_limits, bound_of, decoding};
+ghost use Rattle.header.specs.Settings.{settings};
+ghost use Rattle.options.specs.Limits.{admits, check_limits, bound_of, mode_of, image_settings, decoding};
 ghost use Rattle.options.specs.Defaults;
 
 use error::{Refusal, Result, WbmpError};
 use ext::ExtFieldType;
+use header::HeaderMode;
 use image::PixelFormat;
 
 pub mod limits;
@@ -29,6 +31,17 @@ fn admits(limit: Limit, n: u64) -> bool
 pub enum DecodeMode {
     Lenient,
     Strict,
+}
+
+impl From<DecodeMode> for HeaderMode {
+    ghost from_gives = { λ mode h. settings h ≡ image_settings (mode_of mode) };
+
+    fn from(mode: DecodeMode) -> HeaderMode {
+        match mode {
+            DecodeMode::Lenient => HeaderMode::ext_inner(false),
+            DecodeMode::Strict => HeaderMode::inner(true),
+        }
+    }
 }
 
 // The limits of reading, and how it goes.
@@ -90,6 +103,7 @@ impl DecodeOptions {
     pub fn with_strict(mut self, strict: bool) -> DecodeOptions
         ensures { decoding result ≡ Defaults.with_strict strict (decoding self) }
     {
+        // No From<bool>: it would serve here only.
         self.mode = if strict {
             DecodeMode::Strict
         } else {
@@ -154,7 +168,7 @@ pub enum Quantize {
     Threshold(u8),
     // Floyd and Steinberg's dithering.
     Dither,
-    // The ordered rule of this side.
+    // The ordered rule of this side. A number, whatever it is: an unknown side is refused with 29, in its turn behind 8 and 21.
     Ordered(u8),
 }
 
@@ -196,6 +210,7 @@ impl EncodeOptions {
         self
     }
 
+    // This and the next are names of the Rust, which is "to be translated, names included" (document 00).
     pub fn with_threshold(self, threshold: u8) -> EncodeOptions
         ensures { result ≡ record { quantize = Quantize.Threshold threshold; ext = self.ext; strict = self.strict } }
     {

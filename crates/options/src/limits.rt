@@ -36,23 +36,17 @@ impl WbmpLimits {
             max_pixel_bytes: usize::MAX,
         }
     }
-
-    // The same limits as settings of reading.
-    pub fn into_options(self) -> DecodeOptions
-        ensures { decoding result ≡ from_limits self }
-    {
-        DecodeOptions::new()
-            .with_max_width(Some(u64::from(self.max_width)))
-            .with_max_height(Some(u64::from(self.max_height)))
-            .with_max_pixels(None)
-            .with_max_bytes(Some(self.max_pixel_bytes as u64))
-    }
 }
 
+// The same limits as settings of reading.
 impl From<WbmpLimits> for DecodeOptions {
     ghost from_gives = { λ l o. decoding o ≡ from_limits l };
 
     fn from(limits: WbmpLimits) -> DecodeOptions {
-        limits.into_options()
+        DecodeOptions::new()
+            .with_max_width(Some(u64::from(limits.max_width)))
+            .with_max_height(Some(u64::from(limits.max_height)))
+            .with_max_pixels(None)
+            .with_max_bytes(Some(limits.max_pixel_bytes as u64))
     }
 }

@@ -7,8 +7,8 @@ use mathlib.Core.Logic.{◌⊎◌, inl, inr, ⊎_elim}
 use mathlib.Core.List.{List, [], ◌∷◌, append-nil}
 use native.Mathlib.Nat.{div-eq_of_lt, div-add-mod', mod-lt, mul-le-mul, mul-le-mul_left, mul-suc, mul_comm, mul_assoc, pow-suc}
 use native.Mathlib.Omega.{arith}
-use lib.ListN.{length, take, drop, replicate}
-use lib.Seq.{get_or-take, take_at, drop-nil}
+use lib.ListN.{take, drop, replicate}
+use lib.Seq.{get_or-take, drop-nil}
 use lib.Dec.{leb, eqb}
 use borrow.Author.Tests.{eqb-true, ne_eqb, le-leb, lt-leb}
 use Rattle.rules.specs.Bits.{upto}
@@ -16,7 +16,6 @@ use Rattle.rules.specs.Ordered.{quarter, number, numbers, exponent, bound, cell,
 use Rattle.ordered.specs.Internal.Sides.{Cell, number_table}
 use Rattle.laws.proofs.Tests.{lt-or-le}
 use Rattle.rules.proofs.EntryTold.{never}
-use Rattle.rules.proofs.UptoList.{length-upto}
 
 -- ---- the quarters
 
@@ -126,10 +125,6 @@ drop-replicate (suc n) (suc m) a =
     let e : n - m ≡ suc n - suc m = omega arith in
     drop-replicate n m a ∙ ap (λ (k : ℕ). replicate k a) e
 
-numbers-length : (k : ℕ) → length (numbers k) ≡ 2 ^ k * 2 ^ k
-unfolding numbers
-numbers-length k = length-upto (λ i. number k (i % 2 ^ k) (i / 2 ^ k)) (2 ^ k * 2 ^ k)
-
 -- ---- the rule
 
 or-three : (a b c : Bool) → (a || b || c) ≡ true → (a ≡ true) ⊎ ((b ≡ true) ⊎ (c ≡ true))
@@ -143,16 +138,6 @@ known-side s e =
     ⊎_elim (λ h. inl (eqb-true s 2 h)) (λ h. inr (⊎_elim (λ k. inl (eqb-true s 4 k)) (λ k. inr (eqb-true s 8 k)) h))
     (or-three (eqb s 2) (eqb s 4) (eqb s 8) e)
 
--- a known side's numbers stand at the front
-pub table-front : (s : ℕ) → known_side s ≡ true → take (s * s) (number_table (exponent s)) ≡ numbers (exponent s)
-table-front s h =
-    ⊎_elim (λ e. rw e (front 1))
-    (λ h. ⊎_elim (λ e. rw e (front 2)) (λ e. rw e (front 3)) h)
-    (known-side s h)
-  where
-    front : (k : ℕ) → take (2 ^ k * 2 ^ k) (number_table k) ≡ numbers k
-    front k = take_at (numbers k) (replicate (64 - 2 ^ k * 2 ^ k) 0) (2 ^ k * 2 ^ k) (numbers-length k)
-
 pub known_small : (s : ℕ) → known_side s ≡ true → (0 < s) × (s ≤ 8)
 known_small s h = ⊎_elim (λ e. rw e (omega arith)) (λ h. ⊎_elim (λ e. rw e (omega arith)) (λ e. rw e (omega arith)) h) (known-side s h)
 
@@ -164,12 +149,12 @@ index-lt s x y p =
     omega arith
 
 -- THE PRODUCT FORM: a sample is white exactly if gray × side × side is at least 256 n + 128
-pub product-white : (s n g : ℕ) → known_side s ≡ true → 256 * n + 128 ≤ g * (s * s) → bound s n ≤ g
+product-white : (s n g : ℕ) → known_side s ≡ true → 256 * n + 128 ≤ g * (s * s) → bound s n ≤ g
 unfolding bound
 product-white s n g h =
     ⊎_elim (λ e. rw e (λ l. omega arith)) (λ h. ⊎_elim (λ e. rw e (λ l. omega arith)) (λ e. rw e (λ l. omega arith)) h) (known-side s h)
 
-pub product-black : (s n g : ℕ) → known_side s ≡ true → g * (s * s) < 256 * n + 128 → g < bound s n
+product-black : (s n g : ℕ) → known_side s ≡ true → g * (s * s) < 256 * n + 128 → g < bound s n
 unfolding bound
 product-black s n g h =
     ⊎_elim (λ e. rw e (λ l. omega arith)) (λ h. ⊎_elim (λ e. rw e (λ l. omega arith)) (λ e. rw e (λ l. omega arith)) h) (known-side s h)

@@ -25,11 +25,11 @@ fn ordered_dot(side: u8, n: u8, gray: u8) -> u32
     ensures { result ≡ bit (leb (bound side n) gray) }
 {
     let s = side as u32;
-    let least = 256 * n as u32 + 128;
-    if least <= gray as u32 * (s * s) { 1 } else { 0 }
+    u32::from(256 * n as u32 + 128 <= gray as u32 * (s * s))
 }
 
-// The digits of `begun`, and then a dot for each sample, from a column of row y on.
+// The digits of `begun`, and then a dot for each sample, from a column of row y on. The side stands beside the table: `Quantize::Ordered`
+// keeps it as it was given, and a struct of both, with the fact that it is known, would be made anew in each call.
 pub(crate) fn ordered_dots(
     table: &[u8; 64],
     side: u8,
@@ -41,6 +41,7 @@ pub(crate) fn ordered_dots(
     requires { Matching side column (length gray.now) begun }
     ensures { result ≡ appended begun (ordered_bit side table.now y column gray.now) (length gray.now) }
 {
+    // No fold: its closure would need a fact for each sample, that the digits so far fit, which the loop's invariant has.
     let mut digits = begun;
     for (i, sample) in gray.iter().enumerate() {
         let n = cell_at(table, side, column + i, y);
@@ -71,7 +72,8 @@ pub fn ordered_row_dots(
         (result ≡ begun) }
 {
     if matching(side, column, gray.len(), begun) {
-        return ordered_dots(table, side, y, column, gray, begun);
+        ordered_dots(table, side, y, column, gray, begun)
+    } else {
+        begun
     }
-    begun
 }

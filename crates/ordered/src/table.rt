@@ -20,10 +20,11 @@ fn cell(side: usize, x: usize, y: usize) -> usize
     }
     let half = side / 2;
     let n = cell(half, x % half, y % half);
-    if y < half {
-        if x < half { 4 * n } else { 4 * n + 2 }
-    } else {
-        if x < half { 4 * n + 3 } else { 4 * n + 1 }
+    match (x < half, y < half) {
+        (true, true) => 4 * n,
+        (false, true) => 4 * n + 2,
+        (true, false) => 4 * n + 3,
+        (false, false) => 4 * n + 1,
     }
 }
 
@@ -33,6 +34,7 @@ fn filled(side: usize) -> [u8; 64]
     ensures { Filled side result }
 {
     let mut table = [0u8; 64];
+    // By index: the numbers may be fewer than the table has.
     for i in 0..side * side {
         table[i] = cell(side, i % side, i / side) as u8;
     }
@@ -44,18 +46,16 @@ fn filled(side: usize) -> [u8; 64]
 pub fn known_side(side: u8) -> bool
     ensures { result ≡ known_side side }
 {
-    side == 2 || side == 4 || side == 8
+    matches!(side, 2 | 4 | 8)
 }
 
 // The numbers for the side 2, 4 or 8, row by row, at the front, and zeros behind them; for another side those of 8.
 pub fn numbers(side: u8) -> [u8; 64]
     ensures { result ≡ number_table (exponent side) }
 {
-    if side == 2 {
-        return filled(2);
+    match side {
+        2 => filled(2),
+        4 => filled(4),
+        _ => TABLE,
     }
-    if side == 4 {
-        return filled(4);
-    }
-    TABLE
 }

@@ -19,7 +19,7 @@ use Rattle.dither.specs.Internal.Row.{Bytes, Filling}
 use Rattle.dither.proofs.DitherBytesLoop.{bytes-none}
 use Rattle.quantize.proofs.DotsByRule.{dots-threshold, served-dither}
 use Rattle.rules.proofs.ListPiece.{piece}
-use Rattle.rules.proofs.StoredBytes.{digits-piece}
+use Rattle.rules.proofs.ThresholdBytes.{digits-piece}
 
 module _ (rule : Quantize) (w y x : ℕ) (samples : List ℕ) (corner : ℕ) (work : List ℤ) where
   threshold-bytes : (t k : ℕ) → corner ≤ 256 → 8 * k ≤ length samples

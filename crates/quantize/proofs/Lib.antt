@@ -12,6 +12,7 @@ pub mod DiffusionFollows
 pub mod DiffusionKept
 pub mod EmittedFinished
 pub mod RunEnd
+pub mod RuleChecked
 pub mod NewHolds
 pub mod FillByRule
 pub mod BytesAtOnce

@@ -11,15 +11,15 @@ use lib.IntN.{ℤ}
 use lib.ListN.{length, get_or, take, drop, length-append, take-append-drop}
 use lib.Seq.{length-take-le, drop-append_seam}
 use Rattle.laws.proofs.Tests.{lt-or-le, if-true, if-false}
+use Rattle.error.specs.declared.Fed.{Fed}
 use Rattle.options.specs.declared.Quantize.{Quantize}
 use Rattle.quantize.specs.declared.engine.Quantizer.{Quantizer}
-use Rattle.quantize.specs.declared.engine.RunEnded.{RunEnded}
 use Rattle.quantize.specs.declared.turn.Place.{Place}
 use Rattle.rules.specs.Rule.{Rule, known_rule, enough_work, rule_named, rule_given}
 use Rattle.quantize.specs.Finished.{Setting, Bytewise, count, finished, takes}
 use Rattle.quantize.specs.Internal.Machine.{MachineState, carried, machine_bytes}
 use Rattle.quantize.specs.Internal.Turn.{state_of, rule_of, Sound, SamplesForByte, Served}
-use Rattle.quantize.specs.Internal.Engine.{QuantizerAt, KeptAfter, QuantizerAfter, Counts, Machines, Defined, Ready, Runs, ran_to}
+use Rattle.quantize.specs.Internal.Engine.{QuantizerAt, KeptAfter, QuantizerAfter, Counts, Machines, Defined, Ready, Runs}
 use Rattle.dither.proofs.HeldRange.{Held}
 use Rattle.quantize.proofs.DotsByRule.{enough-work-same}
 use Rattle.quantize.proofs.TakenMost.{takes_all, next-byte}
@@ -40,10 +40,10 @@ not-enough-work rule table w work k h = enough-work-same rule table w work ∙ g
 
 -- ---- the definition's bytes, from the machine's
 
-module _ (q : Quantizer) (samples out : List ℕ) (work : List ℤ) (r : RunEnded) (out' : List ℕ) (work' : List ℤ)
+module _ (q : Quantizer) (samples out : List ℕ) (work : List ℤ) (q' : Quantizer) (r : Fed) (out' : List ℕ) (work' : List ℤ)
     (fits : r.taken ≤ length samples) (octets : (i : ℕ) → get_or samples i 0 < 256)
-    (counts : (s : Setting) (n : ℕ) → QuantizerAt q s n → Counts q s n (length samples) (length out) (length work) r)
-    (machine : (s : Setting) (n : ℕ) → QuantizerAt q s n → Machines q s n samples out work r out' work')
+    (counts : (s : Setting) (n : ℕ) → QuantizerAt q s n → Counts s n (length samples) (length out) (length work) q' r)
+    (machine : (s : Setting) (n : ℕ) → QuantizerAt q s n → Machines q s n samples out work q' r out' work')
     (room : (s : Setting) (n : ℕ) → QuantizerAt q s n → 0 < r.taken → enough_work s.rule s.width (length work) ≡ true) where
   module _ (s : Setting) (xs : List ℕ) (H : QuantizerAfter q work s xs) where
     abbrev n : ℕ
@@ -55,7 +55,7 @@ module _ (q : Quantizer) (samples out : List ℕ) (work : List ℤ) (r : RunEnde
     abbrev st : MachineState
     st = state_of q.place work
 
-    M : Machines q s n samples out work r out' work'
+    M : Machines q s n samples out work q' r out' work'
     M = machine s n H.stands
 
     wide : 0 < s.width
@@ -88,7 +88,7 @@ module _ (q : Quantizer) (samples out : List ℕ) (work : List ℤ) (r : RunEnde
         (λ (h : r.taken ≤ 0). let e : 0 ≡ r.taken = omega arith in subst Follows e none)
         (lt-or-le 0 r.taken)
 
-    pub defined-is : Defined s xs samples out r out' work'
+    pub defined-is : Defined s xs samples out q' r out' work'
     defined-is =
         record {
           bytes =
@@ -106,7 +106,7 @@ module _ (q : Quantizer) (samples out : List ℕ) (work : List ℤ) (r : RunEnde
 
 pub runs_none : (q : Quantizer) (samples out : List ℕ) (work : List ℤ) → ((i : ℕ) → get_or samples i 0 < 256)
     → (Sound q.rule q.width q.height q.place.row q.place.column q.place.begun q.place.corner (length work) → ⊥)
-    → Runs q samples out work (record { quantizer = q; taken = 0; written = 0 }) out work
+    → Runs q samples out work q (record { taken = 0; written = 0 }) out work
 unfolding carried machine_bytes
 runs_none q samples out work octets h =
     record {
@@ -119,7 +119,7 @@ runs_none q samples out work octets h =
       counts = counts;
       machine = machine;
       defined =
-          defined-is q samples out work (record { quantizer = q; taken = 0; written = 0 }) out work (omega arith) octets counts machine
+          defined-is q samples out work q (record { taken = 0; written = 0 }) out work (omega arith) octets counts machine
           (λ s n t l. let f : ⊥ = omega arith in absurd f);
     }
   where
@@ -132,7 +132,7 @@ runs_none q samples out work octets h =
         h (record { in_row = omega arith; in_frame = omega arith; corner_small = t.corner_small; begun_small = t.begun_small; served = k })
 
     counts : (s : Setting) (n : ℕ) → QuantizerAt q s n
-        → Counts q s n (length samples) (length out) (length work) (record { quantizer = q; taken = 0; written = 0 })
+        → Counts s n (length samples) (length out) (length work) q (record { taken = 0; written = 0 })
     counts s n t =
         record {
           taken =
@@ -143,7 +143,7 @@ runs_none q samples out work octets h =
         }
 
     machine : (s : Setting) (n : ℕ) → QuantizerAt q s n
-        → Machines q s n samples out work (record { quantizer = q; taken = 0; written = 0 }) out work
+        → Machines q s n samples out work q (record { taken = 0; written = 0 }) out work
     machine s n t = record { bytes = refl; keeps = refl }
 
 -- ---- the loop's end
@@ -154,21 +154,13 @@ Full q samples out p taken =
     (s : Setting) (n : ℕ) → QuantizerAt q s n
     → (p.frames ≤ 0) ⊎ ((length samples ≤ taken) ⊎ (count s n + length out < count s (n + taken + 1)))
 
--- as `ran` tells it
-pub none_told : (q : Quantizer) (samples out : List ℕ) (work : List ℤ) (r : RunEnded) → r ≡ ran_to q q.place 0 0
-    → ((i : ℕ) → get_or samples i 0 < 256)
-    → (Sound q.rule q.width q.height q.place.row q.place.column q.place.begun q.place.corner (length work) → ⊥)
-    → Runs q samples out work r out work
-none_told q samples out work r e octets h =
-    subst (λ (r : RunEnded). Runs q samples out work r out work) (sym e) (runs_none q samples out work octets h)
-
 module _ (q : Quantizer) (samples out : List ℕ) (work : List ℤ) (out' : List ℕ) (work' : List ℤ) (p : Place) (taken written : ℕ)
     (L : Loop q samples out work out' work' p taken written) (octets : (i : ℕ) → get_or samples i 0 < 256) where
   abbrev q' : Quantizer
   q' = record { rule = q.rule; table = q.table; width = q.width; height = q.height; place = p }
 
-  abbrev ran : RunEnded
-  ran = record { quantizer = q'; taken = taken; written = written }
+  abbrev ran : Fed
+  ran = record { taken = taken; written = written }
 
   module _ (s : Setting) (n : ℕ) (t : QuantizerAt q s n) where
     P : Moved s n q.place samples work taken (take written out') p work'
@@ -184,7 +176,7 @@ module _ (q : Quantizer) (samples out : List ℕ) (work : List ℤ) (out' : List
         rw (t.rule, t.width, ← L.turn.long) (enough-work-same q.rule q.table q.width (length work')
         ∙ L.turn.sound.served.room)
 
-    machine-are : Machines q s n samples out work ran out' work'
+    machine-are : Machines q s n samples out work q' ran out' work'
     machine-are = record { bytes = sym (take-append-drop written out') ∙ rw (← P.emits, L.past); keeps = P.keeps }
 
   -- no sample goes into the begun byte, in a row that is finished byte after byte
@@ -203,7 +195,7 @@ module _ (q : Quantizer) (samples out : List ℕ) (work : List ℤ) (out' : List
       (sh.all z))
 
   module _ (full : Full q samples out p taken) where
-    counts-is : (s : Setting) (n : ℕ) → QuantizerAt q s n → Counts q s n (length samples) (length out) (length work) ran
+    counts-is : (s : Setting) (n : ℕ) → QuantizerAt q s n → Counts s n (length samples) (length out) (length work) q' ran
     counts-is s n t =
         record {
           taken = sym (if-true _ _ _ (served s n t)
@@ -231,7 +223,7 @@ module _ (q : Quantizer) (samples out : List ℕ) (work : List ℤ) (out' : List
           served = subst (λ (n : ℕ). Served q.rule q.width n) L.turn.long L.turn.sound.served;
         }
 
-    pub runs-end : Runs q samples out work ran out' work'
+    pub runs-end : Runs q samples out work q' ran out' work'
     runs-end =
         record {
           taken = L.taken_fits;
@@ -242,9 +234,5 @@ module _ (q : Quantizer) (samples out : List ℕ) (work : List ℤ) (out' : List
           idle = λ no. absurd (no ready-is);
           counts = counts-is;
           machine = machine-are;
-          defined = defined-is q samples out work ran out' work' L.taken_fits octets counts-is machine-are (λ s n t l. served s n t);
+          defined = defined-is q samples out work q' ran out' work' L.taken_fits octets counts-is machine-are (λ s n t l. served s n t);
         }
-
-    -- as `ran` tells it
-    pub end-told : (r : RunEnded) → r ≡ ran_to q p taken written → Runs q samples out work r out' work'
-    end-told r e = subst (λ (r : RunEnded). Runs q samples out work r out' work') (sym e) runs-end

@@ -1,6 +1,7 @@
 -- Whole planes: the refusals in their order, and that one frame takes all of its samples.
 -- Assumes nothing.
 use Rattle.std.proofs.Common.{Err}
+use Rattle.error.specs.declared.Fed.{Fed}
 use Rattle.error.specs.declared.WbmpError.{WbmpError}
 use Prim.Native.Nat.{ℕ, ◌+◌, ◌-◌, ◌*◌, ◌≤◌, ◌<◌, min}
 use mathlib.Core.Path.{◌≡◌, refl, sym, ap, ap₂, ◌∙◌, subst}
@@ -21,7 +22,6 @@ use Rattle.laws.proofs.Writers.{emits_none, emits-all}
 use Rattle.options.specs.declared.Quantize.{Quantize}
 use Rattle.image.specs.Geometry.{row_bytes, plane_bytes}
 use Rattle.quantize.specs.declared.engine.Quantizer.{Quantizer}
-use Rattle.quantize.specs.declared.engine.RunEnded.{RunEnded}
 use Rattle.quantize.specs.Finished.{Setting, count, dot_of, finished, takes, setting}
 use Rattle.rules.specs.Packed.{byte_at}
 use Rattle.rules.specs.Rule.{Rule, known_rule, carries, enough_work, rule_named, rule_given}
@@ -183,9 +183,9 @@ module _ (asked : Quantize) (w h : ℕ) (gray out : List ℕ) (work : List ℤ) 
           refused = λ code place f. zero_one (cc);
         }
 
-    module _ (l : row_bytes w * h ≤ length out) (q : Quantizer) (o : NewQuantizer asked w h 1 q) (r : RunEnded) (out' : List ℕ)
-        (work' : List ℤ)
-        (R : Runs q gray out work r out' work') where
+    module _ (l : row_bytes w * h ≤ length out) (q : Quantizer) (o : NewQuantizer asked w h 1 q) (q' : Quantizer) (r : Fed)
+        (out' : List ℕ) (work' : List ℤ)
+        (R : Runs q gray out work q' r out' work') where
       abbrev sp : Setting
       sp = setting named w h 1
 

@@ -1,10 +1,11 @@
 // The quantising engine, which making sessions run, and whole planes that are ordered, or tiny and gray.
 ghost use Rattle.std.specs.Prelude.{◌≡◌};
-ghost use Rattle.quantize.specs.Internal.Engine.{NewQuantizer, Runs, Tabled, ran_to, spot_of, room_for, behind_frames};
+ghost use Rattle.quantize.specs.Internal.Engine.{NewQuantizer, Runs, Tabled, room_for, behind_frames};
 ghost use Rattle.quantize.specs.Internal.Turn.{CanTake};
 
 use crate::asked::{enough_work, known_rule};
-use crate::turn::{Place, samples_for_byte};
+use crate::turn::Place;
+use error::Fed;
 use options::Quantize;
 use ordered::numbers;
 
@@ -12,27 +13,12 @@ use ordered::numbers;
 #[derive(Clone, Copy)]
 pub struct Quantizer {
     pub(crate) rule: Quantize,
-    // The ordered numbers of the rule's side, row by row, at the front.
+    // The ordered numbers of the rule's side, row by row, at the front. Beside the rule: an enum with the table in its ordered arm would be
+    // no plainer, since `known_rule` and `enough_work` ask the rule as it was given.
     pub(crate) table: [u8; 64],
     pub(crate) width: usize,
     pub(crate) height: usize,
     place: Place,
-}
-
-// Where the next sample goes: how many frames are not full, and its row and column.
-#[derive(Clone, Copy)]
-pub struct Spot {
-    pub frames: usize,
-    pub row: usize,
-    pub column: usize,
-}
-
-// How many samples were taken, and how many bytes were written at the output's front.
-#[derive(Clone, Copy)]
-pub struct RunEnded {
-    pub quantizer: Quantizer,
-    pub taken: usize,
-    pub written: usize,
 }
 
 // The ordered numbers of the rule's side, row by row, at the front.
@@ -64,7 +50,8 @@ impl Quantizer {
         }
     }
 
-    // Whether samples can be taken: a place in the frame, a known side, and 2 × width numbers of work where the rule needs them.
+    // Whether samples can be taken: a place in the frame, a known side, and 2 × width numbers of work where the rule needs them. Asked in
+    // each call and no fact of the type: `new` takes any rule and size, none too, and the work buffer comes with the call.
     fn can_take(&self, work: usize) -> bool
         ensures { CanTake self.now.rule self.now.width self.now.height self.now.place.row self.now.place.column
             self.now.place.begun self.now.place.corner work result }
@@ -72,34 +59,30 @@ impl Quantizer {
         self.place.column < self.width
             && self.place.row < self.height
             && self.place.corner <= 256
-            && self.place.begun >> (self.place.column % 8) as u32 == 0
+            && self.place.begun >> (self.place.column % 8) == 0
             && known_rule(self.rule)
             && enough_work(self.rule, self.width, work)
     }
 
     // Takes the most samples whose finished bytes fit. Takes nothing and alters nothing where the width or the height is 0, the ordered
     // side is unknown, or dithering finds fewer than 2 × width numbers of work.
-    pub fn run(self, samples: &[u8], out: &mut [u8], work: &mut [i16]) -> RunEnded
-        ensures { Runs self samples.now out.old work.old result out.new work.new }
+    pub fn run(&mut self, samples: &[u8], out: &mut [u8], work: &mut [i16]) -> Fed
+        ensures { Runs self.old samples.now out.old work.old self.new result out.new work.new }
     {
-        let mut p = self.place;
-        let mut taken: usize = 0;
-        let mut written: usize = 0;
+        let mut taken = 0;
+        let mut written = 0;
         if !self.can_take(work.len()) {
-            return self.ran(p, 0, 0);
+            return Fed { taken, written };
         }
+        let mut p = self.place;
+        // No iterator: a turn takes as many samples as it can, and nothing counts the turns.
         while 0 < p.frames {
             let count = self.fill_row(&mut p, &samples[taken..], &mut out[written..], work);
             taken += 8 * count;
             written += count;
-            let m = samples_for_byte(
-                self.width,
-                p.column,
-                samples.len() - taken,
-                out.len() - written,
-            );
+            let m = self.samples_for_byte(p.column, samples.len() - taken, out.len() - written);
             if m == 0 {
-                return self.ran(p, taken, written);
+                break;
             }
             let end = taken + m;
             if let Some(byte) = self.take(&mut p, &samples[taken..end], work) {
@@ -108,29 +91,15 @@ impl Quantizer {
             }
             taken = end;
         }
-        self.ran(p, taken, written)
+        self.place = p;
+        Fed { taken, written }
     }
 
-    // This quantizer at another place, and what was taken and written on the way there.
-    fn ran(mut self, place: Place, taken: usize, written: usize) -> RunEnded
-        ensures { result ≡ ran_to self place taken written }
+    // How many frames are not full.
+    pub fn frames_left(self) -> usize
+        ensures { result ≡ self.place.frames }
     {
-        self.place = place;
-        RunEnded {
-            quantizer: self,
-            taken,
-            written,
-        }
-    }
-
-    pub fn spot(self) -> Spot
-        ensures { result ≡ spot_of self }
-    {
-        Spot {
-            frames: self.place.frames,
-            row: self.place.row,
-            column: self.place.column,
-        }
+        self.place.frames
     }
 
     // Whether a work buffer of so many numbers is long enough.

@@ -1,10 +1,10 @@
 // A turn of the engine: whole bytes at once, then the samples of one byte.
-ghost use Rattle.std.specs.Prelude.{◌≡◌, true, ◌+◌, ◌-◌, ◌*◌, ◌^◌, ◌≤◌, ◌<◌, length};
+ghost use Rattle.std.specs.Prelude.{◌≡◌, ◌+◌, ◌-◌, ◌*◌, ◌^◌, ◌≤◌, ◌<◌, length};
 ghost use Rattle.quantize.specs.Internal.Turn.{Wholes, SamplesForByte, Dotting, Dotted, Advancing, Advances};
-ghost use Rattle.quantize.specs.Internal.Turn.{Taking, Takes, RowFilling, RowFilled};
+ghost use Rattle.quantize.specs.Internal.Turn.{row_start, Taking, Takes, RowFilling, RowFilled};
 
 use crate::engine::Quantizer;
-use dither::{RowDots, dither_row_bytes, dither_row_dots};
+use dither::{RowDots, RowStart, dither_row_bytes, dither_row_dots};
 use options::Quantize;
 use ordered::ordered_row_dots;
 use rules::{threshold_row_bytes, threshold_row_dots};
@@ -31,18 +31,6 @@ fn whole_bytes(width: usize, column: usize, samples: usize, room: usize) -> usiz
         return 0;
     }
     ((width - column - 1) / 8).min(samples / 8).min(room)
-}
-
-// How many of so many samples go into the begun byte: without room for the byte not the last one.
-pub(crate) fn samples_for_byte(width: usize, column: usize, samples: usize, room: usize) -> usize
-    requires { column < width }
-    ensures { SamplesForByte width column samples room result }
-{
-    let mut most = (8 - column % 8).min(width - column);
-    if room == 0 {
-        most -= 1;
-    }
-    samples.min(most)
 }
 
 // A byte of m dots: their digits, and then zeros.
@@ -82,6 +70,17 @@ impl Place {
 }
 
 impl Quantizer {
+    // Where the next samples go, for dithering.
+    fn row_start(&self, p: &Place) -> RowStart
+        ensures { result ≡ row_start self.now.width p.now }
+    {
+        RowStart {
+            width: self.width,
+            y: p.row,
+            column: p.column,
+        }
+    }
+
     // As many whole bytes of the row, but its last, as the samples give and the output takes, where the rule's are written at once.
     pub(crate) fn fill_row(
         &self,
@@ -95,20 +94,14 @@ impl Quantizer {
             work.new }
     {
         let count = whole_bytes(self.width, p.column, samples.len(), out.len());
+        // A match: a trait with an impl for each rule, or closures, would need one to choose among them, and each arm hands on others.
         match self.rule {
             Quantize::Threshold(bound) => {
                 threshold_row_bytes(bound, samples, &mut out[..count]);
             }
             Quantize::Dither => {
-                p.corner = dither_row_bytes(
-                    self.width,
-                    p.row,
-                    p.column,
-                    samples,
-                    &mut out[..count],
-                    p.corner,
-                    work,
-                );
+                let start = self.row_start(p);
+                p.corner = dither_row_bytes(start, samples, &mut out[..count], p.corner, work);
             }
             Quantize::Ordered(_) => return 0,
         }
@@ -116,20 +109,32 @@ impl Quantizer {
         count
     }
 
+    // How many of so many samples go into the begun byte: without room for the byte not the last one.
+    pub(crate) fn samples_for_byte(&self, column: usize, samples: usize, room: usize) -> usize
+        requires { column < self.now.width }
+        ensures { SamplesForByte self.now.width column samples room result }
+    {
+        let mut most = (8 - column % 8).min(self.width - column);
+        if room == 0 {
+            most -= 1;
+        }
+        samples.min(most)
+    }
+
     // The digits of the begun byte, and then a dot for each sample.
-    // A match here and in `fill_row` reads plainer than a trait with an impl for each rule.
     fn dots(&self, p: &Place, gray: &[u8], work: &mut [i16]) -> RowDots
         requires { Dotting self.now.rule self.now.width p.now.column (length gray.now) p.now.begun p.now.corner (length work.old) }
         ensures { Dotted self.now.rule self.now.table self.now.width p.now.row p.now.column gray.now p.now.begun p.now.corner
             work.old result work.new }
     {
+        // A match, as in `fill_row`.
         match self.rule {
             Quantize::Threshold(bound) => RowDots {
                 digits: threshold_row_dots(bound, gray, p.begun),
                 corner: p.corner,
             },
             Quantize::Dither => {
-                dither_row_dots(self.width, p.row, p.column, gray, p.begun, p.corner, work)
+                dither_row_dots(self.row_start(p), gray, p.begun, p.corner, work)
             }
             Quantize::Ordered(side) => RowDots {
                 digits: ordered_row_dots(&self.table, side, p.row, p.column, gray, p.begun),

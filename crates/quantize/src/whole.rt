@@ -6,7 +6,7 @@ ghost use Rattle.error.specs.Emits.{Emits};
 ghost use Rattle.image.specs.Geometry.{plane_bytes};
 ghost use Rattle.quantize.specs.Whole.{scan_checked, quantized, Quantizes};
 
-use crate::asked::{enough_work, known_rule};
+use crate::asked::check_rule;
 use crate::engine::Quantizer;
 use diffusion::dither_plane;
 use error::{Refusal, Result, WbmpError};
@@ -21,12 +21,7 @@ fn check_scan(width: u32, height: u32, gray: usize, rule: Quantize, work: usize)
     if width == 0 || height == 0 {
         return Err(WbmpError::new(Refusal::ZeroDimension, 0));
     }
-    if !known_rule(rule) {
-        return Err(WbmpError::new(Refusal::UnknownSetting, 0));
-    }
-    if !enough_work(rule, width as usize, work) {
-        return Err(WbmpError::new(Refusal::BufferTooShort, 0));
-    }
+    check_rule(rule, width, work)?;
     if gray < width as usize * height as usize {
         return Err(WbmpError::new(Refusal::GrayTooShort, 0));
     }
@@ -90,6 +85,7 @@ pub fn quantize_gray8(
     if out.len() < need {
         return Err(WbmpError::new(Refusal::OutputTooShort, 0));
     }
+    // A match: a trait with an impl for each rule, or closures, would need one to choose among them, and each arm hands on others.
     match rule {
         Quantize::Threshold(bound) => threshold_plane(bound, width, height, gray, out),
         Quantize::Dither => dithered_plane(width, height, gray, work, out),
@@ -98,7 +94,7 @@ pub fn quantize_gray8(
     Ok(need)
 }
 
-// The same; the Rust has both names.
+// The same. This and the next two are names of the Rust, which is "to be translated, names included" (document 00).
 pub fn from_gray8(
     width: u32,
     height: u32,
@@ -148,7 +144,7 @@ pub fn dither_bits(
     quantize_gray8(width, height, gray, Quantize::Dither, work, out)
 }
 
-// The ordered rule of this side. No work buffer is needed.
+// The ordered rule of this side. No work buffer is needed. A name of its own, so that the rule stands beside the Rust's two.
 pub fn ordered_bits(width: u32, height: u32, gray: &[u8], side: u8, out: &mut [u8]) -> Result<usize>
     ensures { Emits (quantized (Ordered side) width height gray.now 0) (written result) out.old
         out.new }

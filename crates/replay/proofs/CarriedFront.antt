@@ -16,9 +16,7 @@ use Rattle.dither.specs.Internal.Carry.{clamp, Carry, left_of, over_of, value_of
 use Rattle.rules.specs.Diffusion.{to_right, white, residual}
 use Rattle.rules.specs.Rule.{Rule, threshold, dither, ordered, carries}
 use Rattle.quantize.specs.Finished.{Setting}
-use Rattle.dither.specs.Internal.Carry.{clamp, Carry, left_of, over_of, value_of, diffused, machine_dot, next}
 use Rattle.quantize.specs.Internal.Machine.{MachineState, MachineStep, last_of, byte_step, machine_step, carried}
-use Rattle.rules.specs.Rule.{Rule, threshold, dither, ordered}
 use Rattle.quantize.proofs.MachineSteps.{carried-long}
 
 -- numbers behind those that are kept

@@ -2,21 +2,21 @@
 use Rattle.std.proofs.Common.{Result, Ok, Err}
 use Prim.Native.Nat.{ℕ, suc}
 use mathlib.Core.Path.{◌≡◌, refl, sym, ap, ap₂, subst, ◌∙◌}
-use mathlib.Core.List.{List, [], ◌∷◌, ◌++◌}
+use mathlib.Core.List.{List, ◌++◌}
 use lib.ListN.{length, drop}
 use Rattle.error.specs.declared.Fed.{Fed}
 use Rattle.error.specs.declared.WbmpError.{WbmpError}
 use Rattle.decode_session.specs.Model.{Model, Call, Reply, outcome, replies, finally}
-use Rattle.decode_session.specs.Session.{fed_meaning, closed_meaning, Stands}
+use Rattle.decode_session.specs.Session.{fed_meaning, closed_meaning, Stands, Feeds}
 use Rattle.decode_session.specs.declared.DecodeSession.{DecodeSession}
-use Rattle.replay.specs.declared.Replayed.{Replayed}
 use Rattle.replay.specs.declared.call.Named.{Named}
 use Rattle.replay.specs.declared.call.Named.TheVariants.{Close, Feed}
 use Rattle.replay.specs.Calls.{room_of, concat_map, over, three_of}
 use Rattle.replay.specs.Run.{Calls, Runs, ended, goes, Ran}
-use Rattle.replay.specs.Decode.{numbers_of, told, output, left, call_of, calls_of, RunsCalls, Feeding, Closing, taken_by}
+use Rattle.replay.specs.Decode.{numbers_of, told, output, left, call_of, calls_of, RunsCalls, Closing, taken_by}
 use Rattle.replay.proofs.RunSpared.{spares}
 
+-- EncodeRun has the same of its machine: replies and their numbers are other types there
 fed-numbers : (r : Result Fed WbmpError) → three_of r ≡ numbers_of (fed_meaning r)
 fed-numbers (Ok f) = refl
 fed-numbers (Err e) = refl
@@ -33,7 +33,7 @@ record Says (m : Model) (call : Call) (r : Result Fed WbmpError) (next : DecodeS
   stands : Stands next (outcome m call).next
 
 says : (file : List ℕ) (c : Named) (s : DecodeSession) (out ext : List ℕ) (r : Result Fed WbmpError) (next : DecodeSession)
-    (part ext' : List ℕ) → Calls Feeding Closing file c s out ext r next part ext' → (m : Model) → Stands s m
+    (part ext' : List ℕ) → Calls Feeds Closing file c s out ext r next part ext' → (m : Model) → Stands s m
     → Says m (call_of c file out ext) r next part ext ext'
 says file Close s out ext r next part ext' C m h =
     let d = C.does.does.does m h in
@@ -64,7 +64,7 @@ record Replied (m : Model) (cs : List Call) (many : ℕ) (tells written ext ext'
   stands : Stands s (finally m cs)
 
 replied : (file : List ℕ) {cs : List Named} {s s' : DecodeSession} {out ext tells written ext' : List ℕ}
-    → Runs Feeding Closing file cs s out ext s' tells written ext' → (m : Model) → Stands s m
+    → Runs Feeds Closing file cs s out ext s' tells written ext' → (m : Model) → Stands s m
     → Replied m (calls_of m cs file out ext) (length cs) tells written ext ext' s'
 unfolding replies finally calls_of concat_map left
 replied file ended m h = record { many_is = refl; told_is = refl; written_is = refl; ext_is = refl; stands = h }
@@ -81,10 +81,10 @@ replied file (goes {c} {cs} {s} {s'} {out} {work = ext} {work' = ext'} r next pa
       stands = q.stands;
     }
 
-pub runs-calls : (file : List ℕ) (cs : List Named) (s : DecodeSession) (out ext answers : List ℕ) (r : Replayed DecodeSession)
-    (out' ext' answers' : List ℕ) → Ran Feeding Closing file cs s out ext answers r out' ext' answers'
-    → RunsCalls s cs file out ext answers r out' ext' answers'
-runs-calls file cs s out ext answers r out' ext' answers' R =
+pub runs-calls : (file : List ℕ) (cs : List Named) (s : DecodeSession) (out ext answers : List ℕ) (n : ℕ) (s' : DecodeSession)
+    (out' ext' answers' : List ℕ) → Ran Feeds Closing file cs s out ext answers n s' out' ext' answers'
+    → RunsCalls s cs file out ext answers n s' out' ext' answers'
+runs-calls file cs s out ext answers n s' out' ext' answers' R =
     record {
       does = λ m h.
           let q = replied file R.runs m h in
@@ -95,5 +95,5 @@ runs-calls file cs s out ext answers r out' ext' answers' R =
             answered = R.answers_is ∙ ap (λ (l : List ℕ). over l answers) q.told_is;
             stands = q.stands;
           };
-      spares = spares Feeding Closing file cs s out ext answers r out' ext' answers' R;
+      spares = spares Feeds Closing file cs s out ext answers n s' out' ext' answers' R;
     }

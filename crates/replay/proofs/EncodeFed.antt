@@ -1,14 +1,13 @@
 -- A feeding call of a run on a making session: what its model says of it.
 use Rattle.std.proofs.Common.{Result, Ok, Err}
-use Prim.Native.Nat.{ℕ, ◌+◌, ◌-◌, ◌≤◌}
+use Prim.Native.Nat.{ℕ}
 use mathlib.Core.Path.{◌≡◌, refl, sym, ap, subst, ◌∙◌}
 use mathlib.Core.Bool.{true}
 use mathlib.Core.List.{List, ◌++◌}
 use native.Mathlib.Omega.{arith}
 use lib.IntN.{ℤ}
 use lib.ListN.{length, take, drop, take-append-drop}
-use borrow.Rule.Slice.PartMut.{mid_of, put_mid}
-use lib.Seq.{length-take-le, take_all, take-take, take_at}
+use lib.Seq.{take_all, take-take, take_at}
 use Rattle.error.specs.declared.Fed.{Fed}
 use Rattle.error.specs.declared.WbmpError.{WbmpError}
 use Rattle.error.specs.Answer.{gives, refuses}
@@ -24,7 +23,7 @@ use Rattle.encode_session.specs.declared.EncodeSession.{EncodeSession}
 use Rattle.encode_session.proofs.OutcomeCases.{feed-refused}
 use Rattle.replay.specs.declared.call.Lending.{Lending}
 use Rattle.replay.specs.Run.{FeedsPart}
-use Rattle.replay.specs.Encode.{kept_by, Leaves, Feeding, Closing}
+use Rattle.replay.specs.Encode.{kept_by, Leaves, Closing}
 use Rattle.replay.proofs.CarriedFront.{behind, carried-front}
 use Rattle.replay.proofs.WorkLeft.{drop-front, none-taken, took, next-same, same-leaves}
 use Rattle.replay.proofs.WorkLent.{lent_same, served-room, feed-served}
@@ -44,7 +43,7 @@ tracks_same s s' m m' work work' q q' a b c d T =
 
 -- what the model says of a feeding call
 module _ (p : Lending) (s : EncodeSession) (samples out : List ℕ) (work : List ℤ) (r : Result Fed WbmpError) (s' : EncodeSession)
-    (part : List ℕ) (work' : List ℤ) (F : FeedsPart Feeding Closing samples p s out work r s' part work') (m : Model) (st : Stands s m) where
+    (part : List ℕ) (work' : List ℤ) (F : FeedsPart Feeds Closing samples p s out work r s' part work') (m : Model) (st : Stands s m) where
   abbrev pub xs : List ℕ
   xs = take p.size (drop p.start samples)
 
@@ -72,7 +71,7 @@ module _ (p : Lending) (s : EncodeSession) (samples out : List ℕ) (work : List
       record {
         quiet = λ e.
             let z : f.taken ≡ 0 = omega (arith, t.1, e) in
-            work-same (none-taken _ _ _ _ _ _ _ _ _ (R.machine _ _ Q) z);
+            work-same (none-taken _ _ _ _ _ _ _ _ _ _ (R.machine _ _ Q) z);
         spared = λ e.
             work-same (R.spared (sym (carries_same s.quantizer.rule s.quantizer.table) ∙ ap carries (sym Q.rule) ∙ e));
         beyond =

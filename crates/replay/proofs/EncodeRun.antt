@@ -2,7 +2,7 @@
 use Rattle.std.proofs.Common.{Result, Ok, Err}
 use Prim.Native.Nat.{ℕ, suc, ◌≤◌}
 use mathlib.Core.Path.{◌≡◌, refl, sym, ap, ap₂, subst, ◌∙◌}
-use mathlib.Core.List.{List, [], ◌∷◌, ◌++◌}
+use mathlib.Core.List.{List, [], ◌++◌}
 use native.Mathlib.Omega.{arith}
 use lib.IntN.{ℤ}
 use lib.ListN.{length, drop}
@@ -13,20 +13,19 @@ use Rattle.laws.proofs.Tests.{zero_one}
 use Rattle.quantize.specs.Internal.Machine.{MachineState}
 use Rattle.quantize.specs.Internal.Turn.{state_of}
 use Rattle.encode_session.specs.Model.{Model, Call, close, Outcome, outcome, replies, finally}
-use Rattle.encode_session.specs.Session.{fed_meaning, closed_meaning, Stands, Holds, Closes}
-use Rattle.encode_session.specs.declared.EncodeClosed.{EncodeClosed}
+use Rattle.encode_session.specs.Session.{fed_meaning, closed_meaning, Stands, Holds, Feeds, Closes}
 use Rattle.encode_session.specs.declared.EncodeSession.{EncodeSession}
 use Rattle.encode_session.proofs.OutcomeCases.{by-close}
-use Rattle.replay.specs.declared.Replayed.{Replayed}
 use Rattle.replay.specs.declared.call.Named.{Named}
 use Rattle.replay.specs.declared.call.Named.TheVariants.{Close, Feed}
 use Rattle.replay.specs.Calls.{room_of, concat_map, over, three_of}
 use Rattle.replay.specs.Run.{Calls, Runs, ended, goes, Ran}
-use Rattle.replay.specs.Encode.{numbers_of, told, output, call_of, calls_of, kept_by, kept_from, Leaves, RunsCalls, Feeding, Closing, taken_by}
+use Rattle.replay.specs.Encode.{numbers_of, told, output, call_of, calls_of, kept_by, kept_from, Leaves, RunsCalls, Closing, taken_by}
 use Rattle.replay.proofs.EncodeFed.{Tracks, answer-is, fed-stands, fed-leaves, fed-tracks, fed-calls}
 use Rattle.replay.proofs.RunSpared.{spares}
 use Rattle.replay.proofs.WorkLeft.{next-same, next-longer, same-leaves, leaves-on}
 
+-- DecodeRun has the same of its machine: replies and their numbers are other types there
 fed-numbers : (r : Result Fed WbmpError) → three_of r ≡ numbers_of (fed_meaning r)
 fed-numbers (Ok f) = refl
 fed-numbers (Err e) = refl
@@ -40,16 +39,16 @@ closed-numbers (Err e) = refl
 close-output : (m : Model) → (outcome m close).reply.output ≡ []
 close-output m = by-close m (λ (x : Outcome). x.reply.output ≡ []) refl refl (λ _. refl)
 
-closed-tracks : (s : EncodeSession) (m : Model) (work : List ℤ) (q : MachineState) (closed : EncodeClosed) → Closes s closed → Stands s m
-    → Tracks s m work q → Tracks closed.session (outcome m close).next work q
-closed-tracks s m work q closed C st T =
-    by-close m (λ (x : Outcome). closed_meaning closed.answer ≡ x.reply.answer → Tracks closed.session x.next work q)
+closed-tracks : (s : EncodeSession) (m : Model) (work : List ℤ) (q : MachineState) (a : Result (Unit {0}) WbmpError) (s' : EncodeSession)
+    → Closes s a s' → Stands s m → Tracks s m work q → Tracks s' (outcome m close).next work q
+closed-tracks s m work q a s' C st T =
+    by-close m (λ (x : Outcome). closed_meaning a ≡ x.reply.answer → Tracks s' x.next work q)
     (λ e. refused e)
     (λ e. refused e)
     (λ w e. record { numbers = T.numbers; state = λ l. zero_one (cc) })
     (C.counts m st).0
   where
-    refused : {code place : ℕ} → closed_meaning closed.answer ≡ refuses code place → Tracks closed.session m work q
+    refused : {code place : ℕ} → closed_meaning a ≡ refuses code place → Tracks s' m work q
     refused e = subst (λ (z : EncodeSession). Tracks z m work q) (sym (C.refused _ _ e)) T
 
 -- ---- one call
@@ -63,16 +62,15 @@ record Says (m : Model) (call : Call) (r : Result Fed WbmpError) (s next : Encod
   does : Holds s work m → (part ≡ output (outcome m call).reply) × Holds next work' (outcome m call).next
 
 says : (samples : List ℕ) (c : Named) (s : EncodeSession) (out : List ℕ) (work : List ℤ) (r : Result Fed WbmpError) (next : EncodeSession)
-    (part : List ℕ) (work' : List ℤ) → Calls Feeding Closing samples c s out work r next part work' → (m : Model) → Stands s m
+    (part : List ℕ) (work' : List ℤ) → Calls Feeds Closing samples c s out work r next part work' → (m : Model) → Stands s m
     → Says m (call_of c samples out) r s next part work work'
 says samples Close s out work r next part work' C m st =
-    let closed : EncodeClosed = record { session = next; answer = C.does.answer } in
     let d = C.does.does in
     let n = (outcome m close).next in
     record {
       answer = ap three_of C.does.is ∙ closed-numbers C.does.answer ∙ ap numbers_of (d.counts m st).0;
       stands = (d.counts m st).1;
-      tracks = λ q T. subst (λ (w : List ℤ). Tracks next n w q) (sym C.work_is) (closed-tracks s m work q closed d st T);
+      tracks = λ q T. subst (λ (w : List ℤ). Tracks next n w q) (sym C.work_is) (closed-tracks s m work q C.does.answer next d st T);
       leaves = same-leaves m n work work' C.work_is;
       does = λ h. (C.part_is ∙ sym (close-output m), subst (λ (w : List ℤ). Holds next w n) (sym C.work_is) (d.does m work h));
     }
@@ -98,7 +96,7 @@ record Replied (m : Model) (cs : List Call) (many : ℕ) (tells written : List �
   does : Holds s work m → (written ≡ concat_map output (replies m cs)) × Holds s' work' (finally m cs)
 
 replied : (samples : List ℕ) {cs : List Named} {s s' : EncodeSession} {out : List ℕ} {work : List ℤ} {tells written : List ℕ} {work' : List ℤ}
-    → Runs Feeding Closing samples cs s out work s' tells written work' → (m : Model) → Stands s m
+    → Runs Feeds Closing samples cs s out work s' tells written work' → (m : Model) → Stands s m
     → Replied m (calls_of cs samples out) (length cs) tells written s work s' work'
 unfolding replies finally calls_of concat_map kept_from
 replied samples {work = work} ended m st =
@@ -129,10 +127,10 @@ replied samples (goes {c} {cs} {s} {s'} {out} {work} {work'} r next part tells w
     }
 
 pub runs-calls : (samples : List ℕ) (cs : List Named) (s : EncodeSession) (out : List ℕ) (work : List ℤ) (answers : List ℕ)
-    (r : Replayed EncodeSession) (out' : List ℕ) (work' : List ℤ) (answers' : List ℕ)
-    → Ran Feeding Closing samples cs s out work answers r out' work' answers'
-    → RunsCalls s cs samples work out answers r work' out' answers'
-runs-calls samples cs s out work answers r out' work' answers' R =
+    (n : ℕ) (s' : EncodeSession) (out' : List ℕ) (work' : List ℤ) (answers' : List ℕ)
+    → Ran Feeds Closing samples cs s out work answers n s' out' work' answers'
+    → RunsCalls s cs samples work out answers n s' work' out' answers'
+runs-calls samples cs s out work answers n s' out' work' answers' R =
     record {
       counts = λ m st.
           let q = replied samples R.runs m st in
@@ -146,5 +144,5 @@ runs-calls samples cs s out work answers r out' work' answers' R =
       does = λ m h.
           let d = (replied samples R.runs m h.stands).does h in
           record { outputs = R.out_is ∙ ap (λ (l : List ℕ). over l out) d.0; holds = d.1 };
-      spares = spares Feeding Closing samples cs s out work answers r out' work' answers' R;
+      spares = spares Feeds Closing samples cs s out work answers n s' out' work' answers' R;
     }

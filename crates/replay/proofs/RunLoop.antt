@@ -13,10 +13,8 @@ use lib.ListN.{length, take, drop, length-append, length-drop}
 use lib.Seq.{take_at, drop_at, drop-drop, drop-length}
 use Rattle.error.specs.declared.Fed.{Fed}
 use Rattle.error.specs.declared.WbmpError.{WbmpError}
-use Rattle.replay.specs.declared.Replayed.{Replayed}
 use Rattle.replay.specs.declared.call.Named.{Named}
-use Rattle.replay.specs.declared.call.Named.TheVariants.{Close, Feed}
-use Rattle.replay.specs.Calls.{room_of, named, over, There, Goes, three_of}
+use Rattle.replay.specs.Calls.{room_of, named, over, Goes, three_of}
 use Rattle.replay.specs.Run.{Calls, Makes, Runs, ended, goes, Ran}
 use Rattle.replay.proofs.CallNamed.{few, no_room}
 use Rattle.replay.proofs.RunSpared.{three-long, part-long}
@@ -90,7 +88,7 @@ module _ {S W : Type 0} (feeds : S → List ℕ → List ℕ → List W → Resu
 
     -- the run ends
     pub stops : (n : ℕ) → n ≡ made → rest_of made lent ≡ []
-        → Ran feeds closes samples all s₀ out₀ work₀ answers₀ (record { session = s; calls = n }) out work answers
+        → Ran feeds closes samples all s₀ out₀ work₀ answers₀ n s out work answers
     stops n here e =
         let k = so.count in
         let l = ap length e in

@@ -1,14 +1,13 @@
 -- What a run leaves as it was, on any session.
 use Rattle.std.proofs.Common.{Result, Ok, Err}
-use Prim.Native.Nat.{ℕ, suc, ◌+◌, ◌-◌, ◌*◌, ◌≤◌}
+use Prim.Native.Nat.{ℕ, ◌+◌, ◌-◌, ◌*◌}
 use mathlib.Core.Path.{◌≡◌, refl, sym, ap, ◌∙◌}
-use mathlib.Core.List.{List, [], ◌∷◌, ◌++◌}
+use mathlib.Core.List.{List}
 use native.Mathlib.Omega.{arith}
 use lib.ListN.{length, drop, length-append}
 use lib.Seq.{drop_at, drop-drop}
 use Rattle.error.specs.declared.Fed.{Fed}
 use Rattle.error.specs.declared.WbmpError.{WbmpError}
-use Rattle.replay.specs.declared.Replayed.{Replayed}
 use Rattle.replay.specs.declared.call.Named.{Named}
 use Rattle.replay.specs.declared.call.Named.TheVariants.{Close, Feed}
 use Rattle.replay.specs.Calls.{room_of, lent_of, room_in, Within, over, Spares, three_of}
@@ -65,10 +64,10 @@ module _ {S W : Type 0} (feeds : S → List ℕ → List ℕ → List W → Resu
       ∙ drop-drop (n - lent_of c) (lent_of c) work
       ∙ ap (λ (i : ℕ). drop i work) e
 
-  pub spares : (cs : List Named) (s : S) (out : List ℕ) (work : List W) (answers : List ℕ) (r : Replayed S) (out' : List ℕ)
-      (work' : List W) (answers' : List ℕ) → Ran feeds closes samples cs s out work answers r out' work' answers'
-      → Spares cs r.calls out answers work out' answers' work'
-  spares cs s out work answers r out' work' answers' R =
+  pub spares : (cs : List Named) (s : S) (out : List ℕ) (work : List W) (answers : List ℕ) (n : ℕ) (s' : S) (out' : List ℕ)
+      (work' : List W) (answers' : List ℕ) → Ran feeds closes samples cs s out work answers n s' out' work' answers'
+      → Spares cs n out answers work out' answers' work'
+  spares cs s out work answers n s' out' work' answers' R =
       record {
         made = R.made;
         out_same = ap (drop (room_in cs)) R.out_is ∙ behind R.written out (room_in cs) (written-long R.runs);

@@ -7,10 +7,10 @@ use native.Mathlib.Omega.{arith}
 use lib.IntN.{ℤ}
 use lib.ListN.{length, drop, length-append}
 use Rattle.error.specs.Answer.{gives}
+use Rattle.error.specs.declared.Fed.{Fed}
 use Rattle.error.specs.Choice.{if}
 use Rattle.laws.proofs.Tests.{zero_one}
 use Rattle.quantize.specs.declared.engine.Quantizer.{Quantizer}
-use Rattle.quantize.specs.declared.engine.RunEnded.{RunEnded}
 use Rattle.rules.specs.Rule.{carries}
 use Rattle.quantize.specs.Internal.Engine.{Machines}
 use Rattle.quantize.specs.Finished.{Setting}
@@ -30,12 +30,12 @@ drop-front (suc k) (x ∷ a) [] c l e = absurd (omega arith)
 drop-front (suc k) (x ∷ a) (y ∷ b) c l e = drop-front k a b c (omega arith) e
 
 -- where the engine takes no sample, it keeps what it found
-pub none-taken : (q : Quantizer) (s : Setting) (n : ℕ) (xs out : List ℕ) (work : List ℤ) (r : RunEnded) (out' : List ℕ) (work' : List ℤ)
-    → Machines q s n xs out work r out' work' → r.taken ≡ 0 → work' ≡ work
+pub none-taken : (q : Quantizer) (s : Setting) (n : ℕ) (xs out : List ℕ) (work : List ℤ) (q' : Quantizer) (r : Fed) (out' : List ℕ)
+    (work' : List ℤ) → Machines q s n xs out work q' r out' work' → r.taken ≡ 0 → work' ≡ work
 unfolding carried
-none-taken q s n xs out work r out' work' M z =
+none-taken q s n xs out work q' r out' work' M z =
     sym (ap (λ (st : MachineState). st.carry.kept)
-    (subst (λ (k : ℕ). carried s n (state_of q.place work) xs k ≡ state_of r.quantizer.place work') z M.keeps))
+    (subst (λ (k : ℕ). carried s n (state_of q.place work) xs k ≡ state_of q'.place work') z M.keeps))
 
 -- ---- the model's samples
 

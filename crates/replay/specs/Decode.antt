@@ -4,9 +4,8 @@ use Rattle.error.specs.Answer.{Answer, gives, refuses}
 use Rattle.error.specs.declared.Fed.{Fed}
 use Rattle.error.specs.declared.WbmpError.{WbmpError}
 use Rattle.decode_session.specs.Model.{Model, Call, feed, close, Told, took, frames, Reply, outcome, replies, finally}
-use Rattle.decode_session.specs.Session.{Stands, Feeds, Closes}
+use Rattle.decode_session.specs.Session.{Stands, Closes}
 use Rattle.decode_session.specs.declared.DecodeSession.{DecodeSession}
-use Rattle.replay.specs.declared.Replayed.{Replayed}
 use Rattle.replay.specs.declared.call.Named.{Named}
 use Rattle.replay.specs.declared.call.Named.TheVariants.{Close, Feed}
 use Rattle.replay.specs.Calls.{named, room_of, concat_map, over, Spares}
@@ -43,28 +42,25 @@ calls_of m (c ∷ cs) file out ext =
 -- ---- the contract
 
 -- what the replies of the machine say, and the session after them
-pub record RepliesAs (m : Model) (cs : List Call) (out ext answers : List ℕ) (r : Replayed DecodeSession)
+pub record RepliesAs (m : Model) (cs : List Call) (out ext answers : List ℕ) (n : ℕ) (s' : DecodeSession)
     (out' ext' answers' : List ℕ) : Type 0 where
-  pub calls : r.calls ≡ length (replies m cs)
+  pub calls : n ≡ length (replies m cs)
   pub outputs : out' ≡ over (concat_map output (replies m cs)) out
   pub extension : ext' ≡ left (replies m cs) ext
   pub answered : answers' ≡ over (concat_map told (replies m cs)) answers
-  pub stands : Stands r.session (finally m cs)
+  pub stands : Stands s' (finally m cs)
 
 -- a run of the named calls on a session that stands for a model, and on any
-pub record RunsCalls (s : DecodeSession) (cs : List Named) (file out ext answers : List ℕ) (r : Replayed DecodeSession)
+pub record RunsCalls (s : DecodeSession) (cs : List Named) (file out ext answers : List ℕ) (n : ℕ) (s' : DecodeSession)
     (out' ext' answers' : List ℕ) : Type 0 where
-  pub does : (m : Model) → Stands s m → RepliesAs m (calls_of m cs file out ext) out ext answers r out' ext' answers'
-  pub spares : Spares cs r.calls out answers ext out' answers' ext'
+  pub does : (m : Model) → Stands s m → RepliesAs m (calls_of m cs file out ext) out ext answers n s' out' ext' answers'
+  pub spares : Spares cs n out answers ext out' answers' ext'
 
-abbrev pub Replays : DecodeSession → List ℕ → List ℕ → List ℕ → List ℕ → List ℕ → Replayed DecodeSession → List ℕ → List ℕ → List ℕ → Type 0
-Replays s numbers file out ext answers r out' ext' answers' =
-    RunsCalls s (named numbers (length file) (length out) (length ext) (length answers)) file out ext answers r out' ext' answers'
+abbrev pub Replays : DecodeSession → List ℕ → List ℕ → List ℕ → List ℕ → List ℕ → ℕ → DecodeSession → List ℕ → List ℕ → List ℕ → Type 0
+Replays s numbers file out ext answers n s' out' ext' answers' =
+    RunsCalls s (named numbers (length file) (length out) (length ext) (length answers)) file out ext answers n s' out' ext' answers'
 
--- ---- the calls of a session, with the answer of either as that of feeding
-
-abbrev pub Feeding : DecodeSession → List ℕ → List ℕ → List ℕ → Result Fed WbmpError → DecodeSession → List ℕ → List ℕ → Type 0
-Feeding s piece out ext r s' out' ext' = Feeds s piece out ext (record { session = s'; answer = r }) out' ext'
+-- ---- a closing call, with its answer as that of feeding
 
 -- closing takes the frame count
 abbrev pub taken_by : Result ℕ WbmpError → Result Fed WbmpError
@@ -74,4 +70,4 @@ taken_by (Err e) = Err e
 pub record Closing (s : DecodeSession) (r : Result Fed WbmpError) (s' : DecodeSession) : Type 0 where
   pub answer : Result ℕ WbmpError
   pub is : r ≡ taken_by answer
-  pub does : Closes s (record { session = s'; answer = answer })
+  pub does : Closes s answer s'

@@ -7,10 +7,9 @@ use Rattle.error.specs.declared.WbmpError.{WbmpError}
 use Rattle.quantize.specs.Internal.Machine.{MachineState, carried}
 use Rattle.quantize.specs.Internal.Turn.{state_of}
 use Rattle.encode_session.specs.Model.{setting_of, Model, Call, feed, close, Told, took, closed, Reply, outcome, replies, finally}
-use Rattle.encode_session.specs.Session.{Stands, Holds, Feeds, Closes}
+use Rattle.encode_session.specs.Session.{Stands, Holds, Closes}
 use Rattle.encode_session.specs.Trace.{took_of}
 use Rattle.encode_session.specs.declared.EncodeSession.{EncodeSession}
-use Rattle.replay.specs.declared.Replayed.{Replayed}
 use Rattle.replay.specs.declared.call.Named.{Named}
 use Rattle.replay.specs.declared.call.Named.TheVariants.{Close, Feed}
 use Rattle.replay.specs.Calls.{named, room_of, concat_map, over, Spares}
@@ -50,15 +49,15 @@ kept_from m (c ∷ cs) st = kept_from (outcome m c).next cs (kept_by m c st)
 -- ---- the contract
 
 -- how many calls the machine replies to, what it answers, and the session after them
-pub record AnswersAs (m : Model) (cs : List Call) (answers : List ℕ) (r : Replayed EncodeSession) (answers' : List ℕ) : Type 0 where
-  pub calls : r.calls ≡ length (replies m cs)
+pub record AnswersAs (m : Model) (cs : List Call) (answers : List ℕ) (n : ℕ) (s' : EncodeSession) (answers' : List ℕ) : Type 0 where
+  pub calls : n ≡ length (replies m cs)
   pub answered : answers' ≡ over (concat_map told (replies m cs)) answers
-  pub stands : Stands r.session (finally m cs)
+  pub stands : Stands s' (finally m cs)
 
 -- what it writes, and the work buffer after it
-pub record WritesAs (m : Model) (cs : List Call) (out : List ℕ) (r : Replayed EncodeSession) (out' : List ℕ) (work' : List ℤ) : Type 0 where
+pub record WritesAs (m : Model) (cs : List Call) (out : List ℕ) (s' : EncodeSession) (out' : List ℕ) (work' : List ℤ) : Type 0 where
   pub outputs : out' ≡ over (concat_map output (replies m cs)) out
-  pub holds : Holds r.session work' (finally m cs)
+  pub holds : Holds s' work' (finally m cs)
 
 -- What calls leave of the work buffer: it is as before where they take no sample, as where each is refused or the session is closed, and
 -- under a rule that keeps no carries; behind `width` numbers it always is.
@@ -71,22 +70,20 @@ pub record Leaves (m after : Model) (work work' : List ℤ) : Type 0 where
 -- numbers that the running machine keeps, call by call, from those found in it; no more of it is altered than `Leaves` allows. The outputs
 -- are the model's too where the buffer is as the last call left it. What stands behind the parts that are lent is as before for every
 -- session.
-pub record RunsCalls (s : EncodeSession) (cs : List Named) (samples : List ℕ) (work : List ℤ) (out answers : List ℕ) (r : Replayed EncodeSession)
-    (work' : List ℤ) (out' answers' : List ℕ) : Type 0 where
-  pub counts : (m : Model) → Stands s m → AnswersAs m (calls_of cs samples out) answers r answers'
+pub record RunsCalls (s : EncodeSession) (cs : List Named) (samples : List ℕ) (work : List ℤ) (out answers : List ℕ) (n : ℕ)
+    (s' : EncodeSession) (work' : List ℤ) (out' answers' : List ℕ) : Type 0 where
+  pub counts : (m : Model) → Stands s m → AnswersAs m (calls_of cs samples out) answers n s' answers'
   pub keeps : (m : Model) → Stands s m → work' ≡ (kept_from m (calls_of cs samples out) (state_of s.quantizer.place work)).carry.kept
   pub leaves : (m : Model) → Stands s m → Leaves m (finally m (calls_of cs samples out)) work work'
-  pub does : (m : Model) → Holds s work m → WritesAs m (calls_of cs samples out) out r out' work'
-  pub spares : Spares cs r.calls out answers work out' answers' work'
+  pub does : (m : Model) → Holds s work m → WritesAs m (calls_of cs samples out) out s' out' work'
+  pub spares : Spares cs n out answers work out' answers' work'
 
-abbrev pub Replays : EncodeSession → List ℕ → List ℕ → List ℤ → List ℕ → List ℕ → Replayed EncodeSession → List ℤ → List ℕ → List ℕ → Type 0
-Replays s numbers samples work out answers r work' out' answers' =
-    RunsCalls s (named numbers (length samples) (length out) (length work) (length answers)) samples work out answers r work' out' answers'
+abbrev pub Replays : EncodeSession → List ℕ → List ℕ → List ℤ → List ℕ → List ℕ → ℕ → EncodeSession → List ℤ → List ℕ → List ℕ → Type 0
+Replays s numbers samples work out answers n s' work' out' answers' =
+    RunsCalls s (named numbers (length samples) (length out) (length work) (length answers)) samples work out answers n s' work' out'
+    answers'
 
--- ---- the calls of a session, with the answer of either as that of feeding
-
-abbrev pub Feeding : EncodeSession → List ℕ → List ℕ → List ℤ → Result Fed WbmpError → EncodeSession → List ℕ → List ℤ → Type 0
-Feeding s xs out work r s' out' work' = Feeds s xs out work (record { session = s'; answer = r }) out' work'
+-- ---- a closing call, with its answer as that of feeding
 
 -- closing takes nothing
 abbrev pub taken_by : Result (Unit {0}) WbmpError → Result Fed WbmpError
@@ -96,4 +93,4 @@ taken_by (Err e) = Err e
 pub record Closing (s : EncodeSession) (r : Result Fed WbmpError) (s' : EncodeSession) : Type 0 where
   pub answer : Result (Unit {0}) WbmpError
   pub is : r ≡ taken_by answer
-  pub does : Closes s (record { session = s'; answer = answer })
+  pub does : Closes s answer s'

@@ -2,7 +2,6 @@
 use Rattle.std.specs.Prelude.{ℕ, ◌≡◌, List, [], ◌∷◌, ◌++◌, length, take, drop, Result}
 use Rattle.error.specs.declared.Fed.{Fed}
 use Rattle.error.specs.declared.WbmpError.{WbmpError}
-use Rattle.replay.specs.declared.Replayed.{Replayed}
 use Rattle.replay.specs.declared.call.Named.{Named}
 use Rattle.replay.specs.declared.call.Named.TheVariants.{Close, Feed}
 use Rattle.replay.specs.declared.call.Lending.{Lending}
@@ -47,11 +46,11 @@ module _ {S W : Type 0} (feeds : S → List ℕ → List ℕ → List W → Resu
         → Runs (c ∷ cs) s out work s' (three_of r ++ told) (part ++ written) work'
 
   -- a run of calls: what stands behind their answers and outputs is as before
-  pub record Ran (cs : List Named) (s : S) (out : List ℕ) (work : List W) (answers : List ℕ) (r : Replayed S) (out' : List ℕ)
+  pub record Ran (cs : List Named) (s : S) (out : List ℕ) (work : List W) (answers : List ℕ) (n : ℕ) (s' : S) (out' : List ℕ)
       (work' : List W) (answers' : List ℕ) : Type 0 where
     pub told : List ℕ
     pub written : List ℕ
-    pub runs : Runs cs s out work r.session told written work'
-    pub made : r.calls ≡ length cs
+    pub runs : Runs cs s out work s' told written work'
+    pub made : n ≡ length cs
     pub out_is : out' ≡ over written out
     pub answers_is : answers' ≡ over told answers

@@ -25,6 +25,7 @@ impl Lending {
     }
 }
 
+// No Option<Lending>: `next_call` answers an Option of it, and two of three values would be None.
 #[derive(Clone, Copy)]
 pub(crate) enum Named {
     Close,

@@ -23,39 +23,32 @@ mod call;
 mod run;
 mod session;
 
-// The session after the run, and how many calls were made.
-#[derive(Clone, Copy)]
-pub struct Replayed<S> {
-    pub session: S,
-    pub calls: usize,
-}
-
-// Runs the calls on a reading session.
+// Runs the calls on a reading session, and says how many were made.
 pub fn replay_decode(
-    session: DecodeSession,
+    session: &mut DecodeSession,
     calls: &[usize],
     file: &[u8],
     out: &mut [u8],
     ext: &mut [u8],
     answers: &mut [usize],
-) -> Replayed<DecodeSession>
-    ensures { Decode.Replays session calls.now file.now out.old ext.old answers.old
-        result out.new ext.new answers.new }
+) -> usize
+    ensures { Decode.Replays session.old calls.now file.now out.old ext.old answers.old
+        result session.new out.new ext.new answers.new }
 {
     run(session, calls, file, ext, out, answers)
 }
 
-// Runs the calls on a making session.
+// Runs the calls on a making session, and says how many were made.
 pub fn replay_encode(
-    session: EncodeSession,
+    session: &mut EncodeSession,
     calls: &[usize],
     samples: &[u8],
     work: &mut [i16],
     out: &mut [u8],
     answers: &mut [usize],
-) -> Replayed<EncodeSession>
-    ensures { Encode.Replays session calls.now samples.now work.old out.old
-        answers.old result work.new out.new answers.new }
+) -> usize
+    ensures { Encode.Replays session.old calls.now samples.now work.old out.old
+        answers.old result session.new work.new out.new answers.new }
 {
     run(session, calls, samples, work, out, answers)
 }

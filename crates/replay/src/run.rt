@@ -3,7 +3,6 @@ ghost use Rattle.std.specs.Prelude.{length};
 ghost use Rattle.replay.specs.Calls.{named, There};
 ghost use Rattle.replay.specs.Run.{Makes, Ran};
 
-use crate::Replayed;
 use crate::call::{Named, next_call, numbers};
 use crate::session::Session;
 use error::{Fed, Result};
@@ -33,37 +32,31 @@ fn make_call<S: Session>(
     }
 }
 
-// Runs the calls on a session.
+// Runs the calls on a session, and says how many were made.
 pub(crate) fn run<S: Session>(
-    session: S,
+    session: &mut S,
     calls: &[usize],
     samples: &[u8],
     work: &mut [S::Work],
     out: &mut [u8],
     answers: &mut [usize],
-) -> Replayed<S>
+) -> usize
     ensures { Ran S.feeds S.closes samples.now
         (named calls.now (length samples.now) (length out.old) (length work.old) (length answers.old))
-        session out.old work.old answers.old result out.new work.new answers.new }
+        session.old out.old work.old answers.old result session.new out.new work.new answers.new }
 {
-    let mut session = session;
     let mut lent: usize = 0;
+    // By index: zipped chunks of five and of three would need a count of the calls made beside them, for the answer.
     let most = (calls.len() / 5).min(answers.len() / 3);
     for made in 0..most {
         let room = out.len() - lent;
         let next = next_call(&calls[5 * made..], samples.len(), room, work.len());
         let Some(call) = next else {
-            return Replayed {
-                session,
-                calls: made,
-            };
+            return made;
         };
-        let answer = make_call(&mut session, call, samples, work, &mut out[lent..]);
+        let answer = make_call(session, call, samples, work, &mut out[lent..]);
         answers[3 * made..3 * made + 3].copy_from_slice(&numbers(answer));
         lent += call.room();
     }
-    Replayed {
-        session,
-        calls: most,
-    }
+    most
 }

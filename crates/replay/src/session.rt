@@ -2,6 +2,8 @@
 ghost use Rattle.std.specs.Prelude.{ℕ, List, Result};
 ghost use Rattle.error.specs.declared.Fed.{Fed};
 ghost use Rattle.error.specs.declared.WbmpError.{WbmpError};
+ghost use Rattle.encode_session.specs.Session as Making;
+ghost use Rattle.decode_session.specs.Session as Reading;
 ghost use Rattle.replay.specs.Encode as Encode;
 ghost use Rattle.replay.specs.Decode as Decode;
 
@@ -9,7 +11,7 @@ use decode_session::DecodeSession;
 use encode_session::EncodeSession;
 use error::{Fed, Result};
 
-pub(crate) trait Session: Copy {
+pub(crate) trait Session {
     // What the buffer has beside the piece and the output of a feeding call.
     type Work;
 
@@ -27,21 +29,16 @@ pub(crate) trait Session: Copy {
 impl Session for EncodeSession {
     type Work = i16;
 
-    ghost feeds = { Encode.Feeding };
+    ghost feeds = { Making.Feeds };
 
     ghost closes = { Encode.Closing };
 
     fn feeding(&mut self, piece: &[u8], out: &mut [u8], work: &mut [i16]) -> Result<Fed> {
-        let fed = self.feed(piece, work, out);
-        *self = fed.session;
-        fed.answer
+        self.feed(piece, work, out)
     }
 
     fn closing(&mut self) -> Result<Fed> {
-        let closed = self.close();
-        *self = closed.session;
-        closed.answer?;
-        Ok(Fed {
+        self.close().map(|_| Fed {
             taken: 0,
             written: 0,
         })
@@ -51,21 +48,16 @@ impl Session for EncodeSession {
 impl Session for DecodeSession {
     type Work = u8;
 
-    ghost feeds = { Decode.Feeding };
+    ghost feeds = { Reading.Feeds };
 
     ghost closes = { Decode.Closing };
 
     fn feeding(&mut self, piece: &[u8], out: &mut [u8], ext: &mut [u8]) -> Result<Fed> {
-        let fed = self.feed(piece, out, ext);
-        *self = fed.session;
-        fed.answer
+        self.feed(piece, out, ext)
     }
 
     fn closing(&mut self) -> Result<Fed> {
-        let closed = self.close();
-        *self = closed.session;
-        let frames = closed.answer?;
-        Ok(Fed {
+        self.close().map(|frames| Fed {
             taken: frames as usize,
             written: 0,
         })

@@ -5,11 +5,10 @@ pub mod ListPiece
 pub mod UptoList
 pub mod EntryTold
 pub mod DotCauses
-pub mod StoredBytes
+pub mod ThresholdBytes
 pub mod Words
 pub mod WordCompared
 pub mod WordGathered
-pub mod WordBackwards
 pub mod RuleAsked
 pub mod UptoOverlaid
 pub mod PlaneBytes

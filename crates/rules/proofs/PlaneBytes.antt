@@ -37,6 +37,24 @@ pub byte-at : (w : ℕ) (d : ℕ → ℕ) (q b : ℕ) → b < row_bytes w → by
 unfolding byte_at
 byte-at w d q b h = rw (div-at (row_bytes w) q b h, mod-at (row_bytes w) q b h)
 
+-- row q of one plane and row r of another have the same dots
+module _ (w : ℕ) (d e : ℕ → ℕ) (q r : ℕ) (same : (c : ℕ) → c < w → d (q * w + c) ≡ e (r * w + c)) where
+  bit-same : (c : ℕ) → padded_bit w d q c ≡ padded_bit w e r c
+  bit-same c =
+      ⊎_elim
+      (λ (k : c < w). bit_in w d q c k ∙ same c k ∙ sym (bit_in w e r c k))
+      (λ (k : w ≤ c). bit_past w d q c k ∙ sym (bit_past w e r c k))
+      (lt-or-le c w)
+
+  pub byte-same : (b : ℕ) → b < row_bytes w → byte_at w d (q * row_bytes w + b) ≡ byte_at w e (r * row_bytes w + b)
+  byte-same b l =
+      byte-at w d q b l
+      ∙ appended-ext 0 (λ i. padded_bit w d q (8 * b + i)) (λ i. padded_bit w e r (8 * b + i)) 8 (λ i k. bit-same (8 * b + i))
+      ∙ sym (byte-at w e r b l)
+
+pub first-row : (w : ℕ) (d : ℕ → ℕ) (b : ℕ) → byte_at w d (0 * row_bytes w + b) ≡ byte_at w d b
+first-row w d b = let e : 0 * row_bytes w + b ≡ b = omega arith in ap (byte_at w d) e
+
 module _ (w : ℕ) (d : ℕ → ℕ) (q : ℕ) where
   -- the dots of byte b of row q that are samples'
   dot-in : (b i : ℕ) → 8 * b + i < w → padded_bit w d q (8 * b + i) ≡ d (q * w + 8 * b + i)

@@ -1,16 +1,15 @@
 -- A list whose front is overlaid with a function's values.
 -- Assumes nothing.
-use Prim.Native.Nat.{ℕ, zero, suc, ◌+◌, ◌*◌, ◌≤◌, ◌<◌}
-use mathlib.Core.Path.{◌≡◌, refl, sym, ap, ◌∙◌}
-use mathlib.Core.List.{List, [], ◌∷◌, ◌++◌}
-use native.Mathlib.Nat.{add-zero}
+use Prim.Native.Nat.{ℕ, suc, ◌+◌, ◌-◌, ◌≤◌, ◌<◌}
+use mathlib.Core.Path.{◌≡◌, refl, sym, ap, ap₂, ◌∙◌}
+use mathlib.Core.List.{List, [], ◌∷◌, ◌++◌, append-nil, append_assoc}
 use native.Mathlib.Numerals.{add-one}
 use native.Mathlib.Omega.{arith}
+use borrow.Rule.Slice.PartMut.{put_mid, post_of, Post-is}
 use lib.ListN.{length, get_or, drop, set, length-append, length-drop}
-use lib.Seq.{drop-cons, append_snoc, set_at}
-use Rattle.rules.specs.Bits.{upto, digits}
-use Rattle.rules.specs.Internal.Kernels.{threshold_from, stored}
-use Rattle.rules.proofs.UptoList.{length-upto}
+use lib.Seq.{drop-cons, drop-length, drop-drop, drop-append-add, take_at, append_snoc, set_at}
+use Rattle.rules.specs.Bits.{upto}
+use Rattle.rules.proofs.UptoList.{length-upto, upto-ext, upto_add}
 
 abbrev pub overlaid : ℕ → (ℕ → ℕ) → List ℕ → List ℕ
 overlaid n f out = upto n f ++ drop n out
@@ -33,13 +32,23 @@ module _ (f : ℕ → ℕ) (out : List ℕ) where
       ∙ ap (λ (b : ℕ). (upto n f ++ (b ∷ [])) ++ drop (suc n) out) e
       ∙ ap (λ (k : ℕ). overlaid k f out) (sym (add-one n))
 
-  -- so many bytes more of the threshold rule
-  pub overlaid-stored : (t : ℕ) (gray : List ℕ) (at n k : ℕ) → n + k ≤ length out
-      → ((j : ℕ) → j < k → digits (threshold_from t gray (at + 8 * j)) 8 ≡ f (n + j))
-      → stored t gray at (overlaid n f out) n k ≡ overlaid (n + k) f out
-  unfolding stored
-  overlaid-stored t gray at n zero h e = rw add-zero
-  overlaid-stored t gray at n (suc k) h e =
-      let i = overlaid-stored t gray at n k (omega arith) (λ j l. e j (omega arith)) in
-      let m : n + suc k ≡ n + k + 1 = omega arith in
-      rw (i, m) (overlaid-next (n + k) (digits (threshold_from t gray (at + 8 * k)) 8) (omega arith) (e k (omega arith)))
+  -- the whole list
+  pub overlaid-all : (n : ℕ) → n ≡ length out → overlaid n f out ≡ upto n f
+  overlaid-all n e =
+      ap (λ (k : ℕ). upto n f ++ drop k out) e ∙ ap (λ (r : List ℕ). upto n f ++ r) (drop-length out) ∙ append-nil (upto n f)
+
+  -- k values more, put in the place of as many elements
+  pub overlaid-put : (n k : ℕ) (g : ℕ → ℕ) → ((i : ℕ) → i < k → g i ≡ f (n + i))
+      → put_mid n (n + k - n) (overlaid n f out) (upto k g) ≡ overlaid (n + k) f out
+  overlaid-put n k g e =
+      let front = upto n f in
+      let o = overlaid n f out in
+      let behind : post_of n (n + k - n) o ≡ drop (n + k) out =
+      Post-is n (n + k) o (omega arith)
+      ∙ ap (λ (m : ℕ). drop (m + k) o) (sym (length-upto f n))
+      ∙ drop-append-add front (drop n out) k
+      ∙ drop-drop k n out in
+      ap (λ (l : List ℕ). l ++ (upto k g ++ post_of n (n + k - n) o)) (take_at front (drop n out) n (length-upto f n))
+      ∙ ap₂ (λ (l m : List ℕ). front ++ (l ++ m)) (upto-ext g (λ i. f (n + i)) k e) behind
+      ∙ sym (append_assoc front (upto k (λ i. f (n + i))) (drop (n + k) out))
+      ∙ ap (λ (l : List ℕ). l ++ drop (n + k) out) (sym (upto_add f n k))

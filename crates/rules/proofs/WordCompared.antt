@@ -12,10 +12,11 @@ use borrow.Author.Tests.{le-leb, lt-leb}
 use Rattle.rules.specs.Bits.{bit}
 use Rattle.rules.specs.Internal.Words.{bytes, Below}
 use Rattle.laws.proofs.Tests.{lt-or-le}
+use Rattle.rules.proofs.DigitsAppended.{bit-yes, bit-no}
 use Rattle.rules.proofs.Words.{bytes-ext, bytes-add, bytes-times, bytes-and, bytes-or}
 
 -- the highest bit of each byte, and the lowest
-abbrev tops : ℕ
+abbrev pub tops : ℕ
 tops = 0x8080808080808080
 
 abbrev pub ones : ℕ
@@ -47,6 +48,13 @@ raised x h =
     ∙ or_block 7 (x / 128) 1 (x % 128) 0 (omega arith) (omega arith)
     ∙ ap₂ (λ (p q : ℕ). p * 128 + q) (or_comm (x / 128) 1 ∙ one-or (x / 128) (omega arith)) (or_zero_r (x % 128))
     ∙ e
+
+half : (x : ℕ) → x < 256 → x / 128 ≡ bit (leb 128 x)
+half x h =
+    ⊎_elim
+    (λ (l : x < 128). let e : x / 128 ≡ 0 = omega arith in e ∙ bit-no 128 x l)
+    (λ (l : 128 ≤ x). let e : x / 128 ≡ 1 = omega arith in e ∙ bit-yes 128 x l)
+    (lt-or-le x 128)
 
 -- its highest bit says whether x's other bits are at least those of t
 abbrev low : ℕ → ℕ → ℕ
@@ -136,3 +144,8 @@ module _ (t : ℕ) (f : ℕ → ℕ) (small : Below 256 f) where
       ap (λ (n : ℕ). bit_and n tops) (ap (bit_and (bytes f 8)) lows-are ∙ bytes-and f lows 8 small lows-small)
       ∙ raised-dots (λ i. bit_and (f i) (lows i)) (λ i. lt_of_le_of_lt (and_le_l (f i) (lows i)) (small i))
       (λ i. and-dot t (f i) (small i) h g)
+
+-- for the bound 128 the samples' own highest bits
+pub half-dots : (f : ℕ → ℕ) → Below 256 f → bit_and (bytes f 8) tops ≡ bytes (λ i. bit (leb 128 (f i))) 8 * 128
+half-dots f small =
+    raised-dots 128 f small f small (λ i. high_bit (f i) (small i) ∙ ap (λ (n : ℕ). n * 128) (half (f i) (small i)))

@@ -1,5 +1,5 @@
-// The kernels as the engine calls them. Each asks nothing: it tests once a call what its kernel asks, and where that does not hold it
-// alters nothing.
+// The kernels as the engine calls them. Each asks nothing, as no public function does: it tests once a call what its kernel asks, and where
+// that does not hold it alters nothing.
 ghost use Rattle.std.specs.Prelude.{◌≡◌, ◌*◌, ◌≤◌, length};
 ghost use Rattle.rules.specs.Bits.{appended};
 ghost use Rattle.rules.specs.Internal.Entry.{TrueExactly, Where};
@@ -31,9 +31,8 @@ pub fn threshold_row_bytes(bound: u8, samples: &[u8], out: &mut [u8])
     ensures { Where (8 * length out.old ≤ length samples.now)
         (out.new ≡ threshold_bytes bound samples.now (length out.old)) (out.new ≡ out.old) }
 {
-    let count = out.len();
-    if samples.len() / 8 < count {
+    if samples.len() / 8 < out.len() {
         return;
     }
-    threshold_bytes(bound, samples, 0, out, 0, count);
+    threshold_bytes(bound, samples, out);
 }

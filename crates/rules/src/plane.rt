@@ -1,13 +1,13 @@
-// Whole planes of the threshold rule.
-ghost use Rattle.std.specs.Prelude.{◌≡◌, ◌+◌, ◌*◌, ◌/◌, ◌%◌, ◌≤◌, ◌<◌, length};
-ghost use Rattle.image.specs.Geometry.{padding_mask};
-ghost use Rattle.rules.specs.Internal.Kernels.{threshold_bit};
-ghost use Rattle.rules.specs.Internal.Planes.{PlaneFits, plane_onto, plane_where, ending_byte, ended_row, masked_row};
+// Whole planes of the threshold rule. Times as long are beside docs/COMPARISON.md, behind which no line of tools/bench may fall.
+ghost use Rattle.std.specs.Prelude.{◌≡◌, ◌+◌, ◌*◌, ◌%◌, ◌≤◌, ◌<◌, length};
+ghost use Rattle.image.specs.Geometry.{row_bytes};
+ghost use Rattle.rules.specs.Internal.Kernels.{threshold_bit, threshold_bytes};
+ghost use Rattle.rules.specs.Internal.Planes.{PlaneFits, plane, plane_onto, plane_where, ending_byte};
 
 use crate::threshold::{byte, threshold_bytes, threshold_dots};
 use image::PlaneLayout;
 
-// A sample's dot as a bit of a byte.
+// A sample's dot as a bit of a byte. By index, as `threshold_bit` names a sample of a list.
 fn dot_bit(bound: u8, gray: &[u8], at: usize, bit: u8) -> u8
     requires { at + 1 ≤ length gray.now }
     ensures { result ≡ threshold_bit bound gray.now at * bit }
@@ -16,85 +16,61 @@ fn dot_bit(bound: u8, gray: &[u8], at: usize, bit: u8) -> u8
 }
 
 // Rows of one sample: one flat loop, of which the compiler takes many samples at once.
-fn threshold_ones(bound: u8, height: usize, gray: &[u8], out: &mut [u8])
-    requires { PlaneFits 1 height (length gray.now) (length out.old) }
-    ensures { out.new ≡ plane_onto 1 height (threshold_bit bound gray.now) out.old }
+fn threshold_ones(bound: u8, gray: &[u8], out: &mut [u8])
+    requires { length out.old ≤ length gray.now }
+    ensures { out.new ≡ plane 1 (length out.old) (threshold_bit bound gray.now) }
 {
-    for i in 0..height {
-        out[i] = dot_bit(bound, gray, i, 128);
+    for (i, to) in out.iter_mut().enumerate() {
+        *to = dot_bit(bound, gray, i, 128);
     }
 }
 
-// Rows of two samples, likewise.
-fn threshold_pairs(bound: u8, height: usize, gray: &[u8], out: &mut [u8])
-    requires { PlaneFits 2 height (length gray.now) (length out.old) }
-    ensures { out.new ≡ plane_onto 2 height (threshold_bit bound gray.now) out.old }
+// Rows of two samples, likewise. As one with a const width, a loop over a byte's dots would stand inside the flat one.
+fn threshold_pairs(bound: u8, gray: &[u8], out: &mut [u8])
+    requires { 2 * length out.old ≤ length gray.now }
+    ensures { out.new ≡ plane 2 (length out.old) (threshold_bit bound gray.now) }
 {
-    for i in 0..height {
-        out[i] = dot_bit(bound, gray, 2 * i, 128) + dot_bit(bound, gray, 2 * i + 1, 64);
+    for (i, to) in out.iter_mut().enumerate() {
+        *to = dot_bit(bound, gray, 2 * i, 128) + dot_bit(bound, gray, 2 * i + 1, 64);
     }
 }
 
 // The dots of a row's last samples as its last byte.
-fn ending_byte(bound: u8, gray: &[u8], at: usize, tail: usize) -> u8
-    requires { (at + tail ≤ length gray.now) × (tail ≤ 8) }
-    ensures { result ≡ ending_byte bound gray.now at tail }
+fn ending_byte(bound: u8, gray: &[u8]) -> u8
+    requires { length gray.now ≤ 8 }
+    ensures { result ≡ ending_byte bound gray.now }
 {
-    let end = at + tail;
-    let dots = threshold_dots(bound, &gray[at..end], 0);
-    (dots << (8 - tail as u32)) as u8
+    let dots = threshold_dots(bound, gray, 0);
+    (dots << (8 - gray.len() as u32)) as u8
 }
 
-// A row: so many bytes of the samples from index `at` on, and its last byte, cut from one by the mask, into the output from index `to` on.
-fn threshold_row(
-    bound: u8,
-    gray: &[u8],
-    at: usize,
-    out: &mut [u8],
-    to: usize,
-    count: usize,
-    mask: u8,
-)
-    requires { (at + 8 * count + 8 ≤ length gray.now) × (to + count < length out.old) }
-    ensures { out.new ≡ masked_row bound gray.now at out.old to count mask }
+// A row that ends inside a byte, from its samples alone.
+fn last_row(bound: u8, gray: &[u8], out: &mut [u8])
+    requires { (0 < length gray.now % 8) × (length out.old ≡ row_bytes (length gray.now)) }
+    ensures { out.new ≡ plane (length gray.now) 1 (threshold_bit bound gray.now) }
 {
-    threshold_bytes(bound, gray, at, out, to, count);
-    let end = to + count;
-    out[end] = byte(bound, gray, at + 8 * count) & mask;
-}
-
-// A row behind whose samples none may follow.
-fn last_row(bound: u8, width: usize, gray: &[u8], at: usize, out: &mut [u8], to: usize)
-    requires { (at + width ≤ length gray.now) × (to + width / 8 < length out.old) }
-    ensures { out.new ≡ ended_row bound gray.now at out.old to (width / 8) (width % 8) }
-{
-    let count = width / 8;
-    threshold_bytes(bound, gray, at, out, to, count);
-    let end = to + count;
-    out[end] = ending_byte(bound, gray, at + 8 * count, width % 8);
+    let count = gray.len() / 8;
+    threshold_bytes(bound, gray, &mut out[..count]);
+    out[count] = ending_byte(bound, &gray[8 * count..]);
 }
 
 // Rows of three samples or four, two of them from eight samples, which reach into the next row: the number of rows written, all but the
 // last two at most. Written as `for`, it makes rows of seven samples, in `wide_rows`, take 1.2 to 1.9 times as long.
-fn narrow_rows(
-    bound: u8,
-    width: usize,
-    height: usize,
-    mask: u8,
-    gray: &[u8],
-    out: &mut [u8],
-) -> usize
-    requires { PlaneFits width height (length gray.now) (length out.old)
-        × ((2 < width) × (width < 5) × (mask ≡ padding_mask width)) }
-    ensures { (result ≤ height) × (out.new ≡ plane_onto width result (threshold_bit bound gray.now) out.old) }
+fn narrow_rows(bound: u8, layout: PlaneLayout, gray: &[u8], out: &mut [u8]) -> usize
+    requires { PlaneFits layout (length gray.now) (length out.old) × ((2 < layout.width) × (layout.width < 5)) }
+    ensures { (result ≤ layout.height)
+        × (out.new ≡ plane_onto layout.width result (threshold_bit bound gray.now) out.old) }
 {
+    let width = layout.width as usize;
+    let height = layout.height as usize;
+    let mask = layout.last_byte_pad_mask;
     let mut at: usize = 0;
     let mut y: usize = 0;
     while height - y > 2 {
         let dots = byte(bound, gray, at);
         out[y] = dots & mask;
         let next = y + 1;
-        out[next] = (dots << width as u32) & mask;
+        out[next] = (dots << layout.width) & mask;
         at += 2 * width;
         y += 2;
     }
@@ -103,59 +79,76 @@ fn narrow_rows(
 
 // Rows that end inside a byte, one at a time, likewise: the last byte is cut from the dots of eight samples, which reach into the next two
 // rows. Written as `for`, rows of up to 17 samples take 1.2 to 1.3 times as long.
-fn wide_rows(bound: u8, width: usize, height: usize, mask: u8, gray: &[u8], out: &mut [u8]) -> usize
-    requires { PlaneFits width height (length gray.now) (length out.old)
-        × ((2 < width) × (0 < width % 8) × (mask ≡ padding_mask width)) }
-    ensures { (result ≤ height) × (out.new ≡ plane_onto width result (threshold_bit bound gray.now) out.old) }
+fn wide_rows(bound: u8, layout: PlaneLayout, gray: &[u8], out: &mut [u8]) -> usize
+    requires { PlaneFits layout (length gray.now) (length out.old) × ((2 < layout.width) × (0 < layout.width % 8)) }
+    ensures { (result ≤ layout.height)
+        × (out.new ≡ plane_onto layout.width result (threshold_bit bound gray.now) out.old) }
 {
+    let width = layout.width as usize;
+    let height = layout.height as usize;
+    let mask = layout.last_byte_pad_mask;
     let count = width / 8;
     let mut at: usize = 0;
     let mut to: usize = 0;
     let mut y: usize = 0;
     while 2 < height - y {
-        threshold_row(bound, gray, at, out, to, count, mask);
+        let end = to + count;
+        threshold_bytes(bound, &gray[at..], &mut out[to..end]);
+        out[end] = byte(bound, gray, at + 8 * count) & mask;
         at += width;
-        to += count + 1;
+        to = end + 1;
         y += 1;
     }
     y
 }
 
 // The rows before the last two, at most, by the way that suits their width: the number of rows written.
-fn front_rows(
-    bound: u8,
-    width: usize,
-    height: usize,
-    mask: u8,
-    gray: &[u8],
-    out: &mut [u8],
-) -> usize
-    requires { PlaneFits width height (length gray.now) (length out.old)
-        × ((2 < width) × (0 < width % 8) × (mask ≡ padding_mask width)) }
-    ensures { (result ≤ height) × (out.new ≡ plane_onto width result (threshold_bit bound gray.now) out.old) }
+fn front_rows(bound: u8, layout: PlaneLayout, gray: &[u8], out: &mut [u8]) -> usize
+    requires { PlaneFits layout (length gray.now) (length out.old) × ((2 < layout.width) × (0 < layout.width % 8)) }
+    ensures { (result ≤ layout.height)
+        × (out.new ≡ plane_onto layout.width result (threshold_bit bound gray.now) out.old) }
 {
-    if width < 5 {
-        return narrow_rows(bound, width, height, mask, gray, out);
+    if layout.width < 5 {
+        return narrow_rows(bound, layout, gray, out);
     }
-    wide_rows(bound, width, height, mask, gray, out)
+    wide_rows(bound, layout, gray, out)
 }
 
 // Rows that end inside a byte. The last dots of the last two rows are made one by one, as too few samples follow them.
 // Written as `for`, rows of three, four and nine samples take up to 1.1 times as long.
-fn threshold_rows(bound: u8, width: usize, height: usize, mask: u8, gray: &[u8], out: &mut [u8])
-    requires { PlaneFits width height (length gray.now) (length out.old)
-        × ((2 < width) × (0 < width % 8) × (mask ≡ padding_mask width)) }
-    ensures { out.new ≡ plane_onto width height (threshold_bit bound gray.now) out.old }
+fn threshold_rows(bound: u8, layout: PlaneLayout, gray: &[u8], out: &mut [u8])
+    requires { PlaneFits layout (length gray.now) (length out.old) × ((2 < layout.width) × (0 < layout.width % 8)) }
+    ensures { out.new ≡ plane layout.width layout.height (threshold_bit bound gray.now) }
 {
-    let count = width / 8;
-    let mut y = front_rows(bound, width, height, mask, gray, out);
+    let width = layout.width as usize;
+    let height = layout.height as usize;
+    let mut y = front_rows(bound, layout, gray, out);
     let mut at = y * width;
-    let mut to = y * (count + 1);
+    let mut to = y * layout.stride;
     while y < height {
-        last_row(bound, width, gray, at, out, to);
-        at += width;
-        to += count + 1;
+        let end = at + width;
+        let next = to + layout.stride;
+        last_row(bound, &gray[at..end], &mut out[to..next]);
+        at = end;
+        to = next;
         y += 1;
+    }
+}
+
+// A plane that fills the output. `PlaneFits` is asked of the layout, the samples and the bytes from here on, with no struct of the three:
+// rows are cut from samples and bytes at places of their own, so each function would take it apart.
+fn whole_plane(bound: u8, layout: PlaneLayout, gray: &[u8], out: &mut [u8])
+    requires { PlaneFits layout (length gray.now) (length out.old) }
+    ensures { out.new ≡ plane layout.width layout.height (threshold_bit bound gray.now) }
+{
+    if layout.width % 8 == 0 {
+        threshold_bytes(bound, gray, out);
+    } else if layout.width == 1 {
+        threshold_ones(bound, gray, out);
+    } else if layout.width == 2 {
+        threshold_pairs(bound, gray, out);
+    } else {
+        threshold_rows(bound, layout, gray, out);
     }
 }
 
@@ -165,22 +158,8 @@ pub fn threshold_plane(bound: u8, width: u32, height: u32, gray: &[u8], out: &mu
         out.old }
 {
     let layout = PlaneLayout::new(width, height);
-    let columns = width as usize;
-    let rows = height as usize;
-    if gray.len() < columns * rows || out.len() < layout.total_bytes {
+    if gray.len() < width as usize * height as usize || out.len() < layout.total_bytes {
         return;
     }
-    if columns % 8 == 0 {
-        threshold_bytes(bound, gray, 0, out, 0, layout.total_bytes);
-        return;
-    }
-    if columns == 1 {
-        threshold_ones(bound, rows, gray, out);
-        return;
-    }
-    if columns == 2 {
-        threshold_pairs(bound, rows, gray, out);
-        return;
-    }
-    threshold_rows(bound, columns, rows, layout.last_byte_pad_mask, gray, out);
+    whole_plane(bound, layout, gray, &mut out[..layout.total_bytes]);
 }

@@ -8,15 +8,16 @@ use options::EncodeOptions;
 use std::io;
 
 fn main(rt: HostRuntime) -> io::Result<()> {
+    // An array, whose front is written: a Vec would need an allocator handed down, and could run out.
     let mut out = [0; 4096];
     match make(&mut out) {
-        Ok(n) => rt.write_all(&out[..n.min(out.len())]),
+        Ok(file) => rt.write_all(file),
         Err(e) => eprintln!(rt; "refused {}", e.kind),
     }
 }
 
-// Black is "#" (35), white "o" (111).
-fn make(out: &mut [u8]) -> Result<usize> {
+// The file, at the front of `out`. Black is "#" (35), white "o" (111).
+fn make(out: &mut [u8]) -> Result<&[u8]> {
     let scan = b"oooooooooooo\
                  o#oo#oo#oooo\
                  o#oo#oo#oooo\
@@ -24,12 +25,9 @@ fn make(out: &mut [u8]) -> Result<usize> {
                  o#oo#oo#oooo\
                  o#oo#oo#oooo\
                  oooooooooooo";
-    let pairs = [Parameter {
-        identifier_len: 5,
-        value_len: 2,
-    }];
+    let pairs = [Parameter::new(b"Title", b"HI")?];
     let mut work = [0; 24];
-    encoder::encode_gray8(
+    let n = encoder::encode_gray8(
         12,
         7,
         1,
@@ -39,7 +37,8 @@ fn make(out: &mut [u8]) -> Result<usize> {
         &pairs[..],
         &mut work,
         out,
-    )
+    )?;
+    Ok(&out[..n])
 }
 
 // The classes of identifier and value are tested.

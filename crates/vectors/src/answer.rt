@@ -1,16 +1,19 @@
 // Answers as numbers: a refusal is its number and place, an acceptance 0 and the values given.
 use crate::bytes::Bytes;
 use error::{Result, WbmpError};
+use std::array;
 
-// Behind the last number stand zeros.
+// Behind the last number stand zeros, which the list leaves out: no count is kept.
 pub(crate) type Answer = [usize; 11];
 
 pub(crate) fn numbers(given: &[usize]) -> Answer {
-    let mut answer = [0; 11];
-    for (to, from) in answer.iter_mut().zip(given) {
-        *to = *from;
-    }
-    answer
+    joined(given, &[])
+}
+
+// The numbers of both, one behind the other.
+pub(crate) fn joined(first: &[usize], last: &[usize]) -> Answer {
+    let mut given = first.iter().chain(last).copied();
+    array::from_fn(|_| given.next().unwrap_or(0))
 }
 
 pub(crate) fn refused(e: WbmpError) -> Answer {
@@ -35,10 +38,17 @@ impl Bytes<'_> {
         same
     }
 
-    // Whether `got` is the next answer, whose last zeros are left out.
-    pub(crate) fn is_answer(&mut self, got: &Answer) -> bool {
-        let mut want = [0; 11];
-        self.numbers(&mut want);
-        want == *got
+    // Whether the numbers behind their count are `got`, whose last zeros are left out. Where they are more, nothing is left of the list.
+    pub(crate) fn is_answer(&mut self, got: &[usize]) -> bool {
+        let count = self.number();
+        let Some((told, zeros)) = got.split_at_checked(count) else {
+            self.rest = &[];
+            return false;
+        };
+        let mut same = zeros.iter().all(|n| *n == 0);
+        for n in told {
+            same &= self.number() == *n;
+        }
+        same
     }
 }

@@ -1,6 +1,8 @@
 // Parts of slices, and bytes that are read one behind the other.
 ghost use Rattle.std.specs.Prelude.{◌≡◌, take, drop};
 
+use std::array;
+
 // The first `n` elements, or all where there are fewer.
 pub(crate) fn front<T>(items: &[T], n: usize) -> &[T]
     ensures { result.now ≡ take n items.now }
@@ -54,10 +56,7 @@ impl<'a> Bytes<'a> {
     }
 
     pub(crate) fn array<const N: usize>(&mut self) -> [u8; N] {
-        let mut array = [0; N];
-        for (to, from) in array.iter_mut().zip(self.take(N)) {
-            *to = *from;
-        }
-        array
+        let part = self.take(N);
+        array::from_fn(|k| part.get(k).copied().unwrap_or(0))
     }
 }

@@ -1,25 +1,26 @@
 // Lists on sessions as cases: a making, a reading, and a card that is made in pieces, read in
 // pieces and shown dot for dot.
 use crate::bytes::{Bytes, behind, front};
-use crate::case::Replayed;
+use crate::case::{Case, Replayed};
 use crate::list::TEXT;
 use crate::making::Making;
 use crate::reading::Reading;
 use image::PixelFormat;
 
-// A list on a making session, on a reading session, or a card.
-pub(crate) fn replay_lists(list: &mut Bytes, operation: usize, input: &[u8]) -> Replayed {
-    let input = Bytes::new(input);
-    match operation {
-        96 => {
-            let making = Making::read(input);
-            making.run_lists(list, &mut [making.mark; TEXT])
+impl Case<'_> {
+    // A list on a making session, on a reading session, or a card. By its number, as in case.rt.
+    pub(crate) fn replay_lists(self, list: &mut Bytes) -> Replayed {
+        match self.operation {
+            96 => {
+                let making = Making::read(self.input);
+                making.run_lists(list, &mut [making.mark; TEXT])
+            }
+            97 => {
+                let reading = Reading::read(self.input);
+                reading.run_list(list, &mut [reading.mark; TEXT])
+            }
+            _ => shown(list, self.input),
         }
-        97 => {
-            let reading = Reading::read(input);
-            reading.run_list(list, &mut [reading.mark; TEXT])
-        }
-        _ => shown(list, input),
     }
 }
 

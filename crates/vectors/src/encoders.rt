@@ -12,15 +12,17 @@ use options::{EncodeOptions, Quantize};
 
 // A case's input: 1 for strict, the format or the kind of rule, width, height and count in four
 // bytes each, the stride in eight or the rule's number, the length of the work buffer and six
-// bytes, the length of the planes or the gray in two, these, and fields.
+// bytes, the length of the planes or the gray in two, these, and fields. Writing has no use for the
+// rule and the work buffer, making none for format and stride.
 #[derive(Clone, Copy)]
 pub(crate) struct Card<'a> {
-    strict: bool,
-    kind: u8,
+    options: EncodeOptions,
+    format: PixelFormat,
     width: u32,
     height: u32,
     count: usize,
-    stride: [u8; 8],
+    stride: usize,
+    work_len: u8,
     body: &'a [u8],
     pub fields: Fields<'a>,
 }
@@ -32,38 +34,34 @@ impl<'a> Card<'a> {
         let width = input.long();
         let height = input.long();
         let count = input.long() as usize;
-        let stride = input.array();
+        let stride = input.array::<8>();
+        let [number, work_len, ..] = stride;
         let size = input.short();
+        let body = input.take(size);
+        let fields = Fields::read(input);
         Card {
-            strict,
-            kind,
+            options: options_of(strict, rule_of(kind, number), fields),
+            format: format_of(kind),
             width,
             height,
             count,
-            stride,
-            body: input.take(size),
-            fields: Fields::read(input),
+            stride: u64::from_be_bytes(stride) as usize,
+            work_len,
+            body,
+            fields,
         }
-    }
-
-    // Writing has no use for the rule.
-    fn options(self) -> EncodeOptions {
-        EncodeOptions::new()
-            .with_quantize(rule_of(self.kind, self.stride[0]))
-            .with_ext_fields(self.fields.in_header())
-            .with_strict(self.strict)
-    }
-
-    fn format(self) -> PixelFormat {
-        format_of(self.kind)
-    }
-
-    fn stride(self) -> usize {
-        u64::from_be_bytes(self.stride) as usize
     }
 }
 
-// A kind and a number, of which two rules have one.
+// How a card with these fields is made.
+pub(crate) fn options_of(strict: bool, rule: Quantize, fields: Fields) -> EncodeOptions {
+    EncodeOptions::new()
+        .with_quantize(rule)
+        .with_ext_fields(fields.kind)
+        .with_strict(strict)
+}
+
+// A kind and a number, of which two rules have one. No From: Quantize belongs to another crate.
 pub(crate) fn rule_of(kind: u8, number: u8) -> Quantize {
     match kind {
         0 => Quantize::Threshold(number),
@@ -72,11 +70,11 @@ pub(crate) fn rule_of(kind: u8, number: u8) -> Quantize {
     }
 }
 
-// How many numbers of the work buffer a kind of rule may alter.
-pub(crate) fn used(kind: u8, width: u32) -> usize {
-    match kind {
-        1 => width as usize,
-        _ => 0,
+// How many numbers of the work buffer a rule may alter.
+pub(crate) fn used(rule: Quantize, width: u32) -> usize {
+    match rule {
+        Quantize::Threshold(_) | Quantize::Ordered(_) => 0,
+        Quantize::Dither => width as usize,
     }
 }
 
@@ -86,10 +84,10 @@ pub(crate) fn images<P: PairList + Copy>(c: Card, pairs: P, out: &mut [u8]) -> R
         c.height,
         c.count,
         c.body,
-        c.stride(),
-        c.format(),
-        c.options(),
-        c.fields.text(),
+        c.stride,
+        c.format,
+        c.options,
+        c.fields.text,
         pairs,
         out,
     )
@@ -97,17 +95,17 @@ pub(crate) fn images<P: PairList + Copy>(c: Card, pairs: P, out: &mut [u8]) -> R
 
 pub(crate) fn gray<P: PairList + Copy>(c: Card, pairs: P, out: &mut [u8]) -> Answer {
     let mut work = [DIRT; WORK];
-    let lent = &mut work[..usize::from(c.stride[1])];
+    let lent = &mut work[..usize::from(c.work_len)];
     let answer = encoder::encode_gray8(
         c.width,
         c.height,
         c.count,
         c.body,
-        c.options(),
-        c.fields.text(),
+        c.options,
+        c.fields.text,
         pairs,
         lent,
         out,
     );
-    judged(answer, &work, used(c.kind, c.width))
+    judged(answer, &work, used(c.options.quantize, c.width))
 }

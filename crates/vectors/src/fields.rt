@@ -1,82 +1,60 @@
 // Fields that a case's input holds to be written: their kind, how many lengths in two bytes, the
 // lengths, a byte each, and the text. The lengths of at most eight pairs can be told as records too.
-use crate::bytes::{Bytes, behind, front};
+use crate::bytes::{Bytes, front};
 use by_value::Records;
-use ext::ExtFieldType;
+use ext::{ExtFieldType, FixHeaderField};
 use ext_write::Parameter;
+use std::array;
 
 // The most lengths in one input.
 pub(crate) const LENGTHS: usize = 4096;
 
 #[derive(Clone, Copy)]
 pub(crate) struct Fields<'a> {
-    kind: u8,
-    count: usize,
-    bytes: &'a [u8],
+    pub kind: Option<ExtFieldType>,
+    lengths: &'a [u8],
+    pub text: &'a [u8],
 }
 
 impl<'a> Fields<'a> {
     pub(crate) fn read(mut input: Bytes<'a>) -> Fields<'a> {
+        let kind = kind_of(input.byte());
+        let count = input.short();
         Fields {
-            kind: input.byte(),
-            count: input.short(),
-            bytes: input.rest,
+            kind,
+            lengths: input.take(count),
+            text: input.rest,
         }
     }
 
-    // No From: number and kind both belong to other crates.
-    pub(crate) fn kind(self) -> ExtFieldType {
-        match self.kind {
-            0 => ExtFieldType::Bitfield00,
-            1 => ExtFieldType::Reserved01,
-            2 => ExtFieldType::Reserved10,
-            _ => ExtFieldType::ParameterPairs11,
-        }
-    }
-
-    // A header has none where their kind is 4.
-    pub(crate) fn in_header(self) -> Option<ExtFieldType> {
-        if self.kind == 4 {
-            return None;
-        }
-        Some(self.kind())
-    }
-
-    pub(crate) fn text(self) -> &'a [u8] {
-        behind(self.bytes, self.count)
-    }
-
-    // The lengths, which are put to the front of `space`.
+    // The lengths, each widened, at the front of `space`.
     pub(crate) fn lengths(self, space: &mut [usize; LENGTHS]) -> &[usize] {
-        let lengths = front(self.bytes, self.count);
-        for (to, from) in space.iter_mut().zip(lengths) {
+        for (to, from) in space.iter_mut().zip(self.lengths) {
             *to = usize::from(*from);
         }
-        front(space, lengths.len())
+        front(space, self.lengths.len())
     }
 
     // Whether they can be told as records.
     pub(crate) fn are_pairs(self) -> bool {
-        self.count <= 16 && self.count % 2 == 0
+        self.lengths.len() <= 16 && self.lengths.len() % 2 == 0
     }
 
     // Eight records, of which the pairs count; behind them stand some made of the text.
     pub(crate) fn records(self) -> Records {
-        let mut bytes = Bytes::new(self.bytes);
-        let none = Parameter {
-            identifier_len: 0,
-            value_len: 0,
-        };
-        let mut list = [none; 8];
-        for record in &mut list {
-            *record = Parameter {
-                identifier_len: usize::from(bytes.byte()),
-                value_len: usize::from(bytes.byte()),
-            };
-        }
+        let bytes = self.lengths.iter().chain(self.text);
+        let mut lengths = bytes.map(|b| usize::from(*b));
         Records {
-            list,
-            pairs: self.count / 2,
+            list: array::from_fn(|_| Parameter {
+                identifier_len: lengths.next().unwrap_or(0),
+                value_len: lengths.next().unwrap_or(0),
+            }),
+            pairs: self.lengths.len() / 2,
         }
     }
+}
+
+// Bits 6-5 of a FixHeader byte; 4 stands for no fields. No From: both types belong to other crates.
+fn kind_of(number: u8) -> Option<ExtFieldType> {
+    (number != 4).then_some(FixHeaderField::from_byte(number << 5).ext_type)
 }

@@ -1,13 +1,13 @@
 // Whole reading, info and sniffing. The input of whole reading is the settings and then the file;
 // that of the others is the file.
-use crate::answer::{Answer, numbers, refused};
+use crate::answer::{Answer, joined, numbers, refused};
 use crate::bytes::Bytes;
 use crate::readers::fields_of;
 use crate::settings::Settings;
-use api::{ImageInfo, Sniffed};
+use api::ImageInfo;
 use decoder::DecodedImage;
 
-// The main image, or all frames.
+// The main image, or all frames: the cases test both functions.
 pub(crate) fn decode(mut input: Bytes, all: bool, out: &mut [u8]) -> Answer {
     let options = Settings::read(&mut input).reading();
     let decoded = if all {
@@ -18,14 +18,14 @@ pub(crate) fn decode(mut input: Bytes, all: bool, out: &mut [u8]) -> Answer {
     decoded.map_or_else(refused, image)
 }
 
+// In the order of the list, which is another for each kind of header.
 fn image(i: DecodedImage) -> Answer {
-    let [kind, start, len, pairs] = fields_of(i.ext_fields);
     let (width, height, frames) = (i.width as usize, i.height as usize, i.frames as usize);
-    let fix = usize::from(i.fix_header);
-    let body = i.data_offset;
-    [
-        0, i.bytes, width, height, frames, body, fix, kind, start, len, pairs,
-    ]
+    let (body, fix) = (i.data_offset, usize::from(i.fix_header));
+    joined(
+        &[0, i.bytes, width, height, frames, body, fix],
+        &fields_of(i.ext_fields),
+    )
 }
 
 pub(crate) fn info(file: &[u8]) -> Answer {
@@ -33,30 +33,16 @@ pub(crate) fn info(file: &[u8]) -> Answer {
 }
 
 fn told(i: ImageInfo) -> Answer {
-    let [kind, start, len, pairs] = fields_of(i.ext_fields);
     let (width, height, frames) = (i.width as usize, i.height as usize, i.frames as usize);
-    let fix = usize::from(i.fix_header);
-    numbers(&[
-        0,
-        i.data_offset,
-        width,
-        height,
-        frames,
-        fix,
-        kind,
-        start,
-        len,
-        pairs,
-    ])
+    let (body, fix) = (i.data_offset, usize::from(i.fix_header));
+    joined(
+        &[0, body, width, height, frames, fix],
+        &fields_of(i.ext_fields),
+    )
 }
 
 pub(crate) fn sniff(file: &[u8]) -> Answer {
-    let sniffed = match api::sniff(file) {
-        Sniffed::Neither => 0,
-        Sniffed::Exact => 1,
-        Sniffed::Truncated => 2,
-    };
-    numbers(&[0, 0, sniffed])
+    numbers(&[0, 0, api::sniff(file) as usize])
 }
 
 pub(crate) fn probe(file: &[u8]) -> Answer {

@@ -1,15 +1,16 @@
 // Replaying the parts of groups that a block holds.
 use crate::bytes::{Bytes, behind};
 use crate::report;
-use crate::sweep::replay_sweep;
 use crate::tally::Tally;
 use std::io;
 
-// What the cases of a group share.
-#[derive(Clone, Copy)]
-pub(crate) struct Group<'a> {
+// What the sweeps of a group share: where they are told of, their name and operation, and what was replayed.
+#[derive(Drop)]
+pub(crate) struct Group<'a, R> {
+    pub rt: &'a R,
     pub name: &'a [u8],
     pub operation: usize,
+    pub tally: &'a mut Tally,
 }
 
 // Every part in the block, after its first line, up to a zero.
@@ -29,14 +30,18 @@ pub(crate) fn replay_all(rt: &impl Print, block: &[u8], tally: &mut Tally) -> io
 fn replay_part(rt: &impl Print, list: &mut Bytes, tally: &mut Tally) -> io::Result<()> {
     let size = list.number();
     let name = list.take(size);
-    let operation = list.number();
-    let group = Group { name, operation };
+    let mut group = Group {
+        rt,
+        name,
+        operation: list.number(),
+        tally: &mut *tally,
+    };
     let is_last = list.number() != 0;
     for _ in 0..list.count() {
         if list.rest.is_empty() {
             break;
         }
-        replay_sweep(rt, list, group, tally)?;
+        group.replay_sweep(list)?;
     }
     if is_last {
         report::count(rt, name, tally.comparisons)?;

@@ -1,5 +1,5 @@
 // Reading a block of the list, whose form tools/oracle/src/list.rs tells.
-use crate::bytes::{Bytes, front};
+use crate::bytes::Bytes;
 
 // The longest text.
 pub(crate) const TEXT: usize = 8192;
@@ -19,27 +19,17 @@ impl Bytes<'_> {
         self.number().min(self.rest.len())
     }
 
-    // The numbers that follow their count, at the front of `out`. Where they do not fit, nothing is left of the list.
-    pub(crate) fn numbers(&mut self, out: &mut [usize]) {
-        let count = self.number();
-        for to in out.iter_mut().take(count) {
-            *to = self.number();
-        }
-        if count > out.len() {
-            self.rest = &[];
-        }
-    }
-
-    // A text, its parts repeated, at the front of `out`, and its length. Where it does not fit, nothing is left of the list.
-    pub(crate) fn text(&mut self, out: &mut [u8]) -> usize {
+    // A text, its parts repeated, which is put to the front of `space`. Where it does not fit, nothing is left of the list.
+    pub(crate) fn text<'b>(&mut self, space: &'b mut [u8]) -> &'b mut [u8] {
         let mut len = 0;
         for _ in 0..self.count() {
-            len = self.part(out, len);
+            len = self.part(space, len);
         }
-        len
+        let end = len.min(space.len());
+        &mut space[..end]
     }
 
-    // Puts a part behind the first `from` bytes, and says where it ends.
+    // Puts a part behind the first `from` bytes, and says where it ends. Not into the rest of the space: a text is the front of the whole.
     fn part(&mut self, out: &mut [u8], from: usize) -> usize {
         let times = self.number();
         let size = self.number();
@@ -47,6 +37,7 @@ impl Bytes<'_> {
         let len = part.len().saturating_mul(times);
         let from = from.min(out.len());
         let end = from.saturating_add(len);
+        // Not in chunks by copy_from_slice: tried, and that the last one is no longer than the part was not proved.
         let bytes = part.iter().cycle().take(len);
         for (to, byte) in out[from..].iter_mut().zip(bytes) {
             *to = *byte;
@@ -59,8 +50,8 @@ impl Bytes<'_> {
 
     // Whether the next text is `bytes`.
     pub(crate) fn is_text(&mut self, bytes: &[u8]) -> bool {
-        let mut want = [0; TEXT];
-        let len = self.text(&mut want);
-        bytes == front(&want, len)
+        let mut space = [0; TEXT];
+        let text: &[u8] = self.text(&mut space);
+        text == bytes
     }
 }

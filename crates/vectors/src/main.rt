@@ -2,8 +2,6 @@
 // comparisons it made; a wrong answer prints its case, and the last line how many were wrong.
 #![tactic(auto)]
 
-ghost use Rattle.std.specs.Prelude.{◌≤◌, length, IfOk};
-
 mod answer;
 mod bytes;
 mod card;
@@ -35,21 +33,20 @@ fn main(rt: HostRuntime) -> io::Result<()> {
     let mut tally = Tally::default();
     let mut block = [0; 65536];
     for _ in 0..65537 {
-        let n = read_full(&mut input, &mut block)?;
-        if n == 0 {
+        let read = read_full(&mut input, &mut block)?;
+        if read.is_empty() {
             break;
         }
-        group::replay_all(&rt, &block[..n], &mut tally)?;
+        group::replay_all(&rt, read, &mut tally)?;
     }
     tally.end_group();
     report::count(&rt, b"all", tally.all)?;
     report::count(&rt, b"wrong", tally.all_wrong)
 }
 
-// Reads until `buf` is full or the input ends, and says how many bytes it read. A turn takes as many as come, so no iterator fits.
-fn read_full(input: &mut impl Read, buf: &mut [u8]) -> io::Result<usize>
-    ensures { IfOk result (λ n. n ≤ length buf.new) }
-{
+// Reads until `buf` is full or the input ends, and gives what it read. A turn takes as many as come, so no iterator fits. cardinfo has this
+// loop too, where a read that fails looks like the end: a library of one loop, and of both ways to end it, is no plainer.
+fn read_full<'a>(input: &mut impl Read, buf: &'a mut [u8]) -> io::Result<&'a [u8]> {
     let mut done = 0;
     while done < buf.len() {
         let n = input.read(&mut buf[done..])?;
@@ -58,5 +55,5 @@ fn read_full(input: &mut impl Read, buf: &mut [u8]) -> io::Result<usize>
         }
         done += n;
     }
-    Ok(done)
+    Ok(&buf[..done])
 }

@@ -1,13 +1,13 @@
 // Lists of calls on a making session.
 use crate::answer::{Answer, numbers, written};
-use crate::bytes::{Bytes, behind, front};
+use crate::bytes::{Bytes, front};
 use crate::case::Replayed;
-use crate::encoders::{rule_of, used};
+use crate::encoders::{options_of, rule_of, used};
 use crate::fields::{Fields, LENGTHS};
 use crate::list::TEXT;
-use crate::stages::{Session, is_marked, opens, run_stages};
-use crate::work::{DIRT, WORK, foreign, unaltered_from};
-use encode_session::{EncodeOpened, EncodeSession};
+use crate::stages::{Letter, Session, is_marked, next_to, opens, run_stages};
+use crate::work::{DIRT, WORK, unaltered_from};
+use encode_session::EncodeSession;
 use ext_write::PairList;
 use options::EncodeOptions;
 use replay::replay_encode;
@@ -17,11 +17,9 @@ use replay::replay_encode;
 // the opening, of the fields and of the samples in two bytes each, fields, samples and stages.
 #[derive(Clone, Copy)]
 pub(crate) struct Making<'a> {
-    strict: bool,
-    kind: u8,
+    options: EncodeOptions,
     pub width: u32,
     pub height: u32,
-    number: u8,
     pub mark: u8,
     work_len: usize,
     head_len: usize,
@@ -40,18 +38,17 @@ impl<'a> Making<'a> {
         let mark = input.byte();
         let work_len = input.short();
         let head_len = input.short();
-        let fields = input.short();
+        let size = input.short();
         let samples = input.short();
+        let fields = Fields::read(Bytes::new(input.take(size)));
         Making {
-            strict,
-            kind,
+            options: options_of(strict, rule_of(kind, number), fields),
             width,
             height,
-            number,
             mark,
             work_len,
             head_len,
-            fields: Fields::read(Bytes::new(input.take(fields))),
+            fields,
             samples: input.take(samples),
             stages: input,
         }
@@ -61,47 +58,39 @@ impl<'a> Making<'a> {
     // opened over records, where its fields can be told so.
     pub(crate) fn run_lists(self, list: &mut Bytes, out: &mut [u8]) -> Replayed {
         let mut again = *list;
-        let mut all = self.run_list(list, false, out);
+        let mut space = [0; LENGTHS];
+        let mut all = self.run_list(self.fields.lengths(&mut space), list, out);
         if self.fields.are_pairs() {
             let mut other = [self.mark; TEXT];
-            all.add(self.run_list(&mut again, true, &mut other));
+            all.add(self.run_list(self.fields.records(), &mut again, &mut other));
         }
         all
     }
 
-    fn run_list(self, list: &mut Bytes, records: bool, out: &mut [u8]) -> Replayed {
+    fn run_list<P: PairList + Copy>(self, pairs: P, list: &mut Bytes, out: &mut [u8]) -> Replayed {
         let work = [DIRT; WORK];
         let head = self.head_len.min(out.len());
-        let opened = self.open(records, front(&work, self.work_len), &mut out[..head]);
-        let right = opens(list, &written(opened.answer), front(out, head));
+        let (session, answer) = EncodeSession::open(
+            self.width,
+            self.height,
+            self.options,
+            self.fields.text,
+            pairs,
+            front(&work, self.work_len),
+            &mut out[..head],
+        );
+        let right = opens(list, &written(answer), front(out, head));
         let mut all = Replayed {
             comparisons: 1,
-            same: right && is_marked(behind(out, head), self.mark),
+            same: right && is_marked(next_to(out, head), self.mark),
         };
         let mut maker = Maker {
             card: self,
-            session: opened.session,
+            session,
             work,
         };
         all.add(run_stages(&mut maker, list, self.stages, self.head_len, out));
         all
-    }
-
-    fn open(self, records: bool, work: &[i16], out: &mut [u8]) -> EncodeOpened {
-        if records {
-            return self.open_over(self.fields.records(), work, out);
-        }
-        let mut space = [0; LENGTHS];
-        self.open_over(self.fields.lengths(&mut space), work, out)
-    }
-
-    fn open_over<P: PairList + Copy>(self, pairs: P, work: &[i16], out: &mut [u8]) -> EncodeOpened {
-        let options = EncodeOptions::new()
-            .with_quantize(rule_of(self.kind, self.number))
-            .with_ext_fields(self.fields.in_header())
-            .with_strict(self.strict);
-        let text = self.fields.text();
-        EncodeSession::open(self.width, self.height, options, text, pairs, work, out)
     }
 }
 
@@ -117,23 +106,30 @@ impl<'a> Session for Maker<'a> {
     // The work buffer is first filled as the letter says. The run may alter none of it by the letter, or where the rule wants none.
     fn run(
         &mut self,
-        letter: u8,
+        letter: Letter,
         calls: &[usize],
         out: &mut [u8],
         answers: &mut [usize],
     ) -> Option<usize> {
-        if let Some(number) = foreign(letter % 8) {
+        if let Some(number) = letter.foreign {
             self.work.fill(number);
         }
         let kept = self.work;
         let samples = self.card.samples;
-        let ran = replay_encode(self.session, calls, samples, &mut self.work, out, answers);
-        self.session = ran.session;
-        let altered = match letter & 16 {
-            0 => used(self.card.kind, self.card.width),
-            _ => 0,
+        let made = replay_encode(
+            &mut self.session,
+            calls,
+            samples,
+            &mut self.work,
+            out,
+            answers,
+        );
+        let altered = if letter.work_kept {
+            0
+        } else {
+            used(self.card.options.quantize, self.card.width)
         };
-        unaltered_from(&self.work, &kept, altered).then_some(ran.calls)
+        unaltered_from(&self.work, &kept, altered).then_some(made)
     }
 
     fn buffer(&self) -> &[u8] {

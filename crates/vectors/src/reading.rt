@@ -1,10 +1,10 @@
 // Lists of calls on a reading session.
-use crate::answer::{Answer, checked, numbers};
+use crate::answer::{Answer, checked, joined, numbers};
 use crate::bytes::{Bytes, front};
 use crate::case::Replayed;
 use crate::readers::fields_of;
 use crate::settings::Settings;
-use crate::stages::{Session, opens, run_stages};
+use crate::stages::{Letter, Session, opens, run_stages};
 use decode_session::DecodeSession;
 use header::ParsedHeader;
 use header_reader::FieldsSeen;
@@ -41,23 +41,22 @@ impl<'a> Reading<'a> {
     }
 
     // The same over another file.
-    pub(crate) fn over(mut self, file: &'a [u8]) -> Reading<'a> {
-        self.file = file;
-        self
+    pub(crate) fn over(self, file: &'a [u8]) -> Reading<'a> {
+        Reading { file, ..self }
     }
 
     // Replays a list, its outputs one behind the other in `out`. The opening writes nothing, so its text in the block is empty.
     pub(crate) fn run_list(self, list: &mut Bytes, out: &mut [u8]) -> Replayed {
         let buffer = [self.mark; BUFFER];
-        let opened = DecodeSession::open(self.options, front(&buffer, self.buffer_len));
+        let (session, answer) = DecodeSession::open(self.options, front(&buffer, self.buffer_len));
         let mut all = Replayed {
             comparisons: 1,
-            same: opens(list, &checked(opened.answer), b""),
+            same: opens(list, &checked(answer), b""),
         };
         let mut reader = Reader {
             mark: self.mark,
             file: self.file,
-            session: opened.session,
+            session,
             buffer,
         };
         all.add(run_stages(&mut reader, list, self.stages, 0, out));
@@ -75,22 +74,14 @@ fn ends_with(list: &mut Bytes, header: Option<ParsedHeader>) -> bool {
     right
 }
 
-// 1, the sizes, where the body starts, the FixHeader and the fields.
+// 1, the sizes, where the body starts, the FixHeader and the fields: the order is the list's, as in files.rt.
 fn sizes(h: ParsedHeader) -> Answer {
-    let [kind, start, len, pairs] = fields_of(h.ext_fields);
     let (width, height) = (h.width as usize, h.height as usize);
     let fix = usize::from(h.fix_header);
-    numbers(&[
-        1,
-        width,
-        height,
-        h.data_offset,
-        fix,
-        kind,
-        start,
-        len,
-        pairs,
-    ])
+    joined(
+        &[1, width, height, h.data_offset, fix],
+        &fields_of(h.ext_fields),
+    )
 }
 
 // A list under way.
@@ -105,21 +96,19 @@ struct Reader<'a> {
 impl<'a> Session for Reader<'a> {
     fn run(
         &mut self,
-        _letter: u8,
+        _letter: Letter,
         calls: &[usize],
         out: &mut [u8],
         answers: &mut [usize],
     ) -> Option<usize> {
-        let ran = replay_decode(
-            self.session,
+        Some(replay_decode(
+            &mut self.session,
             calls,
             self.file,
             out,
             &mut self.buffer,
             answers,
-        );
-        self.session = ran.session;
-        Some(ran.calls)
+        ))
     }
 
     fn buffer(&self) -> &[u8] {
@@ -132,10 +121,7 @@ impl<'a> Session for Reader<'a> {
         let frames = self.session.frames() as usize;
         match self.session.fields() {
             FieldsSeen::Unread => numbers(&[closed, frames]),
-            FieldsSeen::Seen(fields) => {
-                let [kind, start, len, pairs] = fields_of(fields);
-                numbers(&[closed, frames, 1, kind, start, len, pairs])
-            }
+            FieldsSeen::Seen(fields) => joined(&[closed, frames, 1], &fields_of(fields)),
         }
     }
 

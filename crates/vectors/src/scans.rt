@@ -1,5 +1,5 @@
 // Scans of gray made dots by the three rules.
-use crate::answer::{Answer, numbers};
+use crate::answer::{Answer, written};
 use crate::bytes::Bytes;
 use crate::work::{DIRT, WORK, unaltered_from};
 use error::Result;
@@ -48,9 +48,8 @@ pub(crate) fn dither(input: Bytes, out: &mut [u8]) -> Answer {
 // An answer of a call that may alter the first `used` numbers of the work buffer, and none where it
 // refuses; the third number tells if it altered another.
 pub(crate) fn judged(answer: Result<usize>, work: &[i16; WORK], used: usize) -> Answer {
-    let altered = |used| usize::from(!unaltered_from(work, &[DIRT; WORK], used));
-    match answer {
-        Ok(n) => numbers(&[0, n, altered(used)]),
-        Err(e) => numbers(&[usize::from(e.kind.number()), e.offset, altered(0)]),
-    }
+    let start = answer.map_or(0, |_| used);
+    let mut numbers = written(answer);
+    numbers[2] = usize::from(!unaltered_from(work, &[DIRT; WORK], start));
+    numbers
 }

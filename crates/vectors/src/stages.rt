@@ -4,6 +4,7 @@
 use crate::answer::Answer;
 use crate::bytes::{Bytes, behind, front};
 use crate::case::Replayed;
+use crate::work::foreign;
 
 // The most numbers of calls and of answers in a stage.
 const NUMBERS: usize = 1280;
@@ -19,7 +20,7 @@ pub(crate) trait Session {
     // what they have to leave alone.
     fn run(
         &mut self,
-        letter: u8,
+        letter: Letter,
         calls: &[usize],
         out: &mut [u8],
         answers: &mut [usize],
@@ -35,11 +36,32 @@ pub(crate) trait Session {
     fn mark(&self) -> u8;
 }
 
+// What a stage's letter says: what somebody else first writes to the work buffer, whether the dots of the output are left open, and whether
+// the calls may alter none of the work.
+#[derive(Clone, Copy)]
+pub(crate) struct Letter {
+    pub foreign: Option<i16>,
+    dots_open: bool,
+    pub work_kept: bool,
+}
+
+impl Letter {
+    fn read(input: &mut Bytes) -> Letter {
+        let byte = input.byte();
+        Letter {
+            foreign: foreign(byte % 8),
+            dots_open: byte & 8 != 0,
+            work_kept: byte & 16 != 0,
+        }
+    }
+}
+
 // In the input a stage is a letter, the length of its output and its number of calls in two bytes
-// each, and the calls, five numbers of two bytes each.
+// each, and the calls, five numbers of two bytes each. The number is what the list says: where so
+// many are not there, the stage is wrong.
 #[derive(Clone, Copy)]
 struct Stage<'a> {
-    letter: u8,
+    letter: Letter,
     size: usize,
     count: usize,
     calls: Bytes<'a>,
@@ -47,7 +69,7 @@ struct Stage<'a> {
 
 impl<'a> Stage<'a> {
     fn read(input: &mut Bytes<'a>) -> Stage<'a> {
-        let letter = input.byte();
+        let letter = Letter::read(input);
         let size = input.short();
         let count = input.short();
         Stage {
@@ -76,6 +98,7 @@ pub(crate) fn run_stages<S: Session>(
     start: usize,
     out: &mut [u8],
 ) -> Replayed {
+    // Not in chunks: of the bytes behind an output, those of the next one too are compared.
     let mut from = start;
     let mut all = Replayed {
         comparisons: 0,
@@ -98,21 +121,29 @@ pub(crate) fn run_stages<S: Session>(
 fn run_stage<S: Session>(session: &mut S, list: &mut Bytes, stage: Stage, out: &mut [u8]) -> bool {
     let mut space = [0; NUMBERS];
     let mut answers = [0; ANSWERS];
-    let mut want = [0; ANSWERS];
     let calls = stage.numbers(&mut space);
     let size = stage.size.min(out.len());
     let made = session.run(stage.letter, calls, &mut out[..size], &mut answers);
-    list.numbers(&mut want);
-    let dots = list.is_text(front(out, size)) || stage.letter & 8 != 0;
+    let told = list.is_answer(&answers);
+    let dots = list.is_text(front(out, size)) || stage.letter.dots_open;
     let buffer = list.is_text(session.buffer());
     let state = list.is_answer(&session.asked());
-    let told = made == Some(stage.count) && answers == want;
-    told && dots && buffer && state && is_marked(behind(out, size), session.mark())
+    made == Some(stage.count)
+        && told
+        && dots
+        && buffer
+        && state
+        && is_marked(next_to(out, size), session.mark())
 }
 
-// Whether the bytes behind an output, as many as are compared, are all the mark.
+// Whether all bytes are the mark.
 pub(crate) fn is_marked(bytes: &[u8], mark: u8) -> bool {
-    front(bytes, BEHIND).iter().all(|byte| *byte == mark)
+    bytes.iter().all(|byte| *byte == mark)
+}
+
+// The bytes behind the first `size`, as many as are compared.
+pub(crate) fn next_to(out: &[u8], size: usize) -> &[u8] {
+    front(behind(out, size), BEHIND)
 }
 
 // Whether the answer of an opening and what it wrote are as the block has them.

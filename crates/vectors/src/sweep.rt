@@ -1,22 +1,18 @@
 // Replaying a sweep, which puts every string over its alphabet over its base text.
 ghost use Rattle.std.specs.Prelude.{◌<◌};
 
-use crate::bytes::{Bytes, front};
-use crate::case::replay;
+use crate::bytes::Bytes;
+use crate::case::{Case, Replayed};
 use crate::group::Group;
 use crate::list::TEXT;
-use crate::report;
-use crate::tally::Tally;
 use std::io;
 
 // The most cases of a sweep.
 const CASES: usize = 1048576;
 
-// The length of a sweep's inputs, where its digits start and how many there are, its alphabet, and
-// its cases.
+// Where the digits of a sweep's inputs start and how many there are, its alphabet, and its cases.
 #[derive(Clone, Copy)]
 struct Plan<'a> {
-    len: usize,
     at: usize,
     digits: usize,
     letters: &'a [u8],
@@ -24,23 +20,19 @@ struct Plan<'a> {
 }
 
 impl<'a> Plan<'a> {
-    // Puts the base text to the front of `input`. There is one case for each string, and none where the list has another number.
-    fn read(list: &mut Bytes<'a>, input: &mut [u8]) -> Plan<'a> {
-        let len = list.text(input);
+    // There is one case for each string; no plan where the list has another number.
+    fn read(list: &mut Bytes<'a>) -> Option<Plan<'a>> {
         let at = list.number();
         let digits = list.number().min(TEXT);
         let letters = list.number();
-        let mut plan = Plan {
-            len,
+        let plan = Plan {
             at,
             digits,
             letters: list.take(letters),
             cases: list.number(),
         };
-        if plan.cases > CASES || plan.radix().checked_pow(digits as u32) != Some(plan.cases) {
-            plan.cases = 0;
-        }
-        plan
+        let strings = plan.radix().checked_pow(digits as u32);
+        (plan.cases <= CASES && strings == Some(plan.cases)).then_some(plan)
     }
 
     // No letters stand for all bytes in order.
@@ -72,54 +64,60 @@ impl<'a> Plan<'a> {
     }
 }
 
-// The answers to the cases stand one behind the other, each behind the number of successive cases that it answers, up to the next sweep.
-// A sweep whose counts are not those of its cases, or that goes past its block, is damaged: the rest of the block is left out.
-pub(crate) fn replay_sweep(
-    rt: &impl Print,
-    list: &mut Bytes,
-    group: Group,
-    tally: &mut Tally,
-) -> io::Result<()> {
-    let mut input = [0; TEXT];
-    let plan = Plan::read(list, &mut input);
-    let mut left = 0;
-    for case in 0..plan.cases {
-        if list.rest.is_empty() {
-            break;
+impl<R: Print> Group<'_, R> {
+    // A sweep whose counts are not those of its cases, or that goes past its block, is damaged: the rest of the block is left out.
+    pub(crate) fn replay_sweep(&mut self, list: &mut Bytes) -> io::Result<()> {
+        let mut space = [0; TEXT];
+        let input = list.text(&mut space);
+        if !self.replay_cases(list, input)? {
+            self.tell_damaged()?;
+            self.tally.add_case(Replayed {
+                comparisons: 0,
+                same: false,
+            });
+            list.rest = &[];
         }
-        if left == 0 {
-            left = list.number();
-        }
-        plan.spell(case, &mut input);
-        let mut answer = *list;
-        replay_case(rt, &mut answer, group, case, front(&input, plan.len), tally)?;
-        left = left.saturating_sub(1);
-        if left == 0 {
-            *list = answer;
-        }
+        self.tally.end_sweep();
+        Ok(())
     }
-    if plan.cases == 0 || left > 0 || list.rest.is_empty() {
-        report::damaged(rt, group.name, tally.sweeps)?;
-        tally.add_case(0, false);
-        list.rest = &[];
-    }
-    tally.end_sweep();
-    Ok(())
-}
 
-// A group's first ten wrong cases are shown.
-fn replay_case(
-    rt: &impl Print,
-    list: &mut Bytes,
-    group: Group,
-    case: usize,
-    input: &[u8],
-    tally: &mut Tally,
-) -> io::Result<()> {
-    let done = replay(list, group.operation, input);
-    tally.add_case(done.comparisons, done.same);
-    if !done.same && tally.wrong <= 10 {
-        report::wrong(rt, group.name, tally.sweeps, case, input)?;
+    // Whether all cases are replayed over the base text, up to the next sweep. The answers to them stand one behind the other, each behind
+    // the number of successive cases that it answers.
+    fn replay_cases(&mut self, list: &mut Bytes, input: &mut [u8]) -> io::Result<bool> {
+        let Some(plan) = Plan::read(list) else {
+            return Ok(false);
+        };
+        // How many cases the present answer still has: counted down by hand, since the list says it anew where it runs out.
+        let mut left = 0;
+        for case in 0..plan.cases {
+            if list.rest.is_empty() {
+                return Ok(false);
+            }
+            if left == 0 {
+                left = list.number();
+            }
+            plan.spell(case, input);
+            let mut answer = *list;
+            self.replay_case(&mut answer, case, input)?;
+            left = left.saturating_sub(1);
+            if left == 0 {
+                *list = answer;
+            }
+        }
+        Ok(left == 0 && !list.rest.is_empty())
     }
-    Ok(())
+
+    // A group's first ten wrong cases are shown.
+    fn replay_case(&mut self, list: &mut Bytes, number: usize, input: &[u8]) -> io::Result<()> {
+        let case = Case {
+            operation: self.operation,
+            input: Bytes::new(input),
+        };
+        let done = case.replay(list);
+        self.tally.add_case(done);
+        if !done.same && self.tally.wrong <= 10 {
+            self.tell_wrong(number, input)?;
+        }
+        Ok(())
+    }
 }

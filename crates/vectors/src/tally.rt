@@ -1,3 +1,5 @@
+use crate::case::Replayed;
+
 // What has been replayed: the comparisons and the wrong cases of the groups before, then of the
 // present group the comparisons, the wrong cases and the sweeps.
 #[derive(Default, Drop)]
@@ -10,9 +12,9 @@ pub(crate) struct Tally {
 }
 
 impl Tally {
-    pub(crate) fn add_case(&mut self, comparisons: usize, right: bool) {
-        self.comparisons = self.comparisons.saturating_add(comparisons);
-        if !right {
+    pub(crate) fn add_case(&mut self, done: Replayed) {
+        self.comparisons = self.comparisons.saturating_add(done.comparisons);
+        if !done.same {
             self.wrong = self.wrong.saturating_add(1);
         }
     }

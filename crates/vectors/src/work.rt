@@ -6,7 +6,7 @@ pub(crate) const WORK: usize = 256;
 
 pub(crate) const DIRT: i16 = 12345;
 
-// What somebody else writes to a whole work buffer, by a letter; nothing where it is 0.
+// What somebody else writes to a whole work buffer, by a letter's low bits; nothing where they are 0.
 pub(crate) fn foreign(letter: u8) -> Option<i16> {
     match letter {
         0 => None,

@@ -1,15 +1,10 @@
 -- What the body's part of a piece comes to.
-use Rattle.std.specs.Prelude.{ℕ, ◌+◌, ◌-◌, ◌*◌, ◌/◌, ◌%◌, ◌<◌, min, ◌≡◌, List, ◌++◌, leb, length, get_or, take, drop}
+use Rattle.std.specs.Prelude.{ℕ, ◌+◌, ◌-◌, ◌*◌, ◌/◌, ◌%◌, min, ◌≡◌, List, ◌++◌, leb, length, take, drop}
 use Rattle.error.specs.Choice.{if}
 use Rattle.image.specs.Geometry.{plane_bytes}
 use Rattle.image.specs.declared.PixelFormat.{PixelFormat}
-use Rattle.body_pieces.specs.InFormat.{padded, body_from}
+use Rattle.body_pieces.specs.InFormat.{body_from}
 use Rattle.body_pieces.specs.declared.BodyFed.{BodyFed}
-
--- bytes of a body from byte `at` on, before and after their padding is cleared
-pub record Cleared (width at : ℕ) (old new : List ℕ) : Type 0 where
-  pub same : length new ≡ length old
-  pub byte : (j : ℕ) → j < length old → get_or new j 0 ≡ padded width (at + j) (get_or old j 0)
 
 -- behind byte `at` of a body, over bytes that are written
 abbrev pub fed_up_to : ℕ → ℕ → ℕ → ℕ → BodyFed

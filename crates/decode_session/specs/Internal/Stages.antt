@@ -18,24 +18,26 @@ use Rattle.decode_session.specs.Model.{nothing, Model, Outcome, fed_by, meets, s
 use Rattle.decode_session.specs.Session.{fed_meaning, closed_meaning, InBody, BeforeHeader, StageOf, Settled, Stands, Feeds}
 use Rattle.decode_session.specs.declared.Stage.{Stage}
 use Rattle.error.specs.declared.Fed.{Fed}
-use Rattle.decode_session.specs.declared.DecodeFed.{DecodeFed}
+use Rattle.decode_session.specs.declared.DecodeSession.{DecodeSession}
 
 -- a reply and a session that are a plain machine's
-pub record FedAs (r : DecodeFed) (out' ext' : List ℕ) (x : Outcome) : Type 0 where
-  pub reply : x.reply ≡ record { answer = fed_meaning r.answer; output = out'; extension = ext' }
-  pub stands : Stands r.session x.next
+pub record FedAs (r : Result Fed WbmpError) (s : DecodeSession) (out' ext' : List ℕ) (x : Outcome) : Type 0 where
+  pub reply : x.reply ≡ record { answer = fed_meaning r; output = out'; extension = ext' }
+  pub stands : Stands s x.next
 
--- an open session after a call that comes to a stage, and after one that meets a refusal of the file, with what was known of the fields
--- before it
-abbrev pub taken_in : DecodeOptions → Stage → Fed → DecodeFed
-taken_in o stage fed = record { session = record { options = o; stage = stage; live = true }; answer = Ok fed }
+-- an open session in a stage
+abbrev pub in_stage : DecodeOptions → Stage → DecodeSession
+in_stage o stage = record { options = o; stage = stage; live = true }
 
-abbrev pub met_in : DecodeOptions → WbmpError → FieldsSeen → DecodeFed
-met_in o e f = record { session = record { options = o; stage = Stage.Refused e f; live = true }; answer = Err e }
+-- a call that comes to a stage, or meets a refusal of the file: its answer, and the stage behind it, which keeps the refusal with what was
+-- known of the fields before
+abbrev pub answer_of : Result (Stage × Fed) WbmpError → Result Fed WbmpError
+answer_of (Ok x) = Ok x.1
+answer_of (Err e) = Err e
 
-abbrev pub fed_in : DecodeOptions → FieldsSeen → Result (Stage × Fed) WbmpError → DecodeFed
-fed_in o f (Ok x) = taken_in o x.0 x.1
-fed_in o f (Err e) = met_in o e f
+abbrev pub stage_of : FieldsSeen → Result (Stage × Fed) WbmpError → Stage
+stage_of f (Ok x) = x.0
+stage_of f (Err e) = Stage.Refused e f
 
 -- an extension buffer of so many bytes passes its test, or is too short
 abbrev pub ChecksBuffer : ℕ → Result (Unit {0}) WbmpError → Type 0
@@ -52,10 +54,10 @@ pub record Enters (m : Model) (piece : List ℕ) (from : ℕ) (h : Outline) (who
   pub earlier : length (sequence (ceiling_of m.options) m.options m.bytes) ≡ whole * plane_of h + begun
 
 -- the extension bytes of the piece are stored by then
-pub record FeedsPlanes (o : DecodeOptions) (h : ParsedHeader) (whole begun from : ℕ) (piece out : List ℕ) (r : DecodeFed)
+pub record FeedsPlanes (o : DecodeOptions) (h : ParsedHeader) (whole begun from : ℕ) (piece out : List ℕ) (next : Stage) (fed : Fed)
     (out' : List ℕ) : Type 0 where
   pub does : (m : Model) (ext : List ℕ) → Settled m.options → decoding o ≡ m.options → Enters m piece from (parsed h) whole begun
-      → FedAs r out' (stored m (m.bytes ++ piece) ext) (fed_by m piece out ext nothing)
+      → FedAs (Ok fed) (in_stage o next) out' (stored m (m.bytes ++ piece) ext) (fed_by m piece out ext nothing)
 
 -- the header ends with the first bytes of a piece
 pub record Ended (m : Model) (piece : List ℕ) (from : ℕ) (h : Outline) : Type 0 where
@@ -68,13 +70,13 @@ pub record Begins (o : DecodeOptions) (h : ParsedHeader) (from : ℕ) (piece out
     (out' : List ℕ) : Type 0 where
   pub does : (f : FieldsSeen) (m : Model) (ext : List ℕ) → Settled m.options → decoding o ≡ m.options
       → BeforeHeader m f → Ended m piece from (parsed h)
-      → FedAs (fed_in o f r) out' (stored m (m.bytes ++ piece) ext) (fed_by m piece out ext (meets m piece))
+      → FedAs (answer_of r) (in_stage o (stage_of f r)) out' (stored m (m.bytes ++ piece) ext) (fed_by m piece out ext (meets m piece))
 
 -- a piece for a session in the header, which tells what is known of the fields
 pub record FeedsHead (o : DecodeOptions) (h : HeadReading) (piece out ext : List ℕ) (r : Result (Stage × Fed) WbmpError)
     (out' ext' : List ℕ) : Type 0 where
   pub does : (f : FieldsSeen) → TellsFields h f
-      → Feeds (record { options = o; stage = Stage.Header h; live = true }) piece out ext (fed_in o f r) out' ext'
+      → Feeds (in_stage o (Stage.Header h)) piece out ext (answer_of r) (in_stage o (stage_of f r)) out' ext'
 
 -- what closing answers
 pub record Finishes (s : Stage) (r : Result ℕ WbmpError) : Type 0 where

@@ -2,11 +2,12 @@
 use Rattle.std.specs.Prelude.{ℕ, zero, suc, ◌+◌, ◌-◌, ◌*◌, ◌/◌, ◌<◌, ◌≤◌, ◌≡◌, List, ℤ, pos, nat_abs, length, get_or, take}
 use Rattle.rules.specs.Bits.{upto, appended}
 use Rattle.rules.specs.Packed.{byte_at}
-use Rattle.rules.specs.Internal.Kernels.{threshold_from}
+use Rattle.rules.specs.Internal.Kernels.{threshold_bit}
 use Rattle.rules.specs.Internal.Row.{Plain}
 use Rattle.diffusion.specs.declared.row.Flow.{Flow}
-use Rattle.diffusion.specs.Internal.Sums.{part_of, rest_of, handed_right, rest_by, rest_before, handed_down, none, sums_of, Sums}
+use Rattle.diffusion.specs.Internal.Sums.{part_of, rest_of, handed_right, rest_by, rest_before, handed_down, sums_of, Sums}
 use Rattle.diffusion.specs.Internal.Rows.{gray_of, dot_by}
+use Rattle.diffusion.specs.Internal.RowByRow.{AllNone}
 
 -- the parts that a residual hands down, as digits to the base 256
 abbrev pub parts_of : ℕ → ℕ
@@ -67,16 +68,12 @@ pub record DotsPassed (gray : List ℕ) (old : List ℤ) (x end : ℕ) (r : Flow
   pub at : RowAt gray old end r work'
   pub digits_is : r.digits ≡ appended 0 (λ i. dot_by gray (sums_of old) (x + i)) (end - x)
 
--- nothing was added to n sums from column x on
-abbrev pub LevelFrom : List ℤ → ℕ → ℕ → Type 0
-LevelFrom work x n = (i : ℕ) → i < n → get_or work (x + i) (pos 0) ≡ pos none
-
--- eight samples from column x on are black and white, nothing is handed to them, and their dots are those of the byte
-pub record LevelByte (right : ℕ) (gray : List ℕ) (x : ℕ) (work : List ℤ) (byte : ℕ) : Type 0 where
+-- the first eight samples are black and white, nothing is handed to them, and their dots are those of the byte
+pub record LevelByte (right : ℕ) (gray : List ℕ) (sums : List ℤ) (byte : ℕ) : Type 0 where
   pub right_is : right ≡ 56
-  pub sums : LevelFrom work x 8
-  pub plain : Plain gray x 8
-  pub byte_is : byte ≡ appended 0 (threshold_from 128 gray x) 8
+  pub level : AllNone sums
+  pub plain : Plain gray 0 8
+  pub byte_is : byte ≡ appended 0 (threshold_bit 128 gray) 8
 
 -- the row's first n bytes, of eight dots each
 pub record BytesPassed (gray : List ℕ) (old : List ℤ) (n room : ℕ) (r : Flow) (out' : List ℕ) (work' : List ℤ) : Type 0 where

@@ -1,35 +1,21 @@
 -- What the functions ask and promise that write whole bytes of a row at once.
 use Rattle.std.specs.Prelude.{ℕ, zero, suc, ◌+◌, ◌-◌, ◌*◌, ◌≤◌, ◌<◌, ◌≡◌, List, [], ◌∷◌, ◌++◌, ℤ, pos, length, get_or, take, drop}
-use Rattle.std.proofs.Math.IntN.{sub_ℕ}
-use Rattle.rules.specs.Rule.{Rule, dither}
-use Rattle.rules.specs.Internal.Held.{Biased}
+use Rattle.rules.specs.Rule.{Rule}
 use Rattle.rules.specs.Internal.Row.{Plain}
-use Rattle.dither.specs.declared.row.Neighbours.{Neighbours}
-use Rattle.dither.specs.declared.row.DitheredByte.{DitheredByte}
-use Rattle.dither.specs.Internal.Carry.{left_of, corner_of, over_of}
+use Rattle.dither.specs.declared.dots.Neighbours.{Neighbours}
 use Rattle.dither.specs.Internal.Kernels.{Dots}
 
--- n holds the residuals next to column x of row y
-pub record Near (w y x corner : ℕ) (work : List ℤ) (n : Neighbours) : Type 0 where
-  pub left_is : Biased (left_of work x) n.left
-  pub corner_is : Biased (corner_of (sub_ℕ corner 128) x) n.corner
-  pub above_is : Biased (over_of w y work x) n.above
+-- all numbers are 0
+abbrev pub Clear : List ℤ → Type 0
+Clear work = (i : ℕ) → i < length work → get_or work i (pos 0) ≡ pos 0
 
-pub record Diffused (w y x : ℕ) (gray : List ℕ) (corner : ℕ) (work : List ℤ) (r : DitheredByte) (work' : List ℤ) : Type 0 where
-  pub dots : Dots dither w y x gray 0 corner work r.digits r.next.corner work'
-  pub near : Near w y (x + length gray) r.next.corner work' r.next
-
--- n numbers are 0
-abbrev pub Clear : List ℤ → ℕ → ℕ → Type 0
-Clear work x n = (i : ℕ) → i < n → get_or work (x + i) (pos 0) ≡ pos 0
-
--- n samples from column x of row y on are black or white, and the residuals next to them are 0
-pub record ResidualFree (y x : ℕ) (samples : List ℕ) (n : ℕ) (near : Neighbours) (work : List ℤ) : Type 0 where
+-- samples of row y are black or white, and the residuals next to them and the numbers above them are 0
+pub record ResidualFree (y : ℕ) (near : Neighbours) (samples : List ℕ) (work : List ℤ) : Type 0 where
   pub below : 0 < y
   pub left_is : near.left ≡ 128
   pub corner_is : near.corner ≡ 128
-  pub clear : Clear work x (n + 1)
-  pub plain : Plain samples 0 n
+  pub clear : Clear work
+  pub plain : Plain samples 0 (length samples)
 
 -- there are samples for so many bytes, which do not end the row, and a number of work for each column
 pub record Filling (w x samples count corner work : ℕ) : Type 0 where

@@ -1,11 +1,12 @@
 -- What reading one pair answers.
-use Rattle.std.specs.Prelude.{ℕ, ◌+◌, Bool, List, eqb, Result, Ok, Err}
+use Rattle.std.specs.Prelude.{ℕ, ◌+◌, Bool, true, false, List, eqb, Result, Ok, Err}
 use Rattle.error.specs.Choice.{if}
 use Rattle.error.specs.Answer.{Answer, gives, refuses, refusal}
 use Rattle.ext.specs.Read.{PairAt, pair_parts}
 use Rattle.ext.specs.declared.PairHeader.{PairHeader}
-use Rattle.ext.specs.declared.PairEnd.{PairEnd}
 use Rattle.error.specs.declared.WbmpError.{WbmpError}
+use Rattle.std.specs.declared.ops.ControlFlow.{ControlFlow}
+use Rattle.std.specs.declared.ops.ControlFlow.TheVariants.{Continue, Break}
 
 -- the pair of a file s behind its header byte, where the identifier starts at a
 unfoldable pub pair_behind : Bool → List ℕ → ℕ → PairHeader → Answer PairAt
@@ -18,6 +19,7 @@ pair_behind strict s a h =
 abbrev pub pair_step : PairAt → Bool × ℕ
 pair_step p = (p.more, p.end)
 
-abbrev pub pair_meaning : Result PairEnd WbmpError → Answer (Bool × ℕ)
-pair_meaning (Ok p) = gives (p.more, p.end)
+abbrev pub pair_meaning : Result (ControlFlow ℕ ℕ) WbmpError → Answer (Bool × ℕ)
+pair_meaning (Ok (Continue end)) = gives (true, end)
+pair_meaning (Ok (Break end)) = gives (false, end)
 pair_meaning (Err e) = refusal e

@@ -1,6 +1,7 @@
 -- Pairs to be written, one at a time: a step that checks one and a step that puts one, and what a run of each over all lengths comes to.
 -- Both steps are total, so that a run needs no condition; `proofs/CheckRun` and `proofs/PutRun` say what the runs come to.
 use Rattle.std.specs.Prelude.{ℕ, ◌+◌, ◌/◌, ◌<◌, Bool, false, ◌&&◌, List, [], ◌∷◌, ltb, leb, eqb, length, take, drop, get_or}
+use Rattle.std.specs.Prelude.{Option, Some, None}
 use Rattle.std.proofs.lemmas.List.Edits.{sets}
 use Rattle.error.specs.Choice.{if}
 use Rattle.error.specs.Answer.{Answer, gives, refuses, code_of, number_or_0}
@@ -80,10 +81,10 @@ put_pairs text (i ∷ []) out s = put_output text out s i 0 false
 put_pairs text (i ∷ v ∷ lengths) out s =
     put_pairs text lengths (put_output text out s i v (ltb 0 (length lengths))) (put_step text out s i v)
 
--- the first octet, kinds 01 and 10
-abbrev pub octet_length : List ℕ → Answer ℕ
-octet_length [] = refuses 23 0
-octet_length (octet ∷ _) = gives 1
+-- the output after the pairs that are left to put, where any are
+abbrev pub put_left : List ℕ → List ℕ → List ℕ → Option ℕ → List ℕ
+put_left text lengths out None = out
+put_left text lengths out (Some to) = put_pairs text lengths out (put_start to)
 
 -- octets of 7 bits, and their bytes: all but the last continue
 abbrev pub Small : List ℕ → Type 0

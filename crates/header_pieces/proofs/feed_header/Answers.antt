@@ -1,7 +1,7 @@
 use Rattle.std.proofs.Common.{◌≡◌, ◌+◌, refl, ap, ◌∙◌, arith, Ok}
 use Rattle.std.proofs.lemmas.Result.{err_from_is_err_and}
 use Rattle.laws.proofs.Tests.{zero_one}
-use Rattle.header_pieces.proofs.HeaderLoop.{Turn, turn_more, turn-done, turn-refused, going-first, going-last, ends, untaken}
+use Rattle.header_pieces.proofs.HeaderLoop.{Turn, turn_more, turn-done, turn-refused, going-first, going-last, ends, took, untaken}
 use Rattle.header_pieces.proofs.RunStored.{going-run}
 use Rattle.header_pieces.proofs.feed_header.Goals as goal
 use Rattle.header_pieces.proofs.feed_header.Goals.{After-keep-kept}
@@ -39,19 +39,19 @@ loop-run-preserved c =
       c.run_on-run.auto.ext ∙ c.keep-kept.auto.ext ∙ l.invariant.1,
       λ o bytes h. going-run o bytes _ _ _ _ _ _ _ _ _ _
           (turn_more o bytes _ _ _ _ _ _ _ _ _ _ _ (l.invariant.2 o bytes h) (turn (goal.at.loop-run-preserved c).After-keep-kept) _
-          (c.in_ok-next.was ∙ ap Ok c.in-More.is))
+          (c.in_ok-next.was ∙ ap Ok c.in-Continue.is))
           c.run_on-run.ensures (omega (arith, (turn (goal.at.loop-run-preserved c).After-keep-kept).big, c.keep-kept.auto.ext)),
       l.invariant.3,
     )
 
-pub shape_of-ext-in-Done : goal.shape_of-ext-in-Done
-shape_of-ext-in-Done c = c.keep-kept.auto.ext ∙ c.loop-run.invariant.1
+pub shape_of-ext-in-Break : goal.shape_of-ext-in-Break
+shape_of-ext-in-Break c = c.keep-kept.auto.ext ∙ c.loop-run.invariant.1
 
-pub returns-in-Done : goal.returns-in-Done
-returns-in-Done c =
+pub returns-in-Break : goal.returns-in-Break
+returns-in-Break c =
     let l = c.loop-run in
-    ends l.invariant.3 (λ h n e. let same : l.run.taken + 1 ≡ n = cc in omega (arith, (turn (goal.at.returns-in-Done c).After-keep-kept).within))
-    (λ o bytes h. turn-done o bytes _ _ _ _ _ _ _ _ _ _ _ (l.invariant.2 o bytes h) (turn (goal.at.returns-in-Done c).After-keep-kept) _ (c.in_ok-next.was ∙ ap Ok c.in-Done.is))
+    ends l.invariant.3 (λ h n e. let same : l.run.taken + 1 ≡ n = ap took e in omega (arith, (turn (goal.at.returns-in-Break c).After-keep-kept).within))
+    (λ o bytes h. turn-done o bytes _ _ _ _ _ _ _ _ _ _ _ (l.invariant.2 o bytes h) (turn (goal.at.returns-in-Break c).After-keep-kept) _ (c.in_ok-next.was ∙ ap Ok c.in-Break.is))
 
 pub shape_of-ext-in_err-next : goal.shape_of-ext-in_err-next
 shape_of-ext-in_err-next c = c.keep-kept.auto.ext ∙ c.loop-run.invariant.1

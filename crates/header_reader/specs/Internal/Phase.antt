@@ -1,22 +1,24 @@
 -- What the phases of the code's reader mean.
-use Rattle.std.specs.Prelude.{ℕ, Bool, ◌||◌, eqb, Result, Ok, Err}
+use Rattle.std.specs.Prelude.{ℕ, Bool, eqb, Result, Ok, Err}
 use Rattle.error.specs.declared.WbmpError.{WbmpError}
 use Rattle.error.specs.Choice.{if}
 use Rattle.error.specs.Answer.{number}
-use Rattle.ext.specs.Kinds.{Span}
 use Rattle.header.specs.Read.{parsed}
 use Rattle.header_reader.specs.Internal.Machine.{at_fix, Step, more, done, refused, found, to_width}
 use Rattle.header_reader.specs.Internal.Standing.{fields_state, state}
 use Rattle.header_reader.specs.declared.phase.FieldsPhase.{FieldsPhase}
 use Rattle.header_reader.specs.declared.phase.PairChain.{PairChain}
-use Rattle.header_reader.specs.declared.phase.PhaseStep.{PhaseStep}
+use Rattle.std.specs.declared.ops.ControlFlow.{ControlFlow}
+use Rattle.std.specs.declared.ops.ControlFlow.TheVariants.{Continue, Break}
+use Rattle.header.specs.declared.ParsedHeader.{ParsedHeader}
+use Rattle.header_reader.specs.declared.phase.Phase.{Phase}
 
-abbrev pub moved : Result PhaseStep WbmpError → Step
-moved (Ok (PhaseStep.More p)) = more (state p)
-moved (Ok (PhaseStep.Done h)) = done (parsed h)
+abbrev pub moved : Result (ControlFlow ParsedHeader Phase) WbmpError → Step
+moved (Ok (Continue p)) = more (state p)
+moved (Ok (Break h)) = done (parsed h)
 moved (Err e) = refused (number e.kind) e.offset
 
--- what follows the last of the pairs, its fault having waited, the type, and both sizes
+-- what follows the last of the pairs, its fault having waited, and the type
 abbrev pub after_pair : PairChain → Bool → ℕ → Step
 after_pair c again fault =
     if (eqb fault 0)
@@ -25,8 +27,3 @@ after_pair c again fault =
 
 abbrev pub type_step : ℕ → ℕ → Step
 type_step value at = if (eqb value 0) (more (at_fix at)) (refused 5 at)
-
-abbrev pub after_sizes : ℕ → Span → ℕ → ℕ → ℕ → Step
-after_sizes fix f width height at =
-    if (eqb width 0 || eqb height 0) (refused 8 at)
-    (done (record { width = width; height = height; fix = fix; fields = f; body = at }))

@@ -7,21 +7,26 @@ use Rattle.header.specs.Read.{parsed}
 use Rattle.header_reader.specs.Internal.Machine.{State, Step, more, done, refused, step_of, resume}
 pub use Rattle.header_reader.specs.Internal.Standing.{fields_state, state, Reachable}
 use Rattle.header_reader.specs.declared.reader.HeaderReader.{HeaderReader}
-use Rattle.header_reader.specs.declared.reader.HeaderStep.{HeaderStep}
+use Rattle.header.specs.declared.ParsedHeader.{ParsedHeader}
+use Rattle.std.specs.declared.ops.ControlFlow.{ControlFlow}
+use Rattle.std.specs.declared.ops.ControlFlow.TheVariants.{Continue, Break}
 
 pub record Represents (r : HeaderReader) (o : Settings) (st : State) : Type 0 where
   pub mode_is : settings r.mode ≡ o
   pub phase_is : state r.phase ≡ st
   pub reachable : Reachable st
 
+abbrev pub HeaderStep : Type 0
+HeaderStep = ControlFlow ParsedHeader HeaderReader
+
 -- the code's step answers as a step of the definitions
 abbrev pub Answers : Settings → Result HeaderStep WbmpError → Step → Type 0
-Answers o (Ok (HeaderStep.More r)) (more st) = Represents r o st
-Answers o (Ok (HeaderStep.More r)) (done h) = ⊥
-Answers o (Ok (HeaderStep.More r)) (refused code offset) = ⊥
-Answers o (Ok (HeaderStep.Done p)) (more st) = ⊥
-Answers o (Ok (HeaderStep.Done p)) (done h) = parsed p ≡ h
-Answers o (Ok (HeaderStep.Done p)) (refused code offset) = ⊥
+Answers o (Ok (Continue r)) (more st) = Represents r o st
+Answers o (Ok (Continue r)) (done h) = ⊥
+Answers o (Ok (Continue r)) (refused code offset) = ⊥
+Answers o (Ok (Break p)) (more st) = ⊥
+Answers o (Ok (Break p)) (done h) = parsed p ≡ h
+Answers o (Ok (Break p)) (refused code offset) = ⊥
 Answers o (Err e) (more st) = ⊥
 Answers o (Err e) (done h) = ⊥
 Answers o (Err e) (refused code offset) = (number e.kind ≡ code) × (e.offset ≡ offset)

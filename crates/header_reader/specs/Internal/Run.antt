@@ -6,9 +6,9 @@ use Rattle.header_reader.specs.Internal.Machine.{in_height, in_fields, more, ste
 use Rattle.header_reader.specs.Internal.Standing.{fields_state}
 use Rattle.header_reader.specs.Internal.Represents.{Represents}
 use Rattle.header_reader.specs.declared.run.PairsRun.{PairsRun}
-use Rattle.header_reader.specs.declared.run.FieldsRun.{FieldsRun}
+use Rattle.header_reader.specs.declared.run.Ran.{Ran}
+use Rattle.header_reader.specs.declared.phase.FieldsPhase.{FieldsPhase}
 use Rattle.header_reader.specs.declared.reader.HeaderReader.{HeaderReader}
-use Rattle.header_reader.specs.declared.reader.HeaderRun.{HeaderRun}
 
 -- where the fields start, for a state in them
 abbrev pub fields_start : State → ℕ
@@ -36,15 +36,15 @@ pub record RunReached (o : Settings) (st : State) (ρ : List ℕ) (r : HeaderRea
   pub inside : (ρ ≡ []) ⊎ Inside st next
 
 -- `run`: for whatever the reader stands for
-pub record ReaderRuns (r : HeaderReader) (piece : List ℕ) (x : HeaderRun) : Type 0 where
+pub record ReaderRuns (r : HeaderReader) (piece : List ℕ) (x : Ran HeaderReader) : Type 0 where
   pub within : x.taken ≤ length piece
-  pub does : (o : Settings) (st : State) → Represents r o st → RunReached o st (take x.taken piece) x.reader
+  pub does : (o : Settings) (st : State) → Represents r o st → RunReached o st (take x.taken piece) x.next
 
 -- the same for where in the fields a reading stands
-pub record FieldsRuns (o : Settings) (st : State) (piece : List ℕ) (r : FieldsRun) : Type 0 where
+pub record FieldsRuns (o : Settings) (st : State) (piece : List ℕ) (r : Ran FieldsPhase) : Type 0 where
   pub within : r.taken ≤ length piece
-  pub reached : steps o st (take r.taken piece) ≡ more (fields_state r.phase)
-  pub inside : (r.taken ≡ 0) ⊎ Inside st (fields_state r.phase)
+  pub reached : steps o st (take r.taken piece) ≡ more (fields_state r.next)
+  pub inside : (r.taken ≡ 0) ⊎ Inside st (fields_state r.next)
 
 -- the first byte of a pair that another follows, and the size of that pair
 pub record Continued (b size : ℕ) : Type 0 where

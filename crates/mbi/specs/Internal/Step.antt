@@ -2,7 +2,7 @@
 -- so at the offset of a byte it is the definition's answer itself.
 use Rattle.std.specs.Prelude.{◌≡◌, ℕ, ◌%◌, Bool, Result}
 use Rattle.error.specs.declared.WbmpError.{WbmpError}
-use Rattle.mbi.specs.declared.MbiStep.{MbiStep}
+use Rattle.std.specs.declared.ops.ControlFlow.{ControlFlow}
 use Rattle.mbi.specs.Read.{ByteRead, goes, ends, wrong, read_byte, step_meaning}
 
 abbrev pub in_word : ByteRead → ByteRead
@@ -10,5 +10,5 @@ in_word (goes v) = goes v
 in_word (ends v) = ends v
 in_word (wrong code offset) = wrong code (offset % 18446744073709551616)
 
-pub record MbiStepped (strict : Bool) (at value count byte : ℕ) (r : Result MbiStep WbmpError) : Type 0 where
+pub record MbiStepped (strict : Bool) (at value count byte : ℕ) (r : Result (ControlFlow ℕ ℕ) WbmpError) : Type 0 where
   pub does : step_meaning r ≡ in_word (read_byte strict at value count byte)

@@ -2,11 +2,9 @@
 use Rattle.std.specs.Prelude.{ℕ, ◌+◌, ◌/◌, ◌%◌, ◌^◌, ◌≤◌, ◌<◌, ◌≡◌, Bool, true, false, ◌&&◌, List, [], ◌++◌, ltb, eqb, ℤ, pos, length, get_or, take, drop}
 use Rattle.error.specs.Choice.{if}
 use Rattle.error.specs.Answer.{gives}
+use Rattle.error.specs.declared.Fed.{Fed}
 use Rattle.options.specs.declared.Quantize.{Quantize}
 use Rattle.quantize.specs.declared.engine.Quantizer.{Quantizer}
-use Rattle.quantize.specs.declared.engine.RunEnded.{RunEnded}
-use Rattle.quantize.specs.declared.engine.Spot.{Spot}
-use Rattle.quantize.specs.declared.turn.Place.{Place}
 use Rattle.rules.specs.Diffusion.{Direction, Scan, on_left, above, residual_at}
 use Rattle.rules.specs.Rule.{Rule, threshold, dither, ordered, rightwards, known_rule, carries, enough_work, rule_named, rule_given}
 use Rattle.quantize.specs.Internal.Turn.{Served, state_of, rule_of}
@@ -79,53 +77,42 @@ pub record Ready (rule : Quantize) (w h work : ℕ) : Type 0 where
   pub served : Served rule w work
 
 -- nothing is taken and nothing is altered
-pub record Idles (q : Quantizer) (out : List ℕ) (work : List ℤ) (r : RunEnded) (out' : List ℕ) (work' : List ℤ) : Type 0 where
-  pub same : r.quantizer ≡ q
+pub record Idles (q : Quantizer) (out : List ℕ) (work : List ℤ) (q' : Quantizer) (r : Fed) (out' : List ℕ) (work' : List ℤ) : Type 0 where
+  pub same : q' ≡ q
   pub taken : r.taken ≡ 0
   pub written : r.written ≡ 0
   pub out_same : out' ≡ out
   pub work_same : work' ≡ work
 
--- the quantizer at another place, and what was taken and written on the way there
-abbrev pub ran_to : Quantizer → Place → ℕ → ℕ → RunEnded
-ran_to q place taken written =
-    record {
-      quantizer = record { rule = q.rule; table = q.table; width = q.width; height = q.height; place = place };
-      taken = taken;
-      written = written;
-    }
-
 -- how many samples are taken and bytes written after n samples, for every work buffer
-pub record Counts (q : Quantizer) (s : Setting) (n samples room work : ℕ) (r : RunEnded) : Type 0 where
+pub record Counts (s : Setting) (n samples room work : ℕ) (q' : Quantizer) (r : Fed) : Type 0 where
   pub taken : r.taken ≡ if (enough_work s.rule s.width work) (takes s n samples room) 0
   pub written : count s (n + r.taken) ≡ count s n + r.written
-  pub stands : QuantizerAt r.quantizer s (n + r.taken)
+  pub stands : QuantizerAt q' s (n + r.taken)
 
 -- the bytes are those that the running machine emits from the numbers found, and the numbers left are those that it keeps
-pub record Machines (q : Quantizer) (s : Setting) (n : ℕ) (samples out : List ℕ) (work : List ℤ) (r : RunEnded) (out' : List ℕ)
-    (work' : List ℤ) : Type 0 where
+pub record Machines (q : Quantizer) (s : Setting) (n : ℕ) (samples out : List ℕ) (work : List ℤ) (q' : Quantizer) (r : Fed)
+    (out' : List ℕ) (work' : List ℤ) : Type 0 where
   pub bytes : out' ≡ machine_bytes s n (state_of q.place work) samples r.taken ++ drop r.written out
-  pub keeps : carried s n (state_of q.place work) samples r.taken ≡ state_of r.quantizer.place work'
+  pub keeps : carried s n (state_of q.place work) samples r.taken ≡ state_of q'.place work'
 
 -- the bytes are the definition's, where the buffer is as the last call left it
-pub record Defined (s : Setting) (xs samples out : List ℕ) (r : RunEnded) (out' : List ℕ) (work' : List ℤ) : Type 0 where
+pub record Defined (s : Setting) (xs samples out : List ℕ) (q' : Quantizer) (r : Fed) (out' : List ℕ) (work' : List ℤ) : Type 0 where
   pub bytes : out' ≡ newly s xs (xs ++ take r.taken samples) ++ drop r.written out
-  pub holds : QuantizerAfter r.quantizer work' s (xs ++ take r.taken samples)
+  pub holds : QuantizerAfter q' work' s (xs ++ take r.taken samples)
 
-pub record Runs (q : Quantizer) (samples out : List ℕ) (work : List ℤ) (r : RunEnded) (out' : List ℕ) (work' : List ℤ) : Type 0 where
+-- the quantizer q' after a run: what was taken and written, and the lent buffers
+pub record Runs (q : Quantizer) (samples out : List ℕ) (work : List ℤ) (q' : Quantizer) (r : Fed) (out' : List ℕ) (work' : List ℤ) :
+    Type 0 where
   pub taken : r.taken ≤ length samples
   pub written : r.written ≤ length out
   pub past : drop r.written out' ≡ drop r.written out
   pub beyond : drop q.width work' ≡ drop q.width work
   pub spared : carries (rule_given (rule_named q.rule)) ≡ false → work' ≡ work
-  pub idle : (Ready q.rule q.width q.height (length work) → ⊥) → Idles q out work r out' work'
-  pub counts : (s : Setting) (n : ℕ) → QuantizerAt q s n → Counts q s n (length samples) (length out) (length work) r
-  pub machine : (s : Setting) (n : ℕ) → QuantizerAt q s n → Machines q s n samples out work r out' work'
-  pub defined : (s : Setting) (xs : List ℕ) → QuantizerAfter q work s xs → Defined s xs samples out r out' work'
-
--- where the next sample goes
-abbrev pub spot_of : Quantizer → Spot
-spot_of q = record { frames = q.place.frames; row = q.place.row; column = q.place.column }
+  pub idle : (Ready q.rule q.width q.height (length work) → ⊥) → Idles q out work q' r out' work'
+  pub counts : (s : Setting) (n : ℕ) → QuantizerAt q s n → Counts s n (length samples) (length out) (length work) q' r
+  pub machine : (s : Setting) (n : ℕ) → QuantizerAt q s n → Machines q s n samples out work q' r out' work'
+  pub defined : (s : Setting) (xs : List ℕ) → QuantizerAfter q work s xs → Defined s xs samples out q' r out' work'
 
 -- whether a work buffer of so many numbers is long enough
 abbrev pub room_for : Quantizer → ℕ → Bool

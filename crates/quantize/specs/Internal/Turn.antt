@@ -2,7 +2,8 @@
 use Rattle.std.specs.Prelude.{ℕ, ◌+◌, ◌-◌, ◌*◌, ◌%◌, ◌^◌, ◌≤◌, ◌<◌, ◌≡◌, Bool, true, false, ◌⊎◌, List, ◌++◌, ℤ, length, take, drop, Option, Some, None}
 use Rattle.options.specs.declared.Quantize.{Quantize}
 use Rattle.options.specs.declared.Quantize.TheVariants.{Threshold, Dither, Ordered}
-use Rattle.dither.specs.declared.dots.RowDots.{RowDots}
+use Rattle.dither.specs.declared.dots.RowStart.{RowStart}
+use Rattle.dither.specs.declared.entry.RowDots.{RowDots}
 use Rattle.quantize.specs.declared.turn.Place.{Place}
 use Rattle.rules.specs.Rule.{Rule, threshold, dither, ordered, known_rule, enough_work, rule_named, rule_given}
 use Rattle.quantize.specs.Finished.{Setting}
@@ -20,6 +21,10 @@ pub record Served (rule : Quantize) (w work : ℕ) : Type 0 where
 -- the machine's state, from the numbers that the code keeps
 abbrev pub state_of : Place → List ℤ → MachineState
 state_of p work = record { begun = p.begun; carry = carry_of p.corner work }
+
+-- where the next samples go
+abbrev pub row_start : ℕ → Place → RowStart
+row_start w p = record { width = w; y = p.row; column = p.column }
 
 -- the rule that the code's values stand for
 abbrev pub rule_of : Quantize → List ℕ → Rule

@@ -1,5 +1,5 @@
 -- What the kernels of the threshold rule ask and promise.
-use Rattle.std.specs.Prelude.{ℕ, zero, suc, ◌+◌, ◌*◌, ◌≤◌, ◌<◌, List, leb, get_or, set}
+use Rattle.std.specs.Prelude.{ℕ, ◌+◌, ◌*◌, ◌≤◌, ◌<◌, List, leb, get_or}
 use Rattle.rules.specs.Bits.{bit, digits, upto}
 
 -- there is room for n digits more
@@ -12,11 +12,6 @@ threshold_bit t gray i = bit (leb t (get_or gray i 0))
 -- the dots of the samples from an index on
 abbrev pub threshold_from : ℕ → List ℕ → ℕ → ℕ → ℕ
 threshold_from t gray at i = threshold_bit t gray (at + i)
-
--- a list with so many bytes of eight such dots stored from an index on
-unfoldable pub stored : ℕ → List ℕ → ℕ → List ℕ → ℕ → ℕ → List ℕ
-stored t gray at out to zero = out
-stored t gray at out to (suc k) = set (stored t gray at out to k) (to + k) (digits (threshold_from t gray (at + 8 * k)) 8)
 
 -- so many bytes of eight such dots each
 abbrev pub threshold_bytes : ℕ → List ℕ → ℕ → List ℕ

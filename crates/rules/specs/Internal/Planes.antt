@@ -1,13 +1,13 @@
 -- What the functions promise that write whole planes, or whole rows, at once.
-use Rattle.std.specs.Prelude.{ℕ, ◌+◌, ◌-◌, ◌*◌, ◌%◌, ◌/◌, ◌^◌, ◌≤◌, ◌≡◌, Bool, ◌&&◌, List, ◌++◌, eqb, leb, ltb, length, get_or, drop, set}
-use Rattle.std.specs.Int.Bits.{bit_and}
+use Rattle.std.specs.Prelude.{ℕ, ◌+◌, ◌-◌, ◌*◌, ◌%◌, ◌/◌, ◌^◌, ◌≤◌, ◌≡◌, Bool, ◌&&◌, List, ◌++◌, eqb, leb, length, get_or, drop}
 use Rattle.error.specs.Choice.{if}
 use Rattle.image.specs.Geometry.{row_bytes}
+use Rattle.image.specs.declared.PlaneLayout.{PlaneLayout}
 use Rattle.rules.specs.Bits.{upto, bit, digits}
 use Rattle.rules.specs.Diffusion.{Scan, white, value_at}
 use Rattle.rules.specs.Packed.{byte_at}
 use Rattle.rules.specs.Rule.{rightwards}
-use Rattle.rules.specs.Internal.Kernels.{threshold_bit, threshold_from, stored}
+use Rattle.rules.specs.Internal.Kernels.{threshold_bit}
 use Rattle.rules.specs.Internal.Row.{plain_front}
 
 -- the bytes of h rows of w dots, where the dot of sample n is d n
@@ -22,22 +22,13 @@ plane_onto w h d out = plane w h d ++ drop (h * row_bytes w) out
 abbrev pub plane_where : ℕ → ℕ → (ℕ → ℕ) → ℕ → List ℕ → List ℕ
 plane_where w h d samples out = if (leb (w * h) samples && leb (h * row_bytes w) (length out)) (plane_onto w h d out) out
 
--- there are samples and room for it
-abbrev pub PlaneFits : ℕ → ℕ → ℕ → ℕ → Type 0
-PlaneFits w h samples bytes = (w * h ≤ samples) × (h * row_bytes w ≤ bytes)
+-- there are as many samples as a plane needs, and as many bytes as it has
+abbrev pub PlaneFits : PlaneLayout → ℕ → ℕ → Type 0
+PlaneFits l samples bytes = (l.width * l.height ≤ samples) × (bytes ≡ l.total_bytes)
 
--- the last byte of a row whose m last samples stand from an index on
-abbrev pub ending_byte : ℕ → List ℕ → ℕ → ℕ → ℕ
-ending_byte t gray at m = digits (threshold_from t gray at) m * 2 ^ (8 - m)
-
--- a row of so many bytes from an index on, and that last byte
-abbrev pub ended_row : ℕ → List ℕ → ℕ → List ℕ → ℕ → ℕ → ℕ → List ℕ
-ended_row t gray at out to count m = set (stored t gray at out to count) (to + count) (ending_byte t gray (at + 8 * count) m)
-
--- the same, its last byte cut from eight dots by a mask
-abbrev pub masked_row : ℕ → List ℕ → ℕ → List ℕ → ℕ → ℕ → ℕ → List ℕ
-masked_row t gray at out to count mask =
-    set (stored t gray at out to count) (to + count) (bit_and (digits (threshold_from t gray (at + 8 * count)) 8) mask)
+-- the byte of a row's last samples, at most eight: their dots, and zeros
+abbrev pub ending_byte : ℕ → List ℕ → ℕ
+ending_byte t gray = digits (threshold_bit t gray) (length gray) * 2 ^ (8 - length gray)
 
 -- the scan whose samples stand row by row in a list
 abbrev pub scan_of : ℕ → List ℕ → Scan
@@ -47,16 +38,13 @@ scan_of w gray x y = get_or gray (y * w + x) 0
 abbrev pub dither_bit : ℕ → List ℕ → ℕ → ℕ
 dither_bit w gray n = bit (white (value_at rightwards w (scan_of w gray) (n % w) (n / w)))
 
--- sample c of a row of w, and 0 behind its last
-abbrev pub row_sample : ℕ → List ℕ → ℕ → ℕ
-row_sample w gray c = if (ltb c w) (get_or gray c 0) 0
-
--- how many bytes of a row of w, from the first on, have black and white samples alone: none where samples or room are missing
-abbrev pub plain_bytes : ℕ → List ℕ → ℕ → ℕ
-plain_bytes w gray room =
-    if (leb w (length gray) && leb (row_bytes w) room) (plain_front (row_sample w gray) (8 * row_bytes w) / 8) 0
+-- how many bytes of a row, from the first on, have black and white samples alone, and 0 behind the last: none where room is missing
+abbrev pub plain_bytes : List ℕ → ℕ → ℕ
+plain_bytes gray room =
+    if (leb (row_bytes (length gray)) room) (plain_front (λ c. get_or gray c 0) (8 * row_bytes (length gray)) / 8) 0
 
 -- these bytes are written, white where a sample is white, and r says whether they are the whole row
-pub record PlainRow (w : ℕ) (gray out : List ℕ) (r : Bool) (out' : List ℕ) : Type 0 where
-  pub told : r ≡ eqb (plain_bytes w gray (length out)) (row_bytes w)
-  pub written : out' ≡ upto (plain_bytes w gray (length out)) (byte_at w (threshold_bit 128 gray)) ++ drop (plain_bytes w gray (length out)) out
+pub record PlainRow (gray out : List ℕ) (r : Bool) (out' : List ℕ) : Type 0 where
+  pub told : r ≡ eqb (plain_bytes gray (length out)) (row_bytes (length gray))
+  pub written : out'
+      ≡ upto (plain_bytes gray (length out)) (byte_at (length gray) (threshold_bit 128 gray)) ++ drop (plain_bytes gray (length out)) out

@@ -10,11 +10,11 @@ returns-in_err-next c =
     rw (p.1, p.2) (refused _ _ _ _ _ _ _ c.feed_header.ensures c.requires _ c.in_err-next.was)
 
 pub feed_first-requires : goal.feed_first-requires
-feed_first-requires c = c.feed_header.ensures.within _ _ (c.in_ok-next.was ∙ ap Ok c.in-Done.is)
+feed_first-requires c = c.feed_header.ensures.within _ _ (c.in_ok-next.was ∙ ap Ok c.in-Break.is)
 
-pub returns-in-More : goal.returns-in-More
-returns-in-More c = more _ _ _ _ _ _ _ c.feed_header.ensures c.requires _ (c.in_ok-next.was ∙ ap Ok c.in-More.is)
+pub returns-in-Continue : goal.returns-in-Continue
+returns-in-Continue c = more _ _ _ _ _ _ _ c.feed_header.ensures c.requires _ (c.in_ok-next.was ∙ ap Ok c.in-Continue.is)
 
-pub returns-in-Done : goal.returns-in-Done
-returns-in-Done c =
-    whole _ _ _ _ _ _ _ c.feed_header.ensures c.requires _ _ _ _ (c.in_ok-next.was ∙ ap Ok c.in-Done.is) c.feed_first.ensures
+pub returns-in-Break : goal.returns-in-Break
+returns-in-Break c =
+    whole _ _ _ _ _ _ _ c.feed_header.ensures c.requires _ _ _ _ (c.in_ok-next.was ∙ ap Ok c.in-Break.is) c.feed_first.ensures

@@ -19,8 +19,8 @@ header_read : (c : After-parse_header_mode) (x : Result ParsedHeader WbmpError) 
 header_read c x e =
     let a = c.args in
     tested (decoding a.options) a.bytes.now
-    ∙ on-header (decoding a.options) a.bytes.now (settings c.image_mode.result) c.parse_header_mode.result x
-    c.image_mode.ensures c.parse_header_mode.ensures e
+    ∙ on-header (decoding a.options) a.bytes.now (settings c.into.result) c.parse_header_mode.result x
+    c.into.ensures c.parse_header_mode.ensures e
 
 pub returns : goal.returns
 returns c = c.test_body.ensures ∙ sym (header_read (goal.at.returns c).After-parse_header_mode _ c.in_ok-h.was)

@@ -1,9 +1,7 @@
-use Prim.Native.Nat.{◌+◌, ◌*◌, ◌≤◌}
 use mathlib.Core.Path.{refl}
 use Rattle.diffusion.specs.Internal.Sums.{part_of}
-use Rattle.diffusion.proofs.SumsCorrect.{part_small, product_small}
+use Rattle.diffusion.proofs.SumsCorrect.{part_small}
 use Rattle.diffusion.proofs.parts.part.Goals as goal
-use Rattle.diffusion.proofs.parts.part.Goals.{Start}
 
 pub returns : goal.returns
 unfolding part_of

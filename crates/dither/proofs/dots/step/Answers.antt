@@ -10,19 +10,19 @@ use Rattle.dither.proofs.dots.step.Goals.{After-part-4}
 -- the value, plus 128, and that it is
 abbrev sum : After-part-4 → ℕ
 sum j =
-    j.args.gray + j.part.result + j.part-2.result + j.part-3.result + j.part-4.result
+    j.args.gray + (j.part.result + j.part-2.result + j.part-3.result) + j.part-4.result
 
 sum-is : (j : After-part-4)
     → let a = j.args in
-    value a.gray (sub_ℕ a.left 128) (sub_ℕ a.corner 128) (sub_ℕ a.above 128) (sub_ℕ a.ahead 128) ≡ sub_ℕ (sum j) 128
+    value a.gray (sub_ℕ a.near.left 128) (sub_ℕ a.near.corner 128) (sub_ℕ a.near.above 128) (sub_ℕ a.ahead 128) ≡ sub_ℕ (sum j) 128
 sum-is j =
     let a = j.args in
     let l = j.part-4.result in
     let p = j.part.result in
     let q = j.part-2.result in
     let r = j.part-3.result in
-    let e : a.gray + l + p + q + r ≡ a.gray + p + q + r + l = omega arith in
-    value-is a.gray a.left a.corner a.above a.ahead l p q r
+    let e : a.gray + l + p + q + r ≡ a.gray + (p + q + r) + l = omega arith in
+    value-is a.gray a.near.left a.near.corner a.near.above a.ahead l p q r
     j.part-4.ensures.is j.part.ensures.is j.part-2.ensures.is
     j.part-3.ensures.is
     ∙ ap (λ (n : ℕ). sub_ℕ n 128) e

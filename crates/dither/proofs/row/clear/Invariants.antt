@@ -1,4 +1,4 @@
-use Prim.Native.Nat.{ℕ, ◌+◌, ◌<◌}
+use Prim.Native.Nat.{ℕ, ◌<◌}
 use mathlib.Core.Path.{◌≡◌}
 use mathlib.Core.Bool.{true}
 use lib.IntN.{pos}
@@ -7,5 +7,5 @@ use Rattle.dither.proofs.row.clear.Given as goal
 
 -- `dither::row::clear` meets its contract.
 -- Assumes nothing.
-abbrev pub invariant-loop-i : goal.invariant-loop-i
-invariant-loop-i l = l.clear ≡ true → (j : ℕ) → j < l.i → get_or l.work (l.x + j) (pos 0) ≡ pos 0
+abbrev pub invariant-loop-number : goal.invariant-loop-number
+invariant-loop-number l = l.clear ≡ true → (i : ℕ) → i < l.number-index → get_or l.work i (pos 0) ≡ pos 0

@@ -1,7 +1,5 @@
-use Rattle.ext_write.proofs.Begun.{begun-put}
+use Rattle.encode_session.proofs.OpenCorrect.{opens}
 use Rattle.encode_session.proofs.EncodeSession.open.Goals as goal
 
 pub returns : goal.returns
-returns g c =
-    c.opened.ensures _ _ _ _ _
-    (begun-put _ _ _ _ _ _ _ _ _ (c.begin_opening-begun.ensures _ c.check_pairs-found.ensures) c.put_pairs-answer.ensures)
+returns g c = opens _ _ _ _ _ _ _ c.new.ensures c.is_ok.ensures.value c.write_opening-answer.ensures

@@ -7,7 +7,7 @@ use Rattle.ext.specs.declared.PairHeader.{PairHeader}
 use Rattle.ext.proofs.SliceSame.{lent_part}
 use Rattle.ext.proofs.PairsWalk.{Answers, NextPair, walk_begin, walk-next, walk_end}
 use Rattle.ext.proofs.find.lookup.Goals as goal
-use Rattle.ext.proofs.find.lookup.Goals.{In-loop-pair, After-from_byte-header}
+use Rattle.ext.proofs.find.lookup.Goals.{In-loop-pair}
 
 -- the next pair, whose header is h
 next : (c : In-loop-pair) (h : PairHeader) → h ≡ pair_header (get_or c.args.bytes.now c.loop-pair.at 0)

@@ -2,7 +2,7 @@ use mathlib.Core.Path.{◌∙◌, sym, ap}
 use lib.ListN.{length}
 use Rattle.error.specs.Answer.{map}
 use Rattle.ext.specs.Kinds.{kind_number}
-use Rattle.ext_write.proofs.LentFields.{single-01, single-10, lent-octets, octet-length}
+use Rattle.ext_write.proofs.LentFields.{single, lent-octets, lent-octet}
 use Rattle.ext_write.proofs.write.check_fields.Goals as goal
 
 pub returns-in-Bitfield00 : goal.returns-in-Bitfield00
@@ -11,7 +11,6 @@ returns-in-Bitfield00 c strict lengths h =
     ∙ ap (map length) (sym (lent-octets strict lengths _ _ (ap kind_number c.in-Bitfield00.is)))
 
 pub returns-in-Reserved01 : goal.returns-in-Reserved01
-returns-in-Reserved01 c strict lengths h = c.check_octet.ensures ∙ octet-length strict lengths _ (single-01 _ c.in-Reserved01.is) _
-
-pub returns-in-Reserved10 : goal.returns-in-Reserved10
-returns-in-Reserved10 c strict lengths h = c.check_octet-in-Reserved10.ensures ∙ octet-length strict lengths _ (single-10 _ c.in-Reserved10.is) _
+returns-in-Reserved01 c strict lengths h =
+    c.check_octet.ensures
+    ∙ ap (map length) (sym (lent-octet strict lengths _ (single _ c.in-Reserved01.is) _))

@@ -1,7 +1,7 @@
-use Rattle.std.proofs.Common.{◌≡◌, Bool, true, false, ◌∙◌, sym, ap, length, nat_lt, rules, arith}
+use Rattle.std.proofs.Common.{◌≡◌, Bool, ◌∙◌, sym, ap, length, nat_lt, rules, arith}
 use Rattle.std.proofs.lemmas.Iterator.{YieldsList-from_slice}
 use Rattle.std.proofs.lemmas.Iterator.Search.{all_from_yields_List}
-use borrow.Author.Tests.{tests}
+use borrow.Author.Tests.{tests, eqb-true, eqb-false}
 use Rattle.error.specs.Choice.{if}
 use Rattle.error.specs.Answer.{map, gives, refuses}
 use Rattle.ext.specs.Classes.{all}
@@ -14,12 +14,13 @@ use Rattle.ext_write.proofs.write.check_octets.Goals.{After-all}
 tested : (c : After-all) → map length (octets_bytes c.args.text.now) ≡ if c.all.result (gives (length c.args.text.now)) (refuses 24 0)
 unfolding all
 tested c =
-    octets-tested c.args.text.now (omega (arith, c.if-text-eq0.false))
+    octets-tested c.args.text.now (omega (arith, eqb-false _ _ (sym c.is_empty.ensures ∙ c.if-is_empty.false)))
     ∙ ap (λ (b : Bool). if b (gives (length c.args.text.now)) (refuses 24 0))
     (sym (all_from_yields_List (λ o. nat_lt o 128) _ _ _ c.all.ensures.ran (YieldsList-from_slice c.args.text.now cc) (λ x b q k. search (rules, tests))))
 
-pub returns-then-text-eq0 : goal.returns-then-text-eq0
-returns-then-text-eq0 c = rw c.new.ensures (sym (ap (map length) (octets-none _ (omega (arith, c.if-text-eq0.true)))))
+pub returns-then-is_empty : goal.returns-then-is_empty
+returns-then-is_empty c =
+    rw c.new.ensures (sym (ap (map length) (octets-none _ (eqb-true _ _ (sym c.is_empty.ensures ∙ c.if-is_empty.true)))))
 
 pub returns-then-not-all : goal.returns-then-not-all
 returns-then-not-all c =

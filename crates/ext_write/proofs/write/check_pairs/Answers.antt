@@ -17,7 +17,7 @@ loop-i-preserved g c =
     let e : 2 * l.i + 2 ≡ 2 * (l.i + 1) = omega arith in
     l.invariant
     ∙ check-goes a.strict a.text.now lengths (2 * l.i) _ _ _ _ (omega (arith, c.count-count.ensures.counted, c.loop-i-test.true))
-    c.length.ensures c.length-in-loop-i.ensures c.check_pair-s.ensures
+    c.pair_at.ensures.identifier c.pair_at.ensures.value c.check_pair-s.ensures
     ∙ ap (λ (k : ℕ). check_pairs a.strict a.text.now (drop k lengths) (checking c.check_pair-s.result)) e
 
 pub returns : goal.returns

@@ -16,11 +16,12 @@ loop-i-preserved g c =
     let e : 2 * l.i + 2 ≡ 2 * (l.i + 1) = omega arith in
     let n = c.count-count.ensures.counted in
     l.invariant
-    ∙ put-goes a.text.now lengths (2 * l.i) _ _ _ _ _ _ (omega (arith, n, c.loop-i-test.true)) c.length-identifier_len.ensures
-    c.length-value_len.ensures c.put_pair-s.ensures.0 (rw (sym n) c.put_pair-s.ensures.1)
+    ∙ put-goes a.text.now lengths (2 * l.i) _ _ _ _ _ _ (omega (arith, n, c.loop-i-test.true)) c.pair_at-pair.ensures.identifier
+    c.pair_at-pair.ensures.value c.put_pair-s.ensures.0 (rw (sym n) c.put_pair-s.ensures.1)
     ∙ ap (λ (k : ℕ). put_pairs a.text.now (drop k lengths) c.put_pair-s.new.out c.put_pair-s.result) e
 
 pub returns : goal.returns
 returns g c =
     let l = c.loop-i in
-    (refl, sym (l.invariant ∙ put-end _ _ (2 * l.i) _ _ (omega (arith, c.count-count.ensures.counted, c.loop-i-test.false))))
+    let e = put-end _ _ (2 * l.i) _ _ (omega (arith, c.count-count.ensures.counted, c.loop-i-test.false)) in
+    (refl, rw c.in-Some.is (sym (l.invariant ∙ e)))

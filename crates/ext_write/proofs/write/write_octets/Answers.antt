@@ -1,5 +1,3 @@
-use Rattle.std.proofs.Common.{◌∙◌, sym, ap}
-use Rattle.error.specs.Answer.{answered}
 use Rattle.ext_write.proofs.Begun.{octets-fit, octets-emitted}
 use Rattle.ext_write.proofs.write.write_octets.Goals as goal
 

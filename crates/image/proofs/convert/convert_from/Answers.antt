@@ -1,12 +1,13 @@
-use mathlib.Core.Path.{ap, sym, ◌∙◌}
+use mathlib.Core.Path.{◌≡◌, ap, sym, ◌∙◌}
 use native.Mathlib.Omega.{arith}
 use denote.Enum.Bare.{differs_true}
-use Rattle.image.specs.Geometry.{row_bytes}
+use Rattle.image.specs.Geometry.{row_bytes, plane_bytes}
 use Rattle.image.specs.Internal.Parts.{clear_rows}
 use Rattle.image.specs.Rows.{invert}
 use Rattle.image.specs.contracts.PixelFormat.{the_type}
-use Rattle.image.specs.declared.PlaneLayout.{PlaneLayout}
-use Rattle.image.proofs.PackedAsRows.{all-at-once}
+use lib.ListN.{length}
+use Rattle.image.proofs.InvertedBytes.{invert-length}
+use Rattle.image.proofs.PackedAsRows.{ends_rows, all-at-once}
 use Rattle.image.proofs.ConvertLoop.{changed}
 use Rattle.image.proofs.PlaneSizes.{total-is}
 use Rattle.image.proofs.convert.convert_from.Goals as goal
@@ -15,8 +16,9 @@ pub returns-then-plane-layout : goal.returns-then-plane-layout
 returns-then-plane-layout c =
     let a = c.args in
     let e = total-is c.new-layout.ensures in
-    c.clear_rows.ensures
-    ∙ ap (clear_rows c.new-layout.result.width c.new-layout.result.height) c.invert_from.ensures
-    ∙ ap (λ (l : PlaneLayout). clear_rows l.width l.height (invert a.plane.now)) c.new-layout.ensures
+    let i = c.invert_from.ensures in
+    let n : length (invert a.plane.now) ≡ plane_bytes a.width a.height = invert-length a.plane.now ∙ c.if-plane-layout.true ∙ e in
+    ends_rows a.width a.height _ _ (ap length i ∙ n) c.clear_ends.ensures
+    ∙ ap (clear_rows a.width a.height) i
     ∙ all-at-once a.width a.height a.plane.now (omega (arith, c.if-plane-layout.true, e)) (c.if-plane-layout.true ∙ e)
     ∙ changed a.from a.to a.width a.height (row_bytes a.width) a.plane.now (differs_true the_type _ _ (sym c.ne.ensures ∙ c.if-ne.true))

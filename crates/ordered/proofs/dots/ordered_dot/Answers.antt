@@ -1,9 +1,8 @@
-use Rattle.rules.proofs.DigitsAppended.{bit-yes, bit-no}
-use Rattle.ordered.proofs.OrderedNumbers.{product-white, product-black}
+use Rattle.std.proofs.Common.{sym, ap, ◌∙◌}
+use Rattle.rules.specs.Bits.{bit}
+use Rattle.rules.proofs.DigitsAppended.{bit_is}
+use Rattle.ordered.proofs.OrderedNumbers.{product-form}
 use Rattle.ordered.proofs.dots.ordered_dot.Goals as goal
 
-pub returns-then-least-gray : goal.returns-then-least-gray
-returns-then-least-gray c = let a = c.args in bit-yes _ _ (product-white a.side a.n a.gray c.requires c.if-least-gray.true)
-
-pub returns-else-least-gray : goal.returns-else-least-gray
-returns-else-least-gray c = let a = c.args in bit-no _ _ (product-black a.side a.n a.gray c.requires c.if-least-gray.false)
+pub returns : goal.returns
+returns c = let a = c.args in bit_is _ _ c.from.ensures ∙ ap bit (sym (product-form a.side a.n a.gray c.requires))

@@ -13,27 +13,27 @@ half side h p = omega arith
 pub returns-then-side-eq1 : goal.returns-then-side-eq1
 returns-then-side-eq1 t c = let a = c.args in rw c.if-side-eq1.true (cell-one a.x a.y)
 
-pub returns-then-x-half : goal.returns-then-x-half
-returns-then-x-half t c =
+pub returns-in-true-true : goal.returns-in-true-true
+returns-in-true-true t c =
     let a = c.args in
     subst (λ (n : ℕ). Cell a.side a.x a.y n) (add-zero (4 * c.cell-n.result))
     (cell-more a.side a.x a.y c.cell-n.result 0 c.if-side-eq1.false c.requires.0 c.cell-n.ensures (omega arith)
-    (upper-left _ _ _ (half a.side c.if-side-eq1.false c.requires.0) c.if-x-half.true c.if-y-half.true))
+    (upper-left _ _ _ (half a.side c.if-side-eq1.false c.requires.0) c.in-true-true.is-0 c.in-true-true.is-1))
 
-pub returns-else-x-half : goal.returns-else-x-half
-returns-else-x-half t c =
+pub returns-in-false-true : goal.returns-in-false-true
+returns-in-false-true t c =
     let a = c.args in
     cell-more a.side a.x a.y c.cell-n.result 2 c.if-side-eq1.false c.requires.0 c.cell-n.ensures (omega arith)
-    (upper-right _ _ _ (half a.side c.if-side-eq1.false c.requires.0) c.if-x-half.false c.if-y-half.true)
+    (upper-right _ _ _ (half a.side c.if-side-eq1.false c.requires.0) c.in-false-true.is-0 c.in-false-true.is-1)
 
-pub returns-then-x-half-2 : goal.returns-then-x-half-2
-returns-then-x-half-2 t c =
+pub returns-in-true-false : goal.returns-in-true-false
+returns-in-true-false t c =
     let a = c.args in
     cell-more a.side a.x a.y c.cell-n.result 3 c.if-side-eq1.false c.requires.0 c.cell-n.ensures (omega arith)
-    (lower-left _ _ _ (half a.side c.if-side-eq1.false c.requires.0) c.if-x-half-2.true c.if-y-half.false)
+    (lower-left _ _ _ (half a.side c.if-side-eq1.false c.requires.0) c.in-true-false.is-0 c.in-true-false.is-1)
 
-pub returns-else-x-half-2 : goal.returns-else-x-half-2
-returns-else-x-half-2 t c =
+pub returns-in-false-false : goal.returns-in-false-false
+returns-in-false-false t c =
     let a = c.args in
     cell-more a.side a.x a.y c.cell-n.result 1 c.if-side-eq1.false c.requires.0 c.cell-n.ensures (omega arith)
-    (lower-right _ _ _ (half a.side c.if-side-eq1.false c.requires.0) c.if-x-half-2.false c.if-y-half.false)
+    (lower-right _ _ _ (half a.side c.if-side-eq1.false c.requires.0) c.in-false-false.is-0 c.in-false-false.is-1)

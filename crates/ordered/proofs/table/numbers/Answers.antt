@@ -1,5 +1,6 @@
+use Rattle.std.proofs.Common.{arith}
 use Rattle.ordered.proofs.OrderedNumbers.{table-other}
 use Rattle.ordered.proofs.table.numbers.Goals as goal
 
-pub returns : goal.returns
-returns c = table-other _ c.if-side-eq2.false c.if-side-eq4.false
+pub returns-in_default : goal.returns-in_default
+returns-in_default c = table-other c.args.side (omega arith) (omega arith)

@@ -1,6 +1,5 @@
 use mathlib.Core.Path.{refl, subst, ◌∙◌}
 use native.Mathlib.Omega.{arith}
-use lib.ListN.{length}
 use Rattle.replay.specs.Calls.{Nexts}
 use Rattle.replay.proofs.RunLoop.{begun, lent_in, stops, ends-here, ends-all, one_more}
 use Rattle.replay.proofs.run.run.Goals as goal

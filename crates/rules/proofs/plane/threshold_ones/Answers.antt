@@ -1,12 +1,12 @@
 use Prim.Native.Nat.{ℕ}
-use mathlib.Core.Path.{ap, ◌∙◌}
+use mathlib.Core.Path.{refl, ap, ◌∙◌}
 use mathlib.Core.List.{List}
 use native.Mathlib.Omega.{arith}
 use lib.ListN.{set}
 use Rattle.rules.specs.Packed.{byte_at}
 use Rattle.rules.specs.Internal.Kernels.{threshold_bit}
 use Rattle.rules.proofs.UptoOverlaid.{overlaid-none, overlaid-next}
-use Rattle.rules.proofs.PlaneWritten.{ones-byte}
+use Rattle.rules.proofs.PlaneWritten.{ones-byte, bytes-plane}
 use Rattle.rules.proofs.plane.threshold_ones.Goals as goal
 
 pub loop-i-init : goal.loop-i-init
@@ -19,5 +19,9 @@ loop-i-preserved c =
     let a = c.args in
     let i = c.loop-i.i in
     ap (λ (o : List ℕ). set o i c.dot_bit.result) c.loop-i.invariant
-    ∙ overlaid-next (byte_at 1 (threshold_bit a.bound a.gray.now)) a.out.now i c.dot_bit.result (omega (arith, c.requires.1))
+    ∙ overlaid-next (byte_at 1 (threshold_bit a.bound a.gray.now)) a.out.now i c.dot_bit.result (omega arith)
     (ones-byte a.bound a.gray.now i c.dot_bit.result c.dot_bit.ensures)
+
+pub returns : goal.returns
+returns c =
+    bytes-plane c.args.bound c.args.gray.now 1 c.loop-i.i c.args.out.now c.loop-i.out refl (omega arith) c.loop-i.invariant

@@ -9,8 +9,11 @@ use Rattle.rules.proofs.plane.threshold_rows.Given as goal
 -- Assumes nothing.
 abbrev pub invariant-loop-y : goal.invariant-loop-y
 invariant-loop-y l =
-    (before : List ℕ) → PlaneFits l.width l.height (length l.gray) (length before)
-    → RowsTo l.bound l.width l.height l.gray before l.initial.out l.initial.at l.initial.to l.initial.y → RowsTo l.bound l.width l.height l.gray before l.out l.at l.to l.y
+    let w = l.layout.width in
+    let h = l.layout.height in
+    (before : List ℕ) → PlaneFits l.layout (length l.gray) (length before)
+    → RowsTo l.bound w h l.gray before l.initial.out l.initial.at l.initial.to l.initial.y
+    → RowsTo l.bound w h l.gray before l.out l.at l.to l.y
 
 abbrev pub decreases-loop-y : goal.decreases-loop-y
-decreases-loop-y l = l.height - l.y
+decreases-loop-y l = l.layout.height - l.y

@@ -6,7 +6,7 @@ use lib.ListN.{length, get_or}
 use Rattle.rules.specs.Bits.{appended}
 use Rattle.rules.specs.Internal.Kernels.{threshold_bit}
 use Rattle.rules.proofs.DigitsAppended.{bit_le, bit_is, one_more, appended-fits}
-use Rattle.rules.proofs.StoredBytes.{byte_more}
+use Rattle.rules.proofs.ThresholdBytes.{byte_more}
 use Rattle.rules.proofs.threshold.threshold_dots.Goals as goal
 use Rattle.rules.proofs.threshold.threshold_dots.Goals.{At-loop-sample}
 

@@ -14,4 +14,4 @@ returns c =
     let f = samples_from a.gray.now a.at in
     let small : Below 256 f = λ i. omega (arith, c.type_inv.gray (a.at + i)) in
     let first = ap (λ (i : ℕ). get_or a.gray.now i 0) (add-zero a.at) in
-    (omega (arith, rw c.eight.ensures at c.from_be_bytes.ensures, first), small)
+    (omega (arith, rw c.eight.ensures at c.from_le_bytes.ensures, first), small)

@@ -5,4 +5,4 @@ use Rattle.header_reader.proofs.reader.HeaderReader.step.Goals as goal
 
 pub invariant_of-result : goal.invariant_of-result
 invariant_of-result c =
-    record { reachable = next-reachable c.args.self c.args.byte _ (sym (ap moved (c.in_ok-phase.was ∙ ap Ok c.in-More.is)) ∙ c.step_phase.ensures) }
+    record { reachable = next-reachable c.args.self c.args.byte _ (sym (ap moved (c.in_ok-phase.was ∙ ap Ok c.in-Continue.is)) ∙ c.step_phase.ensures) }

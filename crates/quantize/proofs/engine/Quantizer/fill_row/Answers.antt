@@ -19,5 +19,5 @@ returns c =
       | in-Threshold w ↦ filled-threshold _ _ _ _ _ _ c.requires _ c.whole_bytes-count.ensures _ _ _ _ w.out-is _ w.in-Threshold.is w.p-is
           w.work-is w.threshold_row_bytes.ensures
       | in-Dither w ↦ rw w.work-is (filled-dither _ _ _ _ _ _ c.requires _ c.whole_bytes-count.ensures _ _ _ _ w.out-is _ w.in-Dither.is w.p-is _
-          w.dither_row_bytes-p.ensures)
+          (rw w.row_start-start.ensures at w.dither_row_bytes-p.ensures))
     ]

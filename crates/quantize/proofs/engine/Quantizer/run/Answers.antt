@@ -13,9 +13,9 @@ use Rattle.quantize.proofs.Places.{bytewise}
 use Rattle.quantize.proofs.RunLoop.{Loop, loop-start}
 use Rattle.quantize.proofs.TurnTakes.{end_fits, taking, took-room, loop-took-byte, loop-took-none}
 use Rattle.quantize.proofs.BytesAtOnce.{loop-filled}
-use Rattle.quantize.proofs.RunEnd.{none_told, full-byte, end-told}
+use Rattle.quantize.proofs.RunEnd.{runs_none, full-byte, runs-end}
 use Rattle.quantize.proofs.engine.Quantizer.run.Goals as goal
-use Rattle.quantize.proofs.engine.Quantizer.run.Goals.{After-fill_row-count, Else-m-eq0, In-Some}
+use Rattle.quantize.proofs.engine.Quantizer.run.Goals.{After-fill_row-count, Else-m-eq0, In-Some, else-loop-p-test, then-loop-p-test+then-m-eq0}
 
 -- samples are bytes
 octets : (samples : List ℕ) → ((i : ℕ) → Fits w8 (get_or samples i 0)) → (i : ℕ) → get_or samples i 0 < 256
@@ -28,12 +28,12 @@ by_bytes q row = bytewise (rule_of q.rule q.table) row
 -- the loop's invariant once whole bytes are filled in
 mid : (f : After-fill_row-count)
     → let r = f.fill_row-count in
-    Loop f.args.self f.args.samples.now f.args.out.now f.args.work.now
+    Loop f.args.self.now f.args.samples.now f.args.out.now f.args.work.now
     (put_mid f.loop-p.written (length f.loop-p.out - f.loop-p.written) f.loop-p.out r.new.out)
     r.new.work r.new.p (f.loop-p.taken + 8 * r.result) (f.loop-p.written + r.result)
 mid f =
     let r = f.fill_row-count in
-    let q = f.args.self in
+    let q = f.args.self.now in
     loop-filled q f.args.samples.now f.args.out.now f.args.work.now
     f.loop-p.out f.loop-p.work f.loop-p.p
     f.loop-p.taken f.loop-p.written f.loop-p.invariant f.loop-p-test.true (by_bytes q f.loop-p.p.row)
@@ -46,7 +46,7 @@ left f = rw f.fill_row-count.ensures.place f.loop-p-test.true
 pub returns-then-not-can_take : goal.returns-then-not-can_take
 returns-then-not-can_take c =
     let a = c.args in
-    none_told a.self a.samples.now a.out.now a.work.now c.ran.result c.ran.ensures (octets _ c.type_inv.samples)
+    runs_none a.self.now a.samples.now a.out.now a.work.now (octets _ c.type_inv.samples)
     (λ s. c.can_take.ensures.no (c.if-not-can_take.true) s)
 
 pub loop-p-init : goal.loop-p-init
@@ -70,21 +70,6 @@ overflow_sub-out c = let i = mid (goal.at.overflow_sub-out c).After-fill_row-cou
 pub samples_for_byte-m-requires : goal.samples_for_byte-m-requires
 samples_for_byte-m-requires c = (mid (goal.at.samples_for_byte-m-requires c).After-fill_row-count).turn.sound.in_row
 
-pub shape_of-out-then-m-eq0 : goal.shape_of-out-then-m-eq0
-shape_of-out-then-m-eq0 c = (mid (goal.at.shape_of-out-then-m-eq0 c).After-fill_row-count).out_long
-
-pub shape_of-work-then-m-eq0 : goal.shape_of-work-then-m-eq0
-shape_of-work-then-m-eq0 c = (mid (goal.at.shape_of-work-then-m-eq0 c).After-fill_row-count).turn.long
-
-pub returns-then-m-eq0 : goal.returns-then-m-eq0
-returns-then-m-eq0 c =
-    let o = octets _ c.type_inv.samples in
-    let i = mid (goal.at.returns-then-m-eq0 c).After-fill_row-count in
-    end-told _ _ _ _ _ _ _ _ _ i o
-    (full-byte _ _ _ _ _ _ _ _ _ i o _ (left (goal.at.returns-then-m-eq0 c).After-fill_row-count) (by_bytes c.args.self c.fill_row-count.new.p.row)
-    c.samples_for_byte-m.ensures c.if-m-eq0.true)
-    c.ran-then-m-eq0.result c.ran-then-m-eq0.ensures
-
 -- the samples for the byte are there
 there : (e : Else-m-eq0)
     → e.loop-p.taken + 8 * e.fill_row-count.result + e.samples_for_byte-m.result ≤ length e.args.samples.now
@@ -101,7 +86,7 @@ slice_bounds-take-end c = there (goal.at.slice_bounds-take-end c).Else-m-eq0
 pub take-requires : goal.take-requires
 take-requires c =
     taking _ _ _ _ _ _ _ _ _ (mid (goal.at.take-requires c).After-fill_row-count) (left (goal.at.take-requires c).After-fill_row-count) _
-    c.samples_for_byte-m.ensures c.if-m-eq0.false (omega (arith, c.well_formed)) (omega (arith, c.well_formed))
+    c.samples_for_byte-m.ensures c.if-m-eq0.false (omega arith) (omega arith)
 
 -- there is room for a finished byte
 room : (c : In-Some)
@@ -126,15 +111,29 @@ pub loop-p-preserved-in-Some : goal.loop-p-preserved-in-Some
 loop-p-preserved-in-Some c =
     loop-took-byte _ _ _ _ _ _ _ _ _ (mid (goal.at.loop-p-preserved-in-Some c).After-fill_row-count)
     (left (goal.at.loop-p-preserved-in-Some c).After-fill_row-count) _ c.samples_for_byte-m.ensures c.if-m-eq0.false
-    _ _ _ c.take.ensures (by_bytes c.args.self _) _ c.in-Some.is
+    _ _ _ c.take.ensures (by_bytes c.args.self.now _) _ c.in-Some.is
 
 pub loop-p-preserved : goal.loop-p-preserved
 loop-p-preserved c =
     loop-took-none _ _ _ _ _ _ _ _ _ (mid (goal.at.loop-p-preserved c).After-fill_row-count)
     (left (goal.at.loop-p-preserved c).After-fill_row-count) _ c.samples_for_byte-m.ensures c.if-m-eq0.false
-    _ _ _ c.take.ensures (by_bytes c.args.self _) c.in_default.is
+    _ _ _ c.take.ensures (by_bytes c.args.self.now _) c.in_default.is
 
 pub returns : goal.returns
 returns c =
-    end-told _ _ _ _ _ _ _ _ _ c.loop-p.invariant (octets _ c.type_inv.samples)
-    (λ s n t. inl c.loop-p-test.false) c.ran-2.result c.ran-2.ensures
+    let o = octets _ c.type_inv.samples in
+    elim c.loop-p-test.branch [
+      | else-loop-p-test w ↦
+          rw (w.out-is, w.work-is, w.taken-is, w.written-is, w.p-is)
+          (runs-end _ _ _ _ _ _ _ _ _ c.loop-p.invariant o (λ s n t. inl w.loop-p-test.false))
+      | then-loop-p-test+then-m-eq0 w ↦
+          let r = w.fill_row-count in
+          let q = c.args.self.now in
+          let i = loop-filled q c.args.samples.now c.args.out.now c.args.work.now c.loop-p.out c.loop-p.work c.loop-p.p
+          c.loop-p.taken c.loop-p.written c.loop-p.invariant w.loop-p-test.true (by_bytes q c.loop-p.p.row)
+          r.result r.new.p r.new.out r.new.work r.ensures in
+          rw (w.out-is, w.work-is, w.taken-is, w.written-is, w.p-is)
+          (runs-end _ _ _ _ _ _ _ _ _ i o
+          (full-byte _ _ _ _ _ _ _ _ _ i o _ (rw r.ensures.place w.loop-p-test.true) (by_bytes q r.new.p.row)
+          w.samples_for_byte-m.ensures w.if-m-eq0.true))
+    ]
