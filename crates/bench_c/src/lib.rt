@@ -1,4 +1,5 @@
-// The functions of crate bench under C names, for tools/bench, which times them. They are no part of include/wbmp.h.
+// The functions of crate bench under C names, for tools/bench, which times them, in a static library as those of capi. They are no part of
+// include/wbmp.h.
 #![tactic(auto)]
 
 ghost use Rattle.options.specs.declared.Quantize.TheVariants.{Threshold};

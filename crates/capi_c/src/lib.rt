@@ -1,4 +1,5 @@
-// The functions of the crate capi under their C names: a static library; include/wbmp.h has the declarations.
+// The functions of the crate capi under their C names: a static library; include/wbmp.h has the declarations. A crate of its own, as C's
+// names stand in static libraries alone; each repeats the contract that C is promised.
 #![tactic(auto)]
 
 ghost use Rattle.std.specs.Prelude.{◌≡◌};

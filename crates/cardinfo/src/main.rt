@@ -22,7 +22,7 @@ fn main(rt: HostRuntime) -> io::Result<()> {
 }
 
 // Reads until `buf` is full or the input ends, and says how many bytes it read. A read that fails midway looks like the end.
-// A turn takes as many as come, so no iterator fits.
+// A turn takes as many as come, so no iterator fits. `vectors` has this loop too, and says why.
 fn read_full(input: &mut impl Read, buf: &mut [u8]) -> usize
     ensures { result ≤ length buf.new }
 {
