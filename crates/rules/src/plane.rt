@@ -1,4 +1,4 @@
-// Whole planes of the threshold rule. Times as long are beside docs/COMPARISON.md, behind which no line of tools/bench may fall.
+// Whole planes of the threshold rule. The bar of speed is docs/COMPARISON.md, behind which no line of tools/bench may fall.
 ghost use Rattle.std.specs.Prelude.{◌≡◌, ◌+◌, ◌*◌, ◌%◌, ◌≤◌, ◌<◌, length};
 ghost use Rattle.image.specs.Geometry.{row_bytes};
 ghost use Rattle.rules.specs.Internal.Kernels.{threshold_bit, threshold_bytes};

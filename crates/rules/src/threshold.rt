@@ -1,4 +1,4 @@
-// The threshold rule. Times as long as in plane.rt.
+// The threshold rule's dots: of a part of a row, and of whole bytes of eight samples. The bar of speed is that of plane.rt.
 ghost use Rattle.std.specs.Prelude.{◌≡◌, ◌+◌, ◌*◌, ◌≤◌, length};
 ghost use Rattle.rules.specs.Bits.{digits, appended, upto};
 ghost use Rattle.rules.specs.Internal.Words.{bytes, samples_from, Below, Compares, Gathers};
