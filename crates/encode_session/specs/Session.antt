@@ -6,7 +6,7 @@ use Rattle.error.specs.Emits.{Emits}
 use Rattle.header.specs.Write.{ext_header}
 use Rattle.options.specs.Defaults.{made_frames}
 use Rattle.options.specs.declared.EncodeOptions.{EncodeOptions}
-use Rattle.quantize.specs.Internal.Engine.{Runs, QuantizerAt, QuantizerAfter}
+use Rattle.quantize.specs.Internal.Engine.{Runs, frames_left, QuantizerAt, QuantizerAfter}
 use Rattle.encode_session.specs.Model.{Opening, opening, setting_of, header, Model, opened, frames_done, shut, feed, close, Told, took}
 use Rattle.encode_session.specs.Model.{closed, outcome}
 use Rattle.encode_session.specs.declared.EncodeSession.{EncodeSession}
@@ -24,7 +24,7 @@ closed_meaning (Err e) = refusal e
 -- the session's own numbers are those of the model; while it is open, the engine stands behind the samples taken
 pub record Stands (s : EncodeSession) (m : Model) : Type 0 where
   pub live : s.live ≡ m.live
-  pub left : s.quantizer.place.frames + frames_done m ≡ made_frames
+  pub left : frames_left s.quantizer + frames_done m ≡ made_frames
   pub place : m.live ≡ true → QuantizerAt s.quantizer (setting_of m.opening) (length m.samples)
 
 -- the work buffer too is as the model's samples leave it

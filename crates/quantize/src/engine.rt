@@ -1,6 +1,6 @@
 // The quantising engine, which making sessions run, and whole planes that are ordered, or tiny and gray.
 ghost use Rattle.std.specs.Prelude.{◌≡◌};
-ghost use Rattle.quantize.specs.Internal.Engine.{NewQuantizer, Runs, Tabled, room_for, behind_frames};
+ghost use Rattle.quantize.specs.Internal.Engine.{NewQuantizer, Runs, Tabled, frames_left, room_for, behind_frames};
 ghost use Rattle.quantize.specs.Internal.Turn.{CanTake};
 
 use crate::asked::{enough_work, known_rule};
@@ -97,7 +97,7 @@ impl Quantizer {
 
     // How many frames are not full.
     pub fn frames_left(self) -> usize
-        ensures { result ≡ self.place.frames }
+        ensures { result ≡ frames_left self }
     {
         self.place.frames
     }

@@ -114,6 +114,10 @@ pub record Runs (q : Quantizer) (samples out : List ℕ) (work : List ℤ) (q' :
   pub machine : (s : Setting) (n : ℕ) → QuantizerAt q s n → Machines q s n samples out work q' r out' work'
   pub defined : (s : Setting) (xs : List ℕ) → QuantizerAfter q work s xs → Defined s xs samples out q' r out' work'
 
+-- how many frames are not full
+abbrev pub frames_left : Quantizer → ℕ
+frames_left q = q.place.frames
+
 -- whether a work buffer of so many numbers is long enough
 abbrev pub room_for : Quantizer → ℕ → Bool
 room_for q work = enough_work (rule_given (rule_named q.rule)) q.width work
