@@ -21,12 +21,11 @@ pub struct ImageInfo {
     pub data_offset: usize,
 }
 
-// What a file is taken for; C gets these numbers.
 #[derive(Clone, Copy, PartialEq, Eq)]
 pub enum Sniffed {
-    Neither,
     // The header and 1 to 16 whole planes.
     Exact,
     // The header, at least one row, and less than a plane.
     Truncated,
+    Neither,
 }

@@ -8,6 +8,7 @@ ghost use Rattle.decoder.specs.Frames.{meaning};
 
 use crate::asked::Asked;
 use crate::numbers::{FieldNumbers, pack};
+use api::Sniffed;
 use decoder::DecodedImage;
 use error::Result;
 use options::DecodeOptions;
@@ -16,7 +17,11 @@ use options::DecodeOptions;
 pub fn wbmp_sniff(bytes: &[u8]) -> u8
     ensures { result ≡ sniff_number (sniffed bytes.now) }
 {
-    api::sniff(bytes) as u8
+    match api::sniff(bytes) {
+        Sniffed::Neither => 0,
+        Sniffed::Exact => 1,
+        Sniffed::Truncated => 2,
+    }
 }
 
 // Size, frames and fields of a file, to the lent numbers; a refusal writes none of them.
