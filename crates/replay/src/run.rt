@@ -1,6 +1,6 @@
 // The run, on any session.
-ghost use Rattle.std.specs.Prelude.{length};
-ghost use Rattle.replay.specs.Calls.{named, There};
+ghost use Rattle.std.specs.Prelude.{◌≡◌, length};
+ghost use Rattle.replay.specs.Calls.{named, There, three_of};
 ghost use Rattle.replay.specs.Run.{Makes, Ran};
 
 use crate::call::{Named, next_call, numbers};
@@ -32,6 +32,17 @@ fn make_call<S: Session>(
     }
 }
 
+// An answer's numbers. One by one: `copy_from_slice` would have the archive for C ask for memmove.
+fn store(places: &mut [usize], answer: Result<Fed>)
+    requires { length places.old ≡ 3 }
+    ensures { places.new ≡ three_of answer }
+{
+    let three = numbers(answer);
+    places[0] = three[0];
+    places[1] = three[1];
+    places[2] = three[2];
+}
+
 // Runs the calls on a session, and says how many were made.
 pub(crate) fn run<S: Session>(
     session: &mut S,
@@ -55,7 +66,7 @@ pub(crate) fn run<S: Session>(
             return made;
         };
         let answer = make_call(session, call, samples, work, &mut out[lent..]);
-        answers[3 * made..3 * made + 3].copy_from_slice(&numbers(answer));
+        store(&mut answers[3 * made..3 * made + 3], answer);
         lent += call.room();
     }
     most

@@ -1,4 +1,4 @@
-use mathlib.Core.Path.{refl, subst, ◌∙◌}
+use mathlib.Core.Path.{refl, subst}
 use native.Mathlib.Omega.{arith}
 use Rattle.replay.specs.Calls.{Nexts}
 use Rattle.replay.proofs.RunLoop.{begun, lent_in, stops, ends-here, ends-all, one_more}
@@ -30,7 +30,7 @@ loop-made-preserved g c =
     let a = c.loop-made.auto in
     one_more _ _ _ _ _ _ _ _ _ _ _ _ _ _ c.loop-made.invariant a.out a.work a.answers c.in-Some.call c.in-Some.ensures
     (omega (arith, c.loop-made-test.true, c.min-most.ensures)) _ _ _ _ c.make_call-answer.ensures _
-    (c.copy_from_slice.ensures.after ∙ c.numbers.ensures) _ c.room-lent.ensures
+    c.store.ensures _ c.room-lent.ensures
 
 pub returns : goal.returns
 returns g c =
