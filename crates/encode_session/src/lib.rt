@@ -85,7 +85,7 @@ impl EncodeSession {
         ensures { Feeds self.old samples.now out.old work.old result self.new out.new work.new }
     {
         if !self.live {
-            return Err(WbmpError::new(Refusal::SessionClosed, 0));
+            return Err(WbmpError::new(Refusal::SessionClosed, 0)); // 30 before 28
         }
         if !self.quantizer.serves(work.len()) {
             return Err(WbmpError::new(Refusal::BufferTooShort, 0));
