@@ -47,10 +47,13 @@ fn warn_if_longer(rt: &impl Eprint, input: &mut impl Read) -> io::Result<()> {
 // No `Display` of `ImageInfo`: these two lines are this program's form, not the type's.
 fn print_card(rt: &impl Print, card: &[u8]) -> io::Result<()> {
     match api::info(card) {
-        Ok(i) => println!(rt;
-            "width height frames body fixheader\n{} {} {} {} {}",
-            i.width, i.height, i.frames, i.data_offset, i.fix_header
-        ),
+        Ok(i) => {
+            println!(rt; "width height frames body fixheader")?;
+            println!(rt;
+                "{} {} {} {} {}",
+                i.width, i.height, i.frames, i.data_offset, i.fix_header
+            )
+        }
         Err(e) => println!(rt; "refused {e}"),
     }
 }
