@@ -1,5 +1,5 @@
 // Answers as numbers: a refusal is its number and place, an acceptance 0 and the values given.
-use crate::bytes::Bytes;
+use crate::bytes::{Bytes, is_same};
 use error::{Result, WbmpError};
 use std::array;
 
@@ -38,17 +38,17 @@ impl Bytes<'_> {
         same
     }
 
-    // Whether the numbers behind their count are `got`, whose last zeros are left out. Where they are more, nothing is left of the list.
-    pub(crate) fn is_answer(&mut self, got: &[usize]) -> bool {
+    // Whether the numbers behind their count are `got`, whose last zeros are left out. Where they are more, the first ones are compared, and
+    // nothing is left of the list.
+    pub(crate) fn is_answer<const N: usize>(&mut self, got: &[usize; N]) -> bool {
         let count = self.number();
-        let Some((told, zeros)) = got.split_at_checked(count) else {
-            self.rest = &[];
-            return false;
-        };
-        let mut same = zeros.iter().all(|n| *n == 0);
-        for n in told {
-            same &= self.number() == *n;
+        let mut told = [0; N];
+        for to in told.iter_mut().take(count) {
+            *to = self.number();
         }
-        same
+        if count > N {
+            self.rest = &[];
+        }
+        is_same(&told, got)
     }
 }

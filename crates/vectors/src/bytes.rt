@@ -1,5 +1,6 @@
-// Parts of slices, and bytes that are read one behind the other.
+// Parts of slices, what compares them, and bytes that are read one behind the other.
 ghost use Rattle.std.specs.Prelude.{◌≡◌, take, drop};
+ghost use Rattle.std.specs.Cmp.Lexicographic.{pointwise};
 
 use std::array;
 
@@ -17,21 +18,30 @@ pub(crate) fn behind<T>(items: &[T], n: usize) -> &[T]
     &items[n.min(items.len())..]
 }
 
-// The bytes that are left. Past their end stand zeros.
+// Whether two lists are the same: bytes, numbers or work. All that the program compares with the list goes through here.
+pub(crate) fn is_same<T: PartialEq>(a: &[T], b: &[T]) -> bool
+    ensures { result ≡ pointwise T.eq a.now b.now }
+{
+    a == b
+}
+
+// The bytes that are left of the whole. Past their end stand zeros.
 #[derive(Clone, Copy)]
 pub(crate) struct Bytes<'a> {
+    pub whole: &'a [u8],
     pub rest: &'a [u8],
 }
 
 impl<'a> Bytes<'a> {
-    pub(crate) fn new(rest: &'a [u8]) -> Bytes<'a> {
-        Bytes { rest }
+    pub(crate) fn new(whole: &'a [u8]) -> Bytes<'a> {
+        Bytes { whole, rest: whole }
     }
 
-    // The next `n` bytes, or all where there are fewer.
+    // The next `n` bytes, or all where there are fewer. Places have 64 bits: a larger one is that of its low bits.
     pub(crate) fn take(&mut self, n: usize) -> &'a [u8] {
         let part = front(self.rest, n);
-        self.rest = behind(self.rest, n);
+        let at = self.whole.len().wrapping_sub(self.rest.len());
+        self.rest = behind(self.whole, at.wrapping_add(n));
         part
     }
 

@@ -1,6 +1,6 @@
 // Lists on sessions as cases: a making, a reading, and a card that is made in pieces, read in
 // pieces and shown dot for dot.
-use crate::bytes::{Bytes, behind, front};
+use crate::bytes::{Bytes, behind, front, is_same};
 use crate::case::{Case, Replayed};
 use crate::list::TEXT;
 use crate::making::Making;
@@ -60,7 +60,7 @@ fn is_shown(list: &mut Bytes, making: Making, format: PixelFormat, out: &[u8]) -
             shown[i / 8] |= 128 >> (i % 8);
         }
     }
-    shown == want
+    is_same(&shown, &want)
 }
 
 // How the dots stand: their size, the bytes of a row and of a plane, and their format.
@@ -81,7 +81,7 @@ impl Shape {
         let x = dot % width;
         let y = dot / width % height;
         let frame = dot / width / height;
-        let plane = front(behind(out, frame.saturating_mul(self.plane)), self.plane);
+        let plane = front(behind(out, frame.wrapping_mul(self.plane)), self.plane);
         image::is_white(
             plane,
             self.width,

@@ -1,16 +1,19 @@
 // Replaying one case: a reader's answer; a writer's with the bytes that it has to write and those
 // that it has to leave alone; a plane that is changed in place.
 use crate::answer::refused;
-use crate::bytes::{Bytes, behind, front};
-use crate::fields::LENGTHS;
+use crate::bytes::{Bytes, front, is_same};
+use crate::fields::{Contents, LENGTHS};
 use crate::list::TEXT;
 use crate::planes::convert;
-use crate::stages::{BEHIND, is_marked};
+use crate::stages::BEHIND;
 use error::{Refusal, WbmpError};
 use ext_write::PairList;
 
 // What the output holds before each call; `want` holds it behind what is written.
 const MARK: u8 = 165;
+
+// From here on writers of fields are called over records alone.
+const RECORDS: usize = 46;
 
 // How many comparisons a case took, and whether all were right.
 #[derive(Clone, Copy)]
@@ -63,7 +66,7 @@ impl Case<'_> {
         list.text(&mut want);
         Replayed {
             comparisons: 1,
-            same: right && plane == want,
+            same: right && is_same(&plane, &want),
         }
     }
 
@@ -71,63 +74,70 @@ impl Case<'_> {
     fn replay_writer(self, list: &mut Bytes) -> Replayed {
         let answers = *list;
         list.accepts(&[0; 11]);
-        let mut space = [0; TEXT];
+        let mut want = [MARK; TEXT];
+        let len = list.text(&mut want).len().min(TEXT - 1);
         let writing = Writing {
             case: self,
             answers,
-            want: list.text(&mut space),
+            want: &want,
+            len,
         };
         let Some(fields) = self.fields() else {
-            let none: &[usize] = &[];
-            return writing.replay(none);
+            let (text, pairs): (&[u8], &[usize]) = (&[], &[]);
+            return writing.replay(Contents { text, pairs });
         };
+        if self.operation >= RECORDS {
+            return writing.replay(fields.over_records());
+        }
         let mut lengths = [0; LENGTHS];
-        let mut all = writing.replay(fields.lengths(&mut lengths));
+        let mut all = writing.replay(fields.over_lengths(&mut lengths));
         if fields.are_pairs() {
-            all.add(writing.replay(fields.records()));
+            all.add(writing.replay(fields.over_records()));
         }
         all
     }
 }
 
-// A writer's case, the answers that it accepts, and what it has to write.
+// A writer's case, the answers that it accepts, the output as it has to be left, and how many of its bytes are written.
 #[derive(Clone, Copy)]
 struct Writing<'a> {
     case: Case<'a>,
     answers: Bytes<'a>,
     want: &'a [u8],
+    len: usize,
 }
 
 impl Writing<'_> {
     // A case that is accepted gets an output exactly long enough, one longer and one too short; a
     // refused one gets none and some.
-    fn replay<P: PairList + Copy>(self, pairs: P) -> Replayed {
-        match self.want.len() {
-            0 => self.replay_at(pairs, &[0, 64]),
-            len => self.replay_at(pairs, &[len, len + 1, len - 1]),
+    fn replay<P: PairList + Copy>(self, contents: Contents<P>) -> Replayed {
+        match self.len {
+            0 => self.replay_at(contents, &[0, 64]),
+            len => self.replay_at(contents, &[len, len.saturating_add(1), len - 1]),
         }
     }
 
-    fn replay_at<P: PairList + Copy>(self, pairs: P, sizes: &[usize]) -> Replayed {
+    fn replay_at<P: PairList + Copy>(self, contents: Contents<P>, sizes: &[usize]) -> Replayed {
+        // Apart, since a closure may copy no struct of a type parameter.
+        let Contents { text, pairs } = contents;
         Replayed {
             comparisons: sizes.len(),
-            same: sizes.iter().all(|size| self.is_right(pairs, *size)),
+            same: sizes
+                .iter()
+                .all(|size| self.is_right(Contents { text, pairs }, *size)),
         }
     }
 
     // One call with an output of `size` bytes; some behind them are compared too.
-    fn is_right<P: PairList + Copy>(mut self, pairs: P, size: usize) -> bool {
+    fn is_right<P: PairList + Copy>(mut self, contents: Contents<P>, size: usize) -> bool {
         let mut out = [MARK; TEXT];
         let lent = &mut out[..size.min(TEXT)];
-        let got = self.case.write(pairs, lent);
-        let seen = front(&out, size.saturating_add(BEHIND));
-        if size < self.want.len() {
+        let got = self.case.write(contents, lent);
+        let end = size.saturating_add(BEHIND);
+        if size < self.len {
             let short = refused(WbmpError::new(Refusal::OutputTooShort, 0));
-            return got == short && is_marked(seen, MARK);
+            return is_same(&got, &short) && is_same(front(&out, end), front(&[MARK; TEXT], end));
         }
-        let len = self.want.len();
-        self.answers.accepts(&got)
-            && front(seen, len) == self.want
-            && is_marked(behind(seen, len), MARK)
+        self.answers.accepts(&got) && is_same(front(&out, end), front(self.want, end))
     }
 }

@@ -1,7 +1,7 @@
 // Whole writing and making.
 use crate::answer::Answer;
 use crate::bytes::Bytes;
-use crate::fields::Fields;
+use crate::fields::{Contents, Fields};
 use crate::planes::format_of;
 use crate::scans::judged;
 use crate::work::{DIRT, WORK};
@@ -9,6 +9,9 @@ use error::Result;
 use ext_write::PairList;
 use image::PixelFormat;
 use options::{EncodeOptions, Quantize};
+
+// The most lengths of a card's fields.
+const LENGTHS: usize = 64;
 
 // A case's input: 1 for strict, the format or the kind of rule, width, height and count in four
 // bytes each, the stride in eight or the rule's number, the length of the work buffer and six
@@ -38,7 +41,8 @@ impl<'a> Card<'a> {
         let [number, work_len, ..] = stride;
         let size = input.short();
         let body = input.take(size);
-        let fields = Fields::read(input);
+        let mut fields = Fields::read(input);
+        fields.most = LENGTHS;
         Card {
             options: options_of(strict, rule_of(kind, number), fields),
             format: format_of(kind),
@@ -78,7 +82,11 @@ pub(crate) fn used(rule: Quantize, width: u32) -> usize {
     }
 }
 
-pub(crate) fn images<P: PairList + Copy>(c: Card, pairs: P, out: &mut [u8]) -> Result<usize> {
+pub(crate) fn images<P: PairList + Copy>(
+    c: Card,
+    contents: Contents<P>,
+    out: &mut [u8],
+) -> Result<usize> {
     encoder::encode_images(
         c.width,
         c.height,
@@ -87,13 +95,13 @@ pub(crate) fn images<P: PairList + Copy>(c: Card, pairs: P, out: &mut [u8]) -> R
         c.stride,
         c.format,
         c.options,
-        c.fields.text,
-        pairs,
+        contents.text,
+        contents.pairs,
         out,
     )
 }
 
-pub(crate) fn gray<P: PairList + Copy>(c: Card, pairs: P, out: &mut [u8]) -> Answer {
+pub(crate) fn gray<P: PairList + Copy>(c: Card, contents: Contents<P>, out: &mut [u8]) -> Answer {
     let mut work = [DIRT; WORK];
     let lent = &mut work[..usize::from(c.work_len)];
     let answer = encoder::encode_gray8(
@@ -102,8 +110,8 @@ pub(crate) fn gray<P: PairList + Copy>(c: Card, pairs: P, out: &mut [u8]) -> Ans
         c.count,
         c.body,
         c.options,
-        c.fields.text,
-        pairs,
+        contents.text,
+        contents.pairs,
         lent,
         out,
     );

@@ -1,6 +1,6 @@
 // Fields that a case's input holds to be written: their kind, how many lengths in two bytes, the
 // lengths, a byte each, and the text. The lengths of at most eight pairs can be told as records too.
-use crate::bytes::{Bytes, front};
+use crate::bytes::{Bytes, behind, front};
 use by_value::Records;
 use ext::{ExtFieldType, FixHeaderField};
 use ext_write::Parameter;
@@ -12,8 +12,17 @@ pub(crate) const LENGTHS: usize = 4096;
 #[derive(Clone, Copy)]
 pub(crate) struct Fields<'a> {
     pub kind: Option<ExtFieldType>,
-    lengths: &'a [u8],
+    count: usize,
+    // Of more lengths those behind are text, where they are not told as records.
+    pub most: usize,
+    rest: &'a [u8],
+}
+
+// What a writer writes of fields: the text, and the lengths in one of their forms.
+#[derive(Clone, Copy)]
+pub(crate) struct Contents<'a, P> {
     pub text: &'a [u8],
+    pub pairs: P,
 }
 
 impl<'a> Fields<'a> {
@@ -22,39 +31,49 @@ impl<'a> Fields<'a> {
         let count = input.short();
         Fields {
             kind,
-            lengths: input.take(count),
-            text: input.rest,
+            count,
+            most: LENGTHS,
+            rest: input.rest,
         }
     }
 
-    // The lengths, each widened, at the front of `space`.
-    pub(crate) fn lengths(self, space: &mut [usize; LENGTHS]) -> &[usize] {
-        for (to, from) in space.iter_mut().zip(self.lengths) {
+    // Over the lengths, each widened, at the front of `space`.
+    pub(crate) fn over_lengths<'b>(
+        self,
+        space: &'b mut [usize; LENGTHS],
+    ) -> Contents<'a, &'b [usize]> {
+        let lengths = front(self.rest, self.count.min(self.most));
+        for (to, from) in space.iter_mut().zip(lengths) {
             *to = usize::from(*from);
         }
-        front(space, self.lengths.len())
+        Contents {
+            text: behind(self.rest, lengths.len()),
+            pairs: front(space, lengths.len()),
+        }
     }
 
     // Whether they can be told as records.
     pub(crate) fn are_pairs(self) -> bool {
-        self.lengths.len() <= 16 && self.lengths.len() % 2 == 0
+        self.count <= 16 && self.count % 2 == 0
     }
 
-    // Eight records, of which the pairs count; behind them stand some made of the text.
-    pub(crate) fn records(self) -> Records {
-        let bytes = self.lengths.iter().chain(self.text);
-        let mut lengths = bytes.map(|b| usize::from(*b));
-        Records {
-            list: array::from_fn(|_| Parameter {
-                identifier_len: lengths.next().unwrap_or(0),
-                value_len: lengths.next().unwrap_or(0),
-            }),
-            pairs: self.lengths.len() / 2,
+    // Over eight records, of which the pairs count; behind them stand some made of the text.
+    pub(crate) fn over_records(self) -> Contents<'a, Records> {
+        let mut lengths = self.rest.iter().map(|b| usize::from(*b));
+        Contents {
+            text: behind(self.rest, self.count),
+            pairs: Records {
+                list: array::from_fn(|_| Parameter {
+                    identifier_len: lengths.next().unwrap_or(0),
+                    value_len: lengths.next().unwrap_or(0),
+                }),
+                pairs: self.count / 2,
+            },
         }
     }
 }
 
-// Bits 6-5 of a FixHeader byte; 4 stands for no fields. No From: both types belong to other crates.
+// Bits 6-5 of a FixHeader byte, both set from 3 on; 4 stands for no fields. No From: both types belong to other crates.
 fn kind_of(number: u8) -> Option<ExtFieldType> {
-    (number != 4).then_some(FixHeaderField::from_byte(number << 5).ext_type)
+    (number != 4).then_some(FixHeaderField::from_byte(number.min(3) << 5).ext_type)
 }

@@ -1,5 +1,5 @@
 // Replaying the parts of groups that a block holds.
-use crate::bytes::{Bytes, behind};
+use crate::bytes::Bytes;
 use crate::report;
 use crate::tally::Tally;
 use std::io;
@@ -13,17 +13,19 @@ pub(crate) struct Group<'a, R> {
     pub tally: &'a mut Tally,
 }
 
-// Every part in the block, after its first line, up to a zero.
-pub(crate) fn replay_all(rt: &impl Print, block: &[u8], tally: &mut Tally) -> io::Result<()> {
+// Every part in the block, after its first line, up to a zero. The answer is whether it ends behind the block's start.
+pub(crate) fn replay_all(rt: &impl Print, block: &[u8], tally: &mut Tally) -> io::Result<bool> {
     let line = block.iter().take_while(|b| **b != b'\n').count();
-    let mut list = Bytes::new(behind(behind(block, line), 1));
+    let mut list = Bytes::new(block);
+    list.take(line);
+    list.take(1);
     for _ in 0..256 {
         if matches!(list.rest.first(), None | Some(0)) {
             break;
         }
         replay_part(rt, &mut list, tally)?;
     }
-    Ok(())
+    Ok(list.rest.len() < block.len())
 }
 
 // A part: the group's name, its operation, whether the group ends with it, and its sweeps. At a group's end its count is printed.

@@ -1,5 +1,6 @@
 // Reading a block of the list, whose form tools/oracle/src/list.rs tells.
-use crate::bytes::Bytes;
+use crate::bytes::{Bytes, is_same};
+use std::iter;
 
 // The longest text.
 pub(crate) const TEXT: usize = 8192;
@@ -14,15 +15,18 @@ impl Bytes<'_> {
         (high << 7) | usize::from(self.byte())
     }
 
-    // How many entries follow, each of a byte or more: no more than there are bytes.
+    // How many entries follow, each of a byte or more: no more than the block has bytes.
     pub(crate) fn count(&mut self) -> usize {
-        self.number().min(self.rest.len())
+        self.number().min(self.whole.len())
     }
 
     // A text, its parts repeated, which is put to the front of `space`. Where it does not fit, nothing is left of the list.
     pub(crate) fn text<'b>(&mut self, space: &'b mut [u8]) -> &'b mut [u8] {
         let mut len = 0;
         for _ in 0..self.count() {
+            if self.rest.is_empty() {
+                break;
+            }
             len = self.part(space, len);
         }
         let end = len.min(space.len());
@@ -30,28 +34,29 @@ impl Bytes<'_> {
     }
 
     // Puts a part behind the first `from` bytes, and says where it ends. Not into the rest of the space: a text is the front of the whole.
+    // The part's last repetition may be cut.
     fn part(&mut self, out: &mut [u8], from: usize) -> usize {
         let times = self.number();
         let size = self.number();
-        let part = self.take(size);
-        let len = part.len().saturating_mul(times);
+        let part = self.take(size).iter().copied();
+        let len = size.saturating_mul(times);
         let from = from.min(out.len());
-        let end = from.saturating_add(len);
         // Not in chunks by copy_from_slice: tried, and that the last one is no longer than the part was not proved.
-        let bytes = part.iter().cycle().take(len);
+        let bytes = part.chain(iter::repeat(0)).take(size).cycle().take(len);
         for (to, byte) in out[from..].iter_mut().zip(bytes) {
-            *to = *byte;
+            *to = byte;
         }
-        if end > out.len() {
+        let last = from.saturating_add(size.saturating_mul(times.saturating_sub(1)));
+        if times > out.len() || times > 0 && last >= out.len() {
             self.rest = &[];
         }
-        end.min(out.len())
+        from.saturating_add(len).min(out.len())
     }
 
     // Whether the next text is `bytes`.
     pub(crate) fn is_text(&mut self, bytes: &[u8]) -> bool {
         let mut space = [0; TEXT];
-        let text: &[u8] = self.text(&mut space);
-        text == bytes
+        let text = self.text(&mut space);
+        is_same(text, bytes)
     }
 }

@@ -2,6 +2,8 @@
 // comparisons it made; a wrong answer prints its case, and the last line how many were wrong.
 #![tactic(auto)]
 
+ghost use Rattle.std.specs.Prelude.{◌≤◌, length, IfOk};
+
 mod answer;
 mod bytes;
 mod card;
@@ -34,10 +36,9 @@ fn main(rt: HostRuntime) -> io::Result<()> {
     let mut block = [0; 65536];
     for _ in 0..65537 {
         let read = read_full(&mut input, &mut block)?;
-        if read.is_empty() {
+        if !group::replay_all(&rt, read, &mut tally)? {
             break;
         }
-        group::replay_all(&rt, read, &mut tally)?;
     }
     tally.end_group();
     report::count(&rt, b"all", tally.all)?;
@@ -46,7 +47,9 @@ fn main(rt: HostRuntime) -> io::Result<()> {
 
 // Reads until `buf` is full or the input ends, and gives what it read. A turn takes as many as come, so no iterator fits. cardinfo has this
 // loop too, where a read that fails looks like the end: a library of one loop, and of both ways to end it, is no plainer.
-fn read_full<'a>(input: &mut impl Read, buf: &'a mut [u8]) -> io::Result<&'a [u8]> {
+fn read_full<'a>(input: &mut impl Read, buf: &'a mut [u8]) -> io::Result<&'a [u8]>
+    ensures { IfOk result (λ read. length read.now ≤ length buf.old) }
+{
     let mut done = 0;
     while done < buf.len() {
         let n = input.read(&mut buf[done..])?;

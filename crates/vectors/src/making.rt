@@ -1,11 +1,11 @@
 // Lists of calls on a making session.
 use crate::answer::{Answer, numbers, written};
-use crate::bytes::{Bytes, front};
+use crate::bytes::{Bytes, behind, front};
 use crate::case::Replayed;
 use crate::encoders::{options_of, rule_of, used};
-use crate::fields::{Fields, LENGTHS};
+use crate::fields::{Contents, Fields, LENGTHS};
 use crate::list::TEXT;
-use crate::stages::{Letter, Session, is_marked, next_to, opens, run_stages};
+use crate::stages::{Letter, Session, is_marked, opens, run_stages};
 use crate::work::{DIRT, WORK, unaltered_from};
 use encode_session::EncodeSession;
 use ext_write::PairList;
@@ -59,30 +59,35 @@ impl<'a> Making<'a> {
     pub(crate) fn run_lists(self, list: &mut Bytes, out: &mut [u8]) -> Replayed {
         let mut again = *list;
         let mut space = [0; LENGTHS];
-        let mut all = self.run_list(self.fields.lengths(&mut space), list, out);
+        let mut all = self.run_list(self.fields.over_lengths(&mut space), list, out);
         if self.fields.are_pairs() {
             let mut other = [self.mark; TEXT];
-            all.add(self.run_list(self.fields.records(), &mut again, &mut other));
+            all.add(self.run_list(self.fields.over_records(), &mut again, &mut other));
         }
         all
     }
 
-    fn run_list<P: PairList + Copy>(self, pairs: P, list: &mut Bytes, out: &mut [u8]) -> Replayed {
+    fn run_list<P: PairList + Copy>(
+        self,
+        contents: Contents<P>,
+        list: &mut Bytes,
+        out: &mut [u8],
+    ) -> Replayed {
         let work = [DIRT; WORK];
         let head = self.head_len.min(out.len());
         let (session, answer) = EncodeSession::open(
             self.width,
             self.height,
             self.options,
-            self.fields.text,
-            pairs,
+            contents.text,
+            contents.pairs,
             front(&work, self.work_len),
             &mut out[..head],
         );
         let right = opens(list, &written(answer), front(out, head));
         let mut all = Replayed {
             comparisons: 1,
-            same: right && is_marked(next_to(out, head), self.mark),
+            same: right && is_marked(behind(out, head), self.mark),
         };
         let mut maker = Maker {
             card: self,
@@ -132,8 +137,14 @@ impl<'a> Session for Maker<'a> {
         unaltered_from(&self.work, &kept, altered).then_some(made)
     }
 
-    fn buffer(&self) -> &[u8] {
-        &[]
+    // It has none: any text will do.
+    fn is_buffer(&self, list: &mut Bytes) -> bool {
+        list.is_text(&[]);
+        true
+    }
+
+    fn leaves_open(&self, letter: Letter) -> bool {
+        letter.dots_open
     }
 
     // 1 where it is closed, and how many frames are done.

@@ -111,8 +111,12 @@ impl<'a> Session for Reader<'a> {
         ))
     }
 
-    fn buffer(&self) -> &[u8] {
-        &self.buffer
+    fn is_buffer(&self, list: &mut Bytes) -> bool {
+        list.is_text(&self.buffer)
+    }
+
+    fn leaves_open(&self, _letter: Letter) -> bool {
+        false
     }
 
     // 1 where it is closed, how many frames are done, 1 where its fields are known, and these.

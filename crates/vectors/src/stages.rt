@@ -2,7 +2,7 @@
 // numbers and these, the texts of its output and of the extension buffer, and the number of those
 // that can then be asked and these.
 use crate::answer::Answer;
-use crate::bytes::{Bytes, behind, front};
+use crate::bytes::{Bytes, behind, front, is_same};
 use crate::case::Replayed;
 use crate::work::foreign;
 
@@ -26,8 +26,11 @@ pub(crate) trait Session {
         answers: &mut [usize],
     ) -> Option<usize>;
 
-    // The extension buffer.
-    fn buffer(&self) -> &[u8];
+    // Whether the extension buffer is as the block has it.
+    fn is_buffer(&self, list: &mut Bytes) -> bool;
+
+    // Whether a stage's output need not be as the block has it.
+    fn leaves_open(&self, letter: Letter) -> bool;
 
     // What can be asked of it.
     fn asked(&self) -> Answer;
@@ -37,11 +40,11 @@ pub(crate) trait Session {
 }
 
 // What a stage's letter says: what somebody else first writes to the work buffer, whether the dots of the output are left open, and whether
-// the calls may alter none of the work.
+// the calls may alter none of the work. It says none of this to a reading.
 #[derive(Clone, Copy)]
 pub(crate) struct Letter {
     pub foreign: Option<i16>,
-    dots_open: bool,
+    pub dots_open: bool,
     pub work_kept: bool,
 }
 
@@ -57,8 +60,7 @@ impl Letter {
 }
 
 // In the input a stage is a letter, the length of its output and its number of calls in two bytes
-// each, and the calls, five numbers of two bytes each. The number is what the list says: where so
-// many are not there, the stage is wrong.
+// each, and the calls, five numbers of two bytes each.
 #[derive(Clone, Copy)]
 struct Stage<'a> {
     letter: Letter,
@@ -82,7 +84,7 @@ impl<'a> Stage<'a> {
 
     // The numbers of the calls, which are put to the front of `space`.
     fn numbers(mut self, space: &mut [usize; NUMBERS]) -> &[usize] {
-        let count = self.calls.rest.len() / 2;
+        let count = self.count.saturating_mul(5);
         for to in space.iter_mut().take(count) {
             *to = self.calls.short();
         }
@@ -116,8 +118,8 @@ pub(crate) fn run_stages<S: Session>(
     all
 }
 
-// Whether all calls are made, the answers are as the block has them, each byte of the stage's output unless its letter leaves the dots
-// open, those behind it, the extension buffer, and what can be asked of the session.
+// Whether all calls are made, the answers are as the block has them, each byte of the stage's output unless it is left open, those behind
+// it, the extension buffer, and what can be asked of the session.
 fn run_stage<S: Session>(session: &mut S, list: &mut Bytes, stage: Stage, out: &mut [u8]) -> bool {
     let mut space = [0; NUMBERS];
     let mut answers = [0; ANSWERS];
@@ -125,25 +127,21 @@ fn run_stage<S: Session>(session: &mut S, list: &mut Bytes, stage: Stage, out: &
     let size = stage.size.min(out.len());
     let made = session.run(stage.letter, calls, &mut out[..size], &mut answers);
     let told = list.is_answer(&answers);
-    let dots = list.is_text(front(out, size)) || stage.letter.dots_open;
-    let buffer = list.is_text(session.buffer());
+    let dots = list.is_text(front(out, size)) || session.leaves_open(stage.letter);
+    let buffer = session.is_buffer(list);
     let state = list.is_answer(&session.asked());
     made == Some(stage.count)
         && told
         && dots
         && buffer
         && state
-        && is_marked(next_to(out, size), session.mark())
+        && is_marked(behind(out, size), session.mark())
 }
 
-// Whether all bytes are the mark.
+// Whether the bytes behind an output, as many as are compared, are all the mark.
 pub(crate) fn is_marked(bytes: &[u8], mark: u8) -> bool {
-    bytes.iter().all(|byte| *byte == mark)
-}
-
-// The bytes behind the first `size`, as many as are compared.
-pub(crate) fn next_to(out: &[u8], size: usize) -> &[u8] {
-    front(behind(out, size), BEHIND)
+    let seen = front(bytes, BEHIND);
+    is_same(seen, front(&[mark; BEHIND], seen.len()))
 }
 
 // Whether the answer of an opening and what it wrote are as the block has them.

@@ -10,11 +10,12 @@ use std::io;
 // The most cases of a sweep.
 const CASES: usize = 1048576;
 
-// Where the digits of a sweep's inputs start and how many there are, its alphabet, and its cases.
+// Where the digits of a sweep's inputs start and how many there are, its alphabet and how many letters this has, and its cases.
 #[derive(Clone, Copy)]
 struct Plan<'a> {
     at: usize,
     digits: usize,
+    count: usize,
     letters: &'a [u8],
     cases: usize,
 }
@@ -24,11 +25,12 @@ impl<'a> Plan<'a> {
     fn read(list: &mut Bytes<'a>) -> Option<Plan<'a>> {
         let at = list.number();
         let digits = list.number().min(TEXT);
-        let letters = list.number();
+        let count = list.number();
         let plan = Plan {
             at,
             digits,
-            letters: list.take(letters),
+            count,
+            letters: list.take(count),
             cases: list.number(),
         };
         let strings = plan.radix().checked_pow(digits as u32);
@@ -39,26 +41,25 @@ impl<'a> Plan<'a> {
     fn radix(self) -> usize
         ensures { 0 < result }
     {
-        if self.letters.is_empty() {
-            256
-        } else {
-            self.letters.len()
-        }
+        if self.count == 0 { 256 } else { self.count }
     }
 
-    // Puts the digits of the case over the input, the most significant first.
+    // Zeros stand past the alphabet's end.
+    fn letter(self, digit: usize) -> u8 {
+        if self.count == 0 {
+            return (digit % 256) as u8;
+        }
+        self.letters.get(digit).copied().unwrap_or(0)
+    }
+
+    // Puts the digits of the case over the input, the most significant first; past its end none are put.
     fn spell(self, case: usize, input: &mut [u8]) {
         let radix = self.radix();
         let mut rest = case;
-        let at = self.at.min(input.len());
-        let end = at.saturating_add(self.digits).min(input.len());
-        for to in input[at..end].iter_mut().rev() {
-            let digit = rest % radix;
-            *to = self
-                .letters
-                .get(digit)
-                .copied()
-                .unwrap_or((digit % 256) as u8);
+        for i in (0..self.digits).rev() {
+            if let Some(to) = input.get_mut(self.at.wrapping_add(i)) {
+                *to = self.letter(rest % radix);
+            }
             rest /= radix;
         }
     }

@@ -1,5 +1,5 @@
 // Work buffers: what others leave in them, and what a call has to leave alone.
-use crate::bytes::behind;
+use crate::bytes::{behind, is_same};
 
 // The longest work buffer, and what one holds at first.
 pub(crate) const WORK: usize = 256;
@@ -22,5 +22,5 @@ pub(crate) fn foreign(letter: u8) -> Option<i16> {
 
 // Whether the numbers from `start` on are as they were.
 pub(crate) fn unaltered_from(work: &[i16; WORK], kept: &[i16; WORK], start: usize) -> bool {
-    behind(work, start) == behind(kept, start)
+    is_same(behind(work, start), behind(kept, start))
 }

@@ -3,7 +3,7 @@ use crate::answer::{Answer, written};
 use crate::bytes::Bytes;
 use crate::case::Case;
 use crate::encoders::Card;
-use crate::fields::Fields;
+use crate::fields::{Contents, Fields};
 use crate::{encoders, files, planes, scans};
 use error::Result;
 use ext::ExtFieldType;
@@ -14,34 +14,34 @@ impl<'a> Case<'a> {
     pub(crate) fn fields(self) -> Option<Fields<'a>> {
         let mut input = self.input;
         match self.operation {
-            33 | 34 => Some(Fields::read(input)),
-            36 | 37 => {
+            33 | 34 | 49 | 50 => Some(Fields::read(input)),
+            36 | 37 | 52 | 53 => {
                 input.take(8);
                 Some(Fields::read(input))
             }
-            44 | 45 => Some(Card::read(input).fields),
+            44..=63 => Some(Card::read(input).fields),
             _ => None,
         }
     }
 
-    // The pairs are those of its fields. By its number, as in case.rt.
-    pub(crate) fn write<P: PairList + Copy>(self, pairs: P, out: &mut [u8]) -> Answer {
+    // The contents are those of its fields. By its number, as in case.rt.
+    pub(crate) fn write<P: PairList + Copy>(self, contents: Contents<P>, out: &mut [u8]) -> Answer {
         let input = self.input;
         match self.operation {
             32 => written(integer(input, out)),
-            33 => written(fields(input, pairs, false, out)),
-            34 => written(fields(input, pairs, true, out)),
+            33 | 49 => written(fields(input, contents, false, out)),
+            34 | 50 => written(fields(input, contents, true, out)),
             35 => written(header(input, out)),
-            36 => written(with_fields(input, pairs, false, out)),
-            37 => written(with_fields(input, pairs, true, out)),
+            36 | 52 => written(with_fields(input, contents, false, out)),
+            37 | 53 => written(with_fields(input, contents, true, out)),
             38 => written(planes::wire(input, out)),
             39 => written(scans::threshold(input, out)),
             40 => scans::dither(input, out),
             41 => written(scans::ordered(input, out)),
             42 => files::decode(input, false, out),
             43 => files::decode(input, true, out),
-            44 => written(encoders::images(Card::read(input), pairs, out)),
-            _ => encoders::gray(Card::read(input), pairs, out),
+            44 | 60 => written(encoders::images(Card::read(input), contents, out)),
+            _ => encoders::gray(Card::read(input), contents, out),
         }
     }
 }
@@ -59,28 +59,29 @@ fn header(mut input: Bytes, out: &mut [u8]) -> Result<usize> {
 // The list has a kind for these: only a header may be without. The cases test both functions.
 fn fields<P: PairList + Copy>(
     input: Bytes,
-    pairs: P,
+    contents: Contents<P>,
     strict: bool,
     out: &mut [u8],
 ) -> Result<usize> {
     let f = Fields::read(input);
     let kind = f.kind.unwrap_or(ExtFieldType::ParameterPairs11);
     if strict {
-        ext_write::write_ext_fields_strict(kind, f.text, pairs, out)
+        ext_write::write_ext_fields_strict(kind, contents.text, contents.pairs, out)
     } else {
-        ext_write::write_ext_fields(kind, f.text, pairs, out)
+        ext_write::write_ext_fields(kind, contents.text, contents.pairs, out)
     }
 }
 
 // Width and height, then as for the fields alone.
 fn with_fields<P: PairList + Copy>(
     mut input: Bytes,
-    pairs: P,
+    contents: Contents<P>,
     strict: bool,
     out: &mut [u8],
 ) -> Result<usize> {
     let width = input.long();
     let height = input.long();
     let f = Fields::read(input);
-    header::write_header_ext(width, height, f.kind, f.text, pairs, strict, out)
+    let Contents { text, pairs } = contents;
+    header::write_header_ext(width, height, f.kind, text, pairs, strict, out)
 }
