@@ -32,7 +32,7 @@ module _ (gray : List ℕ) (work : List ℤ) (out' : List ℕ) where
   -- ---- where the row begins
 
   pub begun-plain : (level r : Bool) (out : List ℕ) → level ≡ true → r ≡ true → length out ≡ row_bytes (length gray)
-      → PlainRow gray out r out' → RowBegun level gray work true out' work
+      → PlainRow (length gray) gray out r out' → RowBegun level gray work true out' work
   begun-plain level r out d t n p =
       record {
         beyond = refl;

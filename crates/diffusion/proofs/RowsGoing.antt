@@ -39,12 +39,13 @@ module _ {w h : ℕ} {gray out₀ out : List ℕ} {at to y : ℕ} (lent : PlaneL
   room-is : length room ≡ row_bytes w
   room-is = let a = row_fits lent i l in let b = mid_len to (to + row_bytes w) out (omega arith) in omega arith
 
-  pub plain_more : ((n : ℕ) → get_or gray n 0 < 256) → r ≡ true → PlainRow (piece gray at w) (mid_of to (to + row_bytes w - to) out) r new
+  pub plain_more : ((n : ℕ) → get_or gray n 0 < 256) → r ≡ true → PlainRow w (piece gray at w) (mid_of to (to + row_bytes w - to) out) r new
       → RowsAt w h gray out₀ (λ x. none) (put_mid to (to + row_bytes w - to) out new) (at + w) (to + row_bytes w) (y + 1)
   plain_more bytes e p =
+      let q = subst (λ (n : ℕ). PlainRow n row room r new) (sym row_is) p in
       let a : length room ≡ row_bytes (length row) = room-is ∙ ap row_bytes (sym row_is) in
-      let b = row-alone (length row) (threshold_bit 128 row) room new a (row_written p e) in
-      row_next lent i l bytes true [] refl true new [] (next-plain row [] new (row-bytes lent i l bytes) [] (row_plain p e) b refl)
+      let b = row-alone (length row) (threshold_bit 128 row) room new a (row_written q e) in
+      row_next lent i l bytes true [] refl true new [] (next-plain row [] new (row-bytes lent i l bytes) [] (row_plain q e) b refl)
 
   pub plain_end : length new ≡ length (mid_of to (to + row_bytes w - to) out)
       → PlainRows w h gray out₀ y (put_mid to (to + row_bytes w - to) out new)

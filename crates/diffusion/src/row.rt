@@ -76,14 +76,13 @@ fn are_level(sums: &[i16]) -> bool
     level
 }
 
-// The byte of eight samples that are black and white and to which nothing is handed, neither on the right nor by these sums; none for
-// others.
+// The byte of the first eight samples, which are black and white and to which nothing is handed, neither on the right nor by these sums;
+// none for others.
 fn level_byte(right: u32, gray: &[u8], sums: &[i16]) -> Option<u8>
-    requires { length gray.now ≡ 8 }
     ensures { IfSome result (λ byte. LevelByte right gray.now sums.now byte) }
 {
     let mut byte = [0u8; 1];
-    if right == NONE_7 && are_level(sums) && plain_row(gray, &mut byte) {
+    if right == NONE_7 && are_level(sums) && plain_row(8, gray, &mut byte) {
         return Some(byte[0]);
     }
     None

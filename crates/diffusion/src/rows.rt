@@ -18,7 +18,7 @@ fn begin_row(level: bool, gray: &[u8], work: &mut [i16], out: &mut [u8]) -> bool
     if !level {
         return false;
     }
-    if plain_row(gray, out) {
+    if plain_row(gray.len(), gray, out) {
         return true;
     }
     work[..gray.len()].fill(LEVEL_SUM as i16);
@@ -76,7 +76,11 @@ pub(crate) fn plain_rows(layout: PlaneLayout, gray: &[u8], out: &mut [u8]) -> us
     for y in 0..height {
         let at = y * width;
         let to = y * layout.stride;
-        if !plain_row(&gray[at..at + width], &mut out[to..to + layout.stride]) {
+        if !plain_row(
+            width,
+            &gray[at..at + width],
+            &mut out[to..to + layout.stride],
+        ) {
             return y;
         }
     }

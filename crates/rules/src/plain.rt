@@ -25,17 +25,16 @@ fn few(gray: &[u8]) -> u64
     samples
 }
 
-// Whether there is room for the row of these samples, and they are black and white alone. Its bytes are written up to the first that has
-// a gray sample.
-pub fn plain_row(gray: &[u8], out: &mut [u8]) -> bool
-    ensures { PlainRow gray.now out.old result out.new }
+// Whether the first `width` samples are there, with room for their row, and black and white alone. The row's bytes are written up to the
+// first that has a gray sample.
+pub fn plain_row(width: usize, gray: &[u8], out: &mut [u8]) -> bool
+    ensures { PlainRow width gray.now out.old result out.new }
 {
-    let width = gray.len();
-    if out.len() < (width + 7) / 8 {
+    if gray.len() < width || out.len() < (width + 7) / 8 {
         return false;
     }
     let count = width / 8;
-    // By index: the output may be longer than the row, and the samples need not be whole bytes.
+    // By index: the samples and the output may be longer than the row, and the row need not be whole bytes.
     for k in 0..count {
         let samples = word(gray, 8 * k);
         if !plain_word(samples) {
@@ -46,7 +45,7 @@ pub fn plain_row(gray: &[u8], out: &mut [u8]) -> bool
     if width % 8 == 0 {
         return true;
     }
-    let samples = few(&gray[8 * count..]);
+    let samples = few(&gray[8 * count..width]);
     if !plain_word(samples) {
         return false;
     }

@@ -1,5 +1,5 @@
 -- What the functions promise that write whole planes, or whole rows, at once.
-use Rattle.std.specs.Prelude.{ℕ, ◌+◌, ◌-◌, ◌*◌, ◌%◌, ◌/◌, ◌^◌, ◌≤◌, ◌≡◌, Bool, ◌&&◌, List, ◌++◌, eqb, leb, length, get_or, drop}
+use Rattle.std.specs.Prelude.{ℕ, ◌+◌, ◌-◌, ◌*◌, ◌%◌, ◌/◌, ◌^◌, ◌≤◌, ◌≡◌, Bool, ◌&&◌, List, ◌++◌, eqb, leb, ltb, length, get_or, drop}
 use Rattle.error.specs.Choice.{if}
 use Rattle.image.specs.Geometry.{row_bytes}
 use Rattle.image.specs.declared.PlaneLayout.{PlaneLayout}
@@ -38,13 +38,16 @@ scan_of w gray x y = get_or gray (y * w + x) 0
 abbrev pub dither_bit : ℕ → List ℕ → ℕ → ℕ
 dither_bit w gray n = bit (white (value_at rightwards w (scan_of w gray) (n % w) (n / w)))
 
--- how many bytes of a row, from the first on, have black and white samples alone, and 0 behind the last: none where room is missing
-abbrev pub plain_bytes : List ℕ → ℕ → ℕ
-plain_bytes gray room =
-    if (leb (row_bytes (length gray)) room) (plain_front (λ c. get_or gray c 0) (8 * row_bytes (length gray)) / 8) 0
+-- sample c of a row of w, and 0 behind its last
+abbrev pub row_sample : ℕ → List ℕ → ℕ → ℕ
+row_sample w gray c = if (ltb c w) (get_or gray c 0) 0
+
+-- how many bytes of a row of w, from the first on, have black and white samples alone: none where samples or room are missing
+abbrev pub plain_bytes : ℕ → List ℕ → ℕ → ℕ
+plain_bytes w gray room =
+    if (leb w (length gray) && leb (row_bytes w) room) (plain_front (row_sample w gray) (8 * row_bytes w) / 8) 0
 
 -- these bytes are written, white where a sample is white, and r says whether they are the whole row
-pub record PlainRow (gray out : List ℕ) (r : Bool) (out' : List ℕ) : Type 0 where
-  pub told : r ≡ eqb (plain_bytes gray (length out)) (row_bytes (length gray))
-  pub written : out'
-      ≡ upto (plain_bytes gray (length out)) (byte_at (length gray) (threshold_bit 128 gray)) ++ drop (plain_bytes gray (length out)) out
+pub record PlainRow (w : ℕ) (gray out : List ℕ) (r : Bool) (out' : List ℕ) : Type 0 where
+  pub told : r ≡ eqb (plain_bytes w gray (length out)) (row_bytes w)
+  pub written : out' ≡ upto (plain_bytes w gray (length out)) (byte_at w (threshold_bit 128 gray)) ++ drop (plain_bytes w gray (length out)) out
