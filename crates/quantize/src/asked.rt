@@ -9,7 +9,7 @@ use options::Quantize;
 use ordered::known_side;
 
 // Whether the rule's side is one of document 01's. A match: one arm alone has a side to ask of.
-pub(crate) fn known_rule(rule: Quantize) -> bool
+pub fn known_rule(rule: Quantize) -> bool
     ensures { result ≡ known_rule rule }
 {
     match rule {
@@ -19,7 +19,7 @@ pub(crate) fn known_rule(rule: Quantize) -> bool
 }
 
 // Whether a work buffer of so many numbers is long enough. A match, as in `known_rule`.
-pub(crate) fn enough_work(rule: Quantize, width: usize, work: usize) -> bool
+pub fn enough_work(rule: Quantize, width: usize, work: usize) -> bool
     ensures { result ≡ enough_work (rule_given (rule_named rule)) width work }
 {
     match rule {

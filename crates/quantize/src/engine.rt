@@ -1,6 +1,6 @@
 // The quantising engine, which making sessions run, and whole planes that are ordered, or tiny and gray.
 ghost use Rattle.std.specs.Prelude.{◌≡◌};
-ghost use Rattle.quantize.specs.Internal.Engine.{NewQuantizer, Runs, Tabled, frames_left, room_for, behind_frames};
+ghost use Rattle.quantize.specs.Internal.Engine.{NewQuantizer, Runs, Tabled, spot_of, frames_left, room_for, behind_frames};
 ghost use Rattle.quantize.specs.Internal.Turn.{CanTake};
 
 use crate::asked::{enough_work, known_rule};
@@ -19,6 +19,14 @@ pub struct Quantizer {
     pub(crate) width: usize,
     pub(crate) height: usize,
     place: Place,
+}
+
+// Where the next sample goes: how many frames are not full, and its row and column.
+#[derive(Clone, Copy)]
+pub struct Spot {
+    pub frames: usize,
+    pub row: usize,
+    pub column: usize,
 }
 
 // The ordered numbers of the rule's side, row by row, at the front.
@@ -93,6 +101,16 @@ impl Quantizer {
         }
         self.place = p;
         Fed { taken, written }
+    }
+
+    pub fn spot(self) -> Spot
+        ensures { result ≡ spot_of self }
+    {
+        Spot {
+            frames: self.place.frames,
+            row: self.place.row,
+            column: self.place.column,
+        }
     }
 
     // How many frames are not full.

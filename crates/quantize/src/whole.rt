@@ -1,5 +1,5 @@
 // Whole planes, one frame each: at once, or by the engine.
-ghost use Rattle.std.specs.Prelude.{◌≡◌, ◌≤◌, length};
+ghost use Rattle.std.specs.Prelude.{◌≡◌, true, ◌≤◌, length};
 ghost use Rattle.error.specs.Answer.{gives, checked, written};
 ghost use Rattle.options.specs.declared.Quantize.TheVariants.{Threshold, Dither, Ordered};
 ghost use Rattle.error.specs.Emits.{Emits};
@@ -49,7 +49,9 @@ fn engine_plane(
 const FEW_SAMPLES: usize = 16;
 
 // Whether there are few samples and a gray one among them.
-fn few_grays(samples: &[u8]) -> bool {
+fn few_grays(samples: &[u8]) -> bool
+    ensures { result ≡ true → length samples.now ≤ 16 }
+{
     samples.len() <= FEW_SAMPLES && samples.iter().any(|gray| *gray % 255 != 0)
 }
 

@@ -5,6 +5,7 @@ use Rattle.error.specs.Answer.{gives}
 use Rattle.error.specs.declared.Fed.{Fed}
 use Rattle.options.specs.declared.Quantize.{Quantize}
 use Rattle.quantize.specs.declared.engine.Quantizer.{Quantizer}
+use Rattle.quantize.specs.declared.engine.Spot.{Spot}
 use Rattle.rules.specs.Diffusion.{Direction, Scan, on_left, above, residual_at}
 use Rattle.rules.specs.Rule.{Rule, threshold, dither, ordered, rightwards, known_rule, carries, enough_work, rule_named, rule_given}
 use Rattle.quantize.specs.Internal.Turn.{Served, state_of, rule_of}
@@ -113,6 +114,10 @@ pub record Runs (q : Quantizer) (samples out : List ℕ) (work : List ℤ) (q' :
   pub counts : (s : Setting) (n : ℕ) → QuantizerAt q s n → Counts s n (length samples) (length out) (length work) q' r
   pub machine : (s : Setting) (n : ℕ) → QuantizerAt q s n → Machines q s n samples out work q' r out' work'
   pub defined : (s : Setting) (xs : List ℕ) → QuantizerAfter q work s xs → Defined s xs samples out q' r out' work'
+
+-- where the next sample goes
+abbrev pub spot_of : Quantizer → Spot
+spot_of q = record { frames = q.place.frames; row = q.place.row; column = q.place.column }
 
 -- how many frames are not full
 abbrev pub frames_left : Quantizer → ℕ
