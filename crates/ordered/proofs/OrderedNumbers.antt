@@ -100,6 +100,10 @@ cell-more side x y n q h p c l e = record { small = omega (arith, c.small, area-
 two-wide : Cell 2 1 0 2
 two-wide = cell-more 2 1 0 0 2 (λ e. omega arith) (omega arith) (cell-one 0 0) (omega arith) refl
 
+-- a number for a half of at most 4
+pub cell-small : (s x y n : ℕ) → s ≤ 4 → Cell s x y n → n < 16
+cell-small s x y n h c = omega (arith, c.small, mul-le-mul {n₁ = s} {m₁ = s} {n₂ = 4} {m₂ = 4} h h)
+
 -- ---- the table
 
 abbrev pub table : List ℕ
@@ -176,3 +180,9 @@ cell-front s t x y p = get_or-take (s * s) t (s * (y % s) + x % s) 0 (index-lt s
 
 pub area-le : (s : ℕ) → s ≤ 8 → s * s ≤ 64
 area-le s h = mul-le-mul {n₁ = s} {m₁ = s} {n₂ = 8} {m₂ = 8} h h
+
+-- a known side's index is within the table
+pub index-small : (s x y : ℕ) → known_side s ≡ true → s * (y % s) + x % s < 64
+index-small s x y h =
+    let k = known_small s h in
+    omega (arith, index-lt s x y k.0, area-le s k.1)

@@ -1,10 +1,10 @@
 -- Places in rows and frames: what one more run of samples does to the place and to the count of finished bytes.
 -- Assumes nothing.
 use Prim.Native.Nat.{ℕ, ◌+◌, ◌-◌, ◌*◌, ◌/◌, ◌%◌, ◌≤◌, ◌<◌}
-use mathlib.Core.Path.{◌≡◌, refl, ap, ◌∙◌}
+use mathlib.Core.Path.{◌≡◌, refl, sym, ap, ◌∙◌}
 use mathlib.Core.Logic.{◌⊎◌, ⊎_elim}
 use native.Mathlib.Nat.{mod-lt, div-add-mod', eq-or-lt_of_le}
-use native.Mathlib.Nat.{add-zero, add-mul, one-mul}
+use native.Mathlib.Nat.{add-zero, add-mul, one-mul, add_assoc}
 use native.Mathlib.Omega.{arith}
 use Rattle.image.specs.Geometry.{row_bytes}
 use Rattle.rules.specs.Rule.{Rule, threshold, dither, ordered}
@@ -140,6 +140,9 @@ module _ (s : Setting) (n frames row column : ℕ) (a : At s n frames row column
   pub frame-row-is : n / w % s.height ≡ row
   frame-row-is = rw row_is (mod-at s.height (s.frames - frames) row a.in_frame)
 
+  pub frame_is : n / w / s.height ≡ s.frames - frames
+  frame_is = rw row_is (div-at s.height (s.frames - frames) row a.in_frame)
+
   -- m samples more, in the same row
   module _ (m : ℕ) (left : 0 < frames) (h : column + m < w) where
     in_place : n + m ≡ q * w + (column + m)
@@ -148,3 +151,35 @@ module _ (s : Setting) (n frames row column : ℕ) (a : At s n frames row column
     pub at-inside : At s (n + m) frames row (column + m)
     at-inside =
         record { in_row = h; in_frame = a.in_frame; most = a.most; place = in_place; full = λ z. let f : ⊥ = omega arith in absurd f }
+
+  -- m samples more, to the row's end
+  module _ (m : ℕ) (left : 0 < frames) (h : column + m ≡ w) where
+    end-place : n + m ≡ (q + 1) * w + 0
+    end-place = let p = a.place in let e : n + m ≡ q * w + w = omega arith in e ∙ next_row w q
+
+    wide : 0 < w
+    wide = let i = a.in_row in omega arith
+
+    pub at_row : row + 1 < s.height → At s (n + m) frames (row + 1) 0
+    at_row k =
+        record {
+          in_row = wide;
+          in_frame = k;
+          most = a.most;
+          place = end-place ∙ ap (λ (t : ℕ). t * w + 0) (add_assoc ((s.frames - frames) * s.height) row 1);
+          full = λ z. let f : ⊥ = omega arith in absurd f;
+        }
+
+    pub at-frame : s.height ≤ row + 1 → At s (n + m) (frames - 1) 0 0
+    at-frame k =
+        let i = a.in_frame in
+        let b = a.most in
+        let g : s.frames - (frames - 1) ≡ s.frames - frames + 1 = omega arith in
+        let e : (s.frames - (frames - 1)) * s.height + 0 ≡ q + 1 = rw (g, add-mul, one-mul) (omega arith) in
+        record {
+          in_row = wide;
+          in_frame = omega arith;
+          most = omega arith;
+          place = end-place ∙ ap (λ (t : ℕ). t * w + 0) (sym e);
+          full = λ z. (refl, refl);
+        }
