@@ -103,7 +103,7 @@ pub(crate) fn more_fields(phase: FieldsPhase) -> Result<PhaseStep>
     more(Phase::InFields(phase))
 }
 
-// The bounds that the steps below ask are those of `Reachable`. Kept in the types they would have to hold of what a step makes, which only
+// The bounds that the steps below ask follow from `Reachable`. Kept in the types they would have to hold of what a step makes, which only
 // the whole phase tells.
 impl PartialInteger {
     pub(crate) fn start(at: usize) -> PartialInteger
