@@ -1,6 +1,6 @@
--- A stretch of a body that is inverted.
+-- A stretch of a body in each format.
 use Prim.Native.Nat.{ℕ, ◌+◌}
-use mathlib.Core.Path.{◌≡◌, sym, ap, ◌∙◌}
+use mathlib.Core.Path.{◌≡◌, refl, sym, ap, ◌∙◌, subst⁻¹}
 use mathlib.Core.List.{List, ◌++◌, append-nil}
 use native.Mathlib.Omega.{arith}
 use borrow.Author.Tests.{le-leb}
@@ -10,12 +10,15 @@ use lib.Seq.{drop-length, ext_get_or}
 use Rattle.error.specs.Answer.{Answer, gives}
 use Rattle.error.specs.Emits.{Emits}
 use Rattle.laws.proofs.Tests.{if-true}
-use Rattle.image.specs.Rows.{invert}
-use Rattle.image.specs.declared.PixelFormat.TheVariants.{MonoWhite}
+use Rattle.image.specs.Geometry.{row_bytes}
+use Rattle.image.specs.Rows.{invert, convert_format}
+use Rattle.image.specs.declared.PixelFormat.{PixelFormat}
+use Rattle.image.specs.declared.PixelFormat.TheVariants.{MonoBlack, MonoWhite}
+use Rattle.image.proofs.ConvertLoop.{unchanged}
 use Rattle.image.proofs.InvertedBytes.{invert-length, invert-at}
 use Rattle.body_pieces.specs.InFormat.{padded, body_from}
 use Rattle.image.specs.Internal.Parts.{Cleared}
-use Rattle.body_pieces.proofs.BodyBytes.{body-length, body_at}
+use Rattle.body_pieces.proofs.BodyBytes.{body-length, body_at, body-black}
 
 -- bytes that fill their output
 filled : (bytes old new : List ℕ) (r : Answer ℕ) → length bytes ≡ length old → Emits (gives bytes) r old new → new ≡ bytes
@@ -38,3 +41,10 @@ white-is w at xs old mid new r l i c =
     ∙ ap (λ (l : List ℕ). padded w (at + j) (get_or l j 0)) e
     ∙ ap (padded w (at + j)) (invert-at xs j (omega arith))
     ∙ sym (body_at MonoWhite w xs at j (omega arith)))
+
+-- bytes that are only copied
+pub black-is : (f : PixelFormat) (w at : ℕ) (xs old new : List ℕ) (r : Answer ℕ) → length xs ≡ length old
+    → Emits (gives (convert_format f f w 0 (row_bytes w) xs)) r old new → new ≡ body_from MonoBlack w at xs
+black-is f w at xs old new r n e =
+    filled xs old new r n (subst⁻¹ (λ (l : List ℕ). Emits (gives l) r old new) (unchanged f f w 0 (row_bytes w) xs refl) e)
+    ∙ body-black w xs at

@@ -43,9 +43,9 @@ fn check_planes(lent: Planes, bytes: usize) -> Result<()>
     Ok(())
 }
 
-// Planes that were tested, as a file has them, each in its own stretch of the lent output.
+// Planes that were tested, as a file has them, each in its own stretch of the lent output, which starts at index `start` of the file.
 // By index: after a loop over `chunks_exact_mut` nothing is known of `out`.
-fn write_planes(lent: Planes, planes: &[u8], out: &mut [u8])
+fn write_planes(lent: Planes, planes: &[u8], start: usize, out: &mut [u8])
     requires planes_value { check_planes made_frames lent.width lent.height lent.count lent.stride (length planes.now) ≡ gives tt }
     requires height_in_bounds { lent.count * plane_bytes lent.width lent.height ≤ length out.old }
     ensures { out.new
@@ -61,12 +61,13 @@ fn write_planes(lent: Planes, planes: &[u8], out: &mut [u8])
         let from = k * needed;
         let end = from + needed;
         let to = k * plane;
-        image::wire_bits(
+        image::wire_bits_at(
             &planes[from..end],
             width,
             height,
             stride,
             lent.format,
+            start % 16 + to % 16,
             &mut out[to..],
         )
         .unwrap();
@@ -88,7 +89,7 @@ fn begin_images(
     check_planes(lent, planes.len())?;
     let body = lent.count * PlaneLayout::new(lent.width, lent.height).total_bytes;
     let mut begun = begin_header_before(body, lent.width, lent.height, options, text, found, out)?;
-    write_planes(lent, planes, &mut out[begun.end..]);
+    write_planes(lent, planes, begun.end, &mut out[begun.end..]);
     begun.end += body;
     Ok(begun)
 }

@@ -1,8 +1,7 @@
 -- A run of bytes of extension fields that is taken and stored at once.
-use Rattle.std.proofs.Common.{◌≡◌, ℕ, ◌+◌, ◌-◌, ◌≤◌, true, ◌⊎◌, List, [], ◌++◌, length, take, drop, sym, refl, ap, ◌∙◌, subst, inl, inr, append_assoc, append-nil, arith, length-append, length-drop, length-take-le, take_all, take-add}
+use Rattle.std.proofs.Common.{◌≡◌, ℕ, ◌+◌, ◌-◌, ◌<◌, ◌≤◌, true, ◌⊎◌, List, [], ◌∷◌, ◌++◌, length, get_or, take, drop, set, sym, refl, ap, ◌∙◌, subst, inl, inr, append_assoc, append-nil, add-one, arith, length-append, length-drop, length-set, length-take-le, take_all, take-suc, take-add}
 use mathlib.Core.Path.{subst⁻¹}
-use borrow.Rule.Slice.PartMut.{put_mid, Post-is}
-use lib.Seq.{sets, sets-eq, drop-append-le}
+use lib.Seq.{sets, drop-append-le}
 use Rattle.laws.proofs.Tests.{zero_one}
 use Rattle.laws.proofs.Runs.{sets-append}
 use Rattle.header.specs.Settings.{Settings}
@@ -25,15 +24,39 @@ use Rattle.header_pieces.proofs.FieldsGrown.{taken-so, bytes-so}
 use Rattle.header_pieces.proofs.FieldsStored.{Stored}
 use Rattle.header_pieces.proofs.HeaderLoop.{Going}
 
--- a run that is copied behind the bytes kept
-pub kept-copied : {ext run : List ℕ} {kept end : ℕ} → end ≡ kept + length run → end ≤ length ext
-    → KeepsRun kept run ext end (put_mid kept (end - kept) ext run)
-kept-copied {ext} {run} {kept} {end} e h =
-    let p : kept ≤ end = omega arith in
-    let q : put_mid kept (end - kept) ext run ≡ sets ext kept run =
-    rw (Post-is kept end ext p, sets-eq run ext kept (omega arith)) (ap (λ (n : ℕ). take kept ext ++ (run ++ drop n ext)) e
-    ∙ sym (append_assoc (take kept ext) run (drop (kept + length run) ext))) in
-    record { stored = λ r. (e, q); none = λ z. (omega (arith, ap length z), q ∙ ap (sets ext kept) z) }
+-- the first i bytes of a run are stored behind those kept
+pub record KeptSo (ext₀ run : List ℕ) (kept : ℕ) (ext : List ℕ) (i : ℕ) : Type 0 where
+  pub room : kept + length run ≤ length ext₀
+  pub within : i ≤ length run
+  pub same : length ext ≡ length ext₀
+  pub stored : ext ≡ sets ext₀ kept (take i run)
+
+pub kept-first : {ext run : List ℕ} {kept : ℕ} → kept + length run ≤ length ext → KeptSo ext run kept ext 0
+kept-first h = record { room = h; within = omega arith; same = refl; stored = refl }
+
+sets_more : (ext run : List ℕ) (kept i : ℕ) → i < length run
+    → set (sets ext kept (take i run)) (kept + i) (get_or run i 0) ≡ sets ext kept (take (i + 1) run)
+sets_more ext run kept i h =
+    let n : length (take i run) ≡ i = length-take-le i run (omega arith) in
+    ap (λ (k : ℕ). set (sets ext kept (take i run)) (kept + k) (get_or run i 0)) (sym n)
+    ∙ sets-append ext kept (take i run) (get_or run i 0 ∷ [])
+    ∙ ap (sets ext kept) (sym (ap (λ (k : ℕ). take k run) (add-one i) ∙ take-suc run i 0 h))
+
+pub kept_next : {ext₀ run : List ℕ} {kept : ℕ} {ext : List ℕ} {i : ℕ} → KeptSo ext₀ run kept ext i → i < length run
+    → KeptSo ext₀ run kept (set ext (kept + i) (get_or run i 0)) (i + 1)
+kept_next {ext₀} {run} {kept} {ext} {i} k h =
+    record {
+      room = k.room;
+      within = omega arith;
+      same = length-set ext (kept + i) (get_or run i 0) ∙ k.same;
+      stored = ap (λ (l : List ℕ). set l (kept + i) (get_or run i 0)) k.stored ∙ sets_more ext₀ run kept i h;
+    }
+
+pub kept-last : {ext₀ run : List ℕ} {kept end : ℕ} {ext : List ℕ} {i : ℕ} → KeptSo ext₀ run kept ext i → length run ≤ i
+    → end ≡ kept + length run → KeepsRun kept run ext₀ end ext
+kept-last {ext₀} {run} {kept} {end} {ext} {i} k h e =
+    let q : ext ≡ sets ext₀ kept run = k.stored ∙ ap (sets ext₀ kept) (take_all i run h) in
+    record { stored = λ r. (e, q); none = λ z. (omega (arith, ap length z), q ∙ ap (sets ext₀ kept) z) }
 
 -- a state in the fields
 in-zone : (st : State) → in_fields st ≡ true → zone st ≡ inside (fields_start st)

@@ -83,7 +83,10 @@ fn keep_run(ext: &mut [u8], kept: usize, run: &[u8]) -> usize
     if ext.len() < end {
         return kept;
     }
-    ext[kept..end].copy_from_slice(run);
+    // By index: `copy_from_slice` is a call of memmove, for which an archive for C would ask from outside.
+    for i in 0..run.len() {
+        ext[kept + i] = run[i];
+    }
     end
 }
 

@@ -5,14 +5,31 @@ use mathlib.Core.List.{List, [], ◌∷◌, ◌++◌, append_assoc, append-nil}
 use native.Mathlib.Numerals.{add-one}
 use native.Mathlib.Omega.{arith}
 use borrow.Rule.Slice.PartMut.{mid_of, put_mid, Post-is}
-use lib.ListN.{length, take, drop, get_or, set, length-append, length-take, length-drop}
-use lib.Seq.{length-take-le, take_all, take-suc, take_at, take-add, append_snoc, set_at, get_or_at}
+use lib.ListN.{length, take, drop, get_or, set, take-append-drop, length-append, length-take, length-drop}
+use lib.Seq.{length-take-le, take_all, take-suc, take_at, take-add, take-take, take-append-le, append_snoc, set_at, get_or_at}
 use lib.Seq.{drop-cons, drop-drop, drop-append-add, drop-length}
 
 pub record FilledTo (target l₀ l : List ℕ) (i : ℕ) : Type 0 where
   pub same : length target ≡ length l₀
   pub within : i ≤ length l₀
   pub now_is : l ≡ take i target ++ drop i l₀
+
+-- a list whose first n elements are those of `target`, taken as one that is filled up to an index before
+pub filled-over : {target l : List ℕ} (l₀ : List ℕ) (n i : ℕ) → length target ≡ length l₀ → n ≤ length l₀ → i ≤ n
+    → l ≡ take n target ++ drop n l₀ → FilledTo target l l i
+filled-over {target} {l} l₀ n i e p q r =
+    let h : length (take n target) ≡ n = length-take-le n target (omega arith) in
+    let same : length target ≡ length l =
+    omega (arith, ap length r, length-append (take n target) (drop n l₀), length-drop n l₀) in
+    let front : take i l ≡ take i target =
+    ap (λ (k : List ℕ). take i k) r
+    ∙ take-append-le i (take n target) (drop n l₀) (omega arith)
+    ∙ take-take i n target q in
+    record {
+      same = same;
+      within = omega arith;
+      now_is = sym (take-append-drop i l) ∙ ap (λ (k : List ℕ). k ++ drop i l) front;
+    }
 
 module _ {target l₀ : List ℕ} where
   pub begun : length target ≡ length l₀ → FilledTo target l₀ l₀ 0

@@ -16,7 +16,7 @@ pub use convert::{convert_format, into_format, invert_into};
 pub use dots::is_white;
 pub use geometry::{check_geometry, row_stride};
 pub use packed::clear_ends;
-pub use wire::wire_bits;
+pub use wire::{wire_bits, wire_bits_at};
 
 #[derive(Clone, Copy, Debug, PartialEq, Eq)]
 pub enum PixelFormat {

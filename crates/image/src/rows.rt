@@ -1,5 +1,5 @@
 // Work on bytes: those of a row, or of many.
-ghost use Rattle.std.specs.Prelude.{◌≡◌, length};
+ghost use Rattle.std.specs.Prelude.{◌≡◌, ◌++◌, ◌≤◌, length, take, drop};
 ghost use Rattle.image.specs.Internal.Parts.{mask_last};
 ghost use Rattle.image.specs.Rows.{invert};
 
@@ -26,8 +26,17 @@ fn block(from: &[u8]) -> [u8; 16]
     b
 }
 
+// The first block of another list.
+fn copy_front(from: &[u8], to: &mut [u8])
+    requires { (length from.now ≡ length to.old) × (16 ≤ length to.old) }
+    ensures { to.new ≡ take 16 from.now ++ drop 16 to.old }
+{
+    let b = block(&from[..16]);
+    copy_bytes(&b, &mut to[..16]);
+}
+
 // The bytes of another list: block by block, each read whole before it is stored, and then the rest. `copy_from_slice` of any length is a
-// call of memmove, which libcapi.a, whose reading this is, may not make.
+// call of memmove, for which an archive for C would ask from outside.
 pub(crate) fn copy(from: &[u8], to: &mut [u8])
     requires { length from.now ≡ length to.old }
     ensures { to.new ≡ from.now }
@@ -41,6 +50,21 @@ pub(crate) fn copy(from: &[u8], to: &mut [u8])
         i = end;
     }
     copy_bytes(&from[i..], &mut to[i..]);
+}
+
+// The same for a stretch that starts at index `at` of its buffer: the blocks are stored at multiples of 16 of it, over the end of one at
+// the front.
+pub(crate) fn copy_at(from: &[u8], at: usize, to: &mut [u8])
+    requires { length from.now ≡ length to.old }
+    ensures { to.new ≡ from.now }
+{
+    if to.len() < 16 {
+        copy_bytes(from, to);
+    } else {
+        copy_front(from, to);
+        let next = 16 - at % 16;
+        copy(&from[next..], &mut to[next..]);
+    }
 }
 
 // The inverted bytes of another list. By index: by `to.iter_mut().zip(from)` was tried, after which nothing is known of `to`.

@@ -8,7 +8,7 @@ ghost use Rattle.image.specs.Rows.{source_row, to_native, wire_bits};
 
 use crate::geometry::row_start;
 use crate::packed::clear_ends;
-use crate::rows::{invert, invert_from, mask_last};
+use crate::rows::{copy, copy_at, invert, invert_from, mask_last};
 use crate::{PixelFormat, PlaneLayout};
 use error::{Refusal, Result, WbmpError};
 
@@ -18,7 +18,7 @@ fn take_row(plane: &[u8], stride: usize, y: usize, row: &mut [u8])
 {
     let n = row.len();
     match row_start(plane.len(), stride, y, n) {
-        Some(at) => row.copy_from_slice(&plane[at..at + n]),
+        Some(at) => copy(&plane[at..at + n], row),
         None => row.fill(0),
     }
 }
@@ -64,17 +64,43 @@ fn wire_rows(plane: &[u8], layout: PlaneLayout, stride: usize, format: PixelForm
 }
 
 // All rows of a plane without gaps at once. Unlike in reading, the padding is cleared in both formats.
-fn wire_packed(plane: &[u8], layout: PlaneLayout, format: PixelFormat, out: &mut [u8])
+fn wire_packed(plane: &[u8], layout: PlaneLayout, format: PixelFormat, at: usize, out: &mut [u8])
     requires plane_len { length plane.now ≡ plane_bytes layout.width layout.height }
     requires out_len { length out.old ≡ plane_bytes layout.width layout.height }
     ensures { out.new ≡ clear_rows layout.width layout.height (to_native format plane.now) }
 {
     // A `match`: a closure for each format would be named at one place alone.
     match format {
-        PixelFormat::MonoBlack => out.copy_from_slice(plane),
+        PixelFormat::MonoBlack => copy_at(plane, at, out),
         PixelFormat::MonoWhite => invert_from(plane, out),
     }
     clear_ends(out, layout.width, 0);
+}
+
+// `wire_bits` for an output that starts at index `at` of a file: where its blocks are stored hangs on it, their bytes do not.
+pub fn wire_bits_at(
+    plane: &[u8],
+    width: u32,
+    height: u32,
+    stride: usize,
+    format: PixelFormat,
+    at: usize,
+    out: &mut [u8],
+) -> Result<usize>
+    ensures { Emits (gives (wire_bits format width height stride plane.now)) (written result) out.old
+        out.new }
+{
+    let layout = PlaneLayout::new(width, height);
+    let total = layout.total_bytes;
+    if out.len() < total {
+        return Err(WbmpError::new(Refusal::OutputTooShort, 0));
+    }
+    if stride == layout.stride && total <= plane.len() {
+        wire_packed(&plane[..total], layout, format, at, &mut out[..total]);
+    } else {
+        wire_rows(plane, layout, stride, format, out);
+    }
+    Ok(total)
 }
 
 // Rows end to end without gaps, 1 for white and padding 0; nothing is written where they do not fit.
@@ -89,15 +115,5 @@ pub fn wire_bits(
     ensures { Emits (gives (wire_bits format width height stride plane.now)) (written result) out.old
         out.new }
 {
-    let layout = PlaneLayout::new(width, height);
-    let total = layout.total_bytes;
-    if out.len() < total {
-        return Err(WbmpError::new(Refusal::OutputTooShort, 0));
-    }
-    if stride == layout.stride && total <= plane.len() {
-        wire_packed(&plane[..total], layout, format, &mut out[..total]);
-    } else {
-        wire_rows(plane, layout, stride, format, out);
-    }
-    Ok(total)
+    wire_bits_at(plane, width, height, stride, format, 0, out)
 }

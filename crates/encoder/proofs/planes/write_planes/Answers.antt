@@ -45,20 +45,20 @@ overflow_add-end c = omega (arith, (there c).0, c.well_formed)
 pub overflow_mul-to : goal.overflow_mul-to
 overflow_mul-to c = omega (arith, (there c).1, kept-length c.loop-k.invariant, c.well_formed)
 
-pub slice_bounds-wire_bits-end : goal.slice_bounds-wire_bits-end
-slice_bounds-wire_bits-end c = omega (arith, (there c).0)
+pub slice_bounds-wire_bits_at-end : goal.slice_bounds-wire_bits_at-end
+slice_bounds-wire_bits_at-end c = omega (arith, (there c).0)
 
-pub slice_bounds-wire_bits-count-in-loop-k : goal.slice_bounds-wire_bits-count-in-loop-k
-slice_bounds-wire_bits-count-in-loop-k c = omega (arith, (there (goal.at.slice_bounds-wire_bits-count-in-loop-k c).In-loop-k).1)
+pub slice_bounds-wire_bits_at-count-in-loop-k : goal.slice_bounds-wire_bits_at-count-in-loop-k
+slice_bounds-wire_bits_at-count-in-loop-k c = omega (arith, (there (goal.at.slice_bounds-wire_bits_at-count-in-loop-k c).In-loop-k).1)
 
-pub slice_bounds-wire_bits-start-in-loop-k : goal.slice_bounds-wire_bits-start-in-loop-k
-slice_bounds-wire_bits-start-in-loop-k c = omega (arith, (there (goal.at.slice_bounds-wire_bits-start-in-loop-k c).In-loop-k).1)
+pub slice_bounds-wire_bits_at-start-in-loop-k : goal.slice_bounds-wire_bits_at-start-in-loop-k
+slice_bounds-wire_bits_at-start-in-loop-k c = omega (arith, (there (goal.at.slice_bounds-wire_bits_at-start-in-loop-k c).In-loop-k).1)
 
 pub loop-k-preserved : goal.loop-k-preserved
-loop-k-preserved c = planed c.loop-k.invariant _ _ c.loop-k-test.true refl refl _ _ c.wire_bits.ensures
+loop-k-preserved c = planed c.loop-k.invariant _ _ c.loop-k-test.true refl refl _ _ c.wire_bits_at.ensures
 
 pub unwrap-requires : goal.unwrap-requires
-unwrap-requires c = plane-written c.loop-k.invariant _ _ c.loop-k-test.true refl refl _ _ c.wire_bits.ensures
+unwrap-requires c = plane-written c.loop-k.invariant _ _ c.loop-k-test.true refl refl _ _ c.wire_bits_at.ensures
 
 pub shape_of-out : goal.shape_of-out
 shape_of-out c = kept-length c.loop-k.invariant

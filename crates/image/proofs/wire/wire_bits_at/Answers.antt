@@ -15,8 +15,8 @@ use Rattle.image.specs.declared.PlaneLayout.{PlaneLayout}
 use Rattle.image.proofs.PackedAsRows.{wires-at-once}
 use Rattle.image.proofs.PlaneSizes.{stride-is, total-is}
 use Rattle.image.proofs.WireRows.{wire-length}
-use Rattle.image.proofs.wire.wire_bits.Goals as goal
-use Rattle.image.proofs.wire.wire_bits.Goals.{After-new-layout}
+use Rattle.image.proofs.wire.wire_bits_at.Goals as goal
+use Rattle.image.proofs.wire.wire_bits_at.Goals.{After-new-layout}
 
 abbrev whole : After-new-layout → List ℕ
 whole c = let a = c.args in wire_bits a.format a.width a.height a.stride a.plane.now
