@@ -31,6 +31,6 @@ returns c =
     (omega arith) in (
       put-moves _ _ _ _ _ a.more q,
       put-copied a.text.now _ _ a.s.at (a.s.to + 1) _ _ (a.pair.identifier_len + a.pair.value_len) (omega arith) (omega arith) (omega arith)
-          (simp length-set (omega arith)) c.copy_from_slice.ensures.after
+          (simp length-set (omega arith)) c.copy.ensures
           ∙ put-done _ _ _ _ _ _ q _ c.pair_header.ensures (omega arith),
     )
