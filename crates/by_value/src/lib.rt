@@ -26,11 +26,11 @@ impl Records {
 impl PairList for Records {
     ghost lengths = { λ records. flattened (take records.pairs records.list) };
 
-    fn count(self) -> usize {
+    fn count(&self) -> usize {
         self.counted().count()
     }
 
-    fn length(self, k: usize) -> usize {
+    fn length(&self, k: usize) -> usize {
         self.counted().length(k)
     }
 }

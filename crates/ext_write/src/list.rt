@@ -9,20 +9,20 @@ pub trait PairList {
     ghost lengths: { Self → List ℕ };
 
     // How many lengths there are.
-    fn count(self) -> usize
-        ensures counted { result ≡ length (lengths self) }
+    fn count(&self) -> usize
+        ensures counted { result ≡ length (lengths self.now) }
         ensures few { result < 2 ^ 63 };
 
     // The length at an index, 0 past the last.
-    fn length(self, k: usize) -> usize
-        ensures { result ≡ get_or (lengths self) k 0 };
+    fn length(&self, k: usize) -> usize
+        ensures { result ≡ get_or (lengths self.now) k 0 };
 }
 
 // The pair at an index. A length that stands alone at the end is an identifier's, before a value of no bytes.
-pub(crate) fn pair_at<P: PairList + Copy>(pairs: P, i: usize) -> Parameter
+pub(crate) fn pair_at<P: PairList>(pairs: &P, i: usize) -> Parameter
     requires { i < 2 ^ 62 }
-    ensures identifier { result.identifier_len ≡ get_or (P.lengths pairs) (2 * i) 0 }
-    ensures value { result.value_len ≡ get_or (P.lengths pairs) (2 * i + 1) 0 }
+    ensures identifier { result.identifier_len ≡ get_or (P.lengths pairs.now) (2 * i) 0 }
+    ensures value { result.value_len ≡ get_or (P.lengths pairs.now) (2 * i + 1) 0 }
 {
     Parameter {
         identifier_len: pairs.length(2 * i),
@@ -33,11 +33,11 @@ pub(crate) fn pair_at<P: PairList + Copy>(pairs: P, i: usize) -> Parameter
 impl PairList for &[usize] {
     ghost lengths = { λ list. list.now };
 
-    fn count(self) -> usize {
+    fn count(&self) -> usize {
         self.len()
     }
 
-    fn length(self, k: usize) -> usize {
+    fn length(&self, k: usize) -> usize {
         self.get(k).copied().unwrap_or(0)
     }
 }
@@ -45,11 +45,11 @@ impl PairList for &[usize] {
 impl PairList for &[Parameter] {
     ghost lengths = { λ list. flattened list.now };
 
-    fn count(self) -> usize {
+    fn count(&self) -> usize {
         self.len() * 2
     }
 
-    fn length(self, k: usize) -> usize {
+    fn length(&self, k: usize) -> usize {
         match self.get(k / 2) {
             Some(p) if k % 2 == 0 => p.identifier_len,
             Some(p) => p.value_len,

@@ -46,7 +46,7 @@ pub fn check_pairs<P: PairList + Copy>(text: &[u8], pairs: P, strict: bool) -> R
     let count = pairs.count();
     let mut s = check_start();
     for i in 0..(count + 1) / 2 {
-        s = check_pair(text, s, pair_at(pairs, i), strict);
+        s = check_pair(text, s, pair_at(&pairs, i), strict);
     }
     pairs_length(text.len(), count, s)
 }
@@ -144,7 +144,7 @@ pub fn put_pairs<P: PairList + Copy>(
     let count = pairs.count();
     let mut s = put_start(to);
     for i in 0..(count + 1) / 2 {
-        let pair = pair_at(pairs, i);
+        let pair = pair_at(&pairs, i);
         s = put_pair(text, s, pair, 2 * i + 2 < count, &mut *out);
     }
     begun.end

@@ -14,7 +14,7 @@ returns-in-Some c =
     let h = c.in-Some.ensures.lookup.3 in
     let d = c.in-Some.p.now in
     let e : a.k ≡ a.k / 2 * 2 = omega (arith, c.if-k-eq0.true) in
-    ap (λ p. p.identifier_len) (h.1 d) ∙ sym (flat-at a.self.now (a.k / 2) d h.0).0 ∙ at-index (flattened a.self.now) a.k _ e
+    ap (λ p. p.identifier_len) (h.1 d) ∙ sym (flat-at a.self.now.now (a.k / 2) d h.0).0 ∙ at-index (flattened a.self.now.now) a.k _ e
 
 pub returns-in-Some-2 : goal.returns-in-Some-2
 returns-in-Some-2 c =
@@ -22,9 +22,9 @@ returns-in-Some-2 c =
     let h = c.in-Some.ensures.lookup.3 in
     let d = c.in-Some.p.now in
     let e : a.k ≡ a.k / 2 * 2 + 1 = omega (arith, c.if-k-eq0.false) in
-    ap (λ p. p.value_len) (h.1 d) ∙ sym (flat-at a.self.now (a.k / 2) d h.0).1 ∙ at-index (flattened a.self.now) a.k _ e
+    ap (λ p. p.value_len) (h.1 d) ∙ sym (flat-at a.self.now.now (a.k / 2) d h.0).1 ∙ at-index (flattened a.self.now.now) a.k _ e
 
 pub returns-in-None : goal.returns-in-None
 returns-in-None c =
     let a = c.args in
-    sym (get_or_past (flattened a.self.now) a.k 0 (omega (arith, flat-long a.self.now, c.in-None.ensures.lookup.3)))
+    sym (get_or_past (flattened a.self.now.now) a.k 0 (omega (arith, flat-long a.self.now.now, c.in-None.ensures.lookup.3)))
