@@ -137,3 +137,6 @@ module _ (s : EncodeSession) (xs out : List ℕ) (work : List ℤ) (l : s.live �
           ∙ ap (λ (k : ℕ). newly (setting_of m.opening) m.samples (m.samples ++ taken m xs (length out)) ++ drop k out)
           (sym (written-long m t))
           ∙ ap (λ (y : List ℕ). y ++ drop (length (written m xs (length out))) out) (sym (written_is m t))
+
+-- the three ways that a call ends
+pub ruleset feed_steps = (feeds-shut, feeds-short, feeds-ran)

@@ -81,11 +81,12 @@ impl EncodeSession {
     }
 
     // Takes the most samples whose finished bytes fit the lent output, none past 16 frames. A refused call leaves the session as it was.
+    #[tactic(auto, using(crate::proofs::FeedCorrect::feed_steps))]
     pub fn feed(&mut self, samples: &[u8], work: &mut [i16], out: &mut [u8]) -> Result<Fed>
         ensures { Feeds self.old samples.now out.old work.old result self.new out.new work.new }
     {
         if !self.live {
-            return Err(WbmpError::new(Refusal::SessionClosed, 0)); // 30 before 28
+            return Err(WbmpError::new(Refusal::SessionClosed, 0));
         }
         if !self.quantizer.serves(work.len()) {
             return Err(WbmpError::new(Refusal::BufferTooShort, 0));
