@@ -57,3 +57,32 @@ impl PairList for &[Parameter] {
         }
     }
 }
+
+// An array that is lent is the list that its slice is: without these impls a caller would have to cut the slice.
+impl<const N: usize> PairList for &[usize; N] {
+    ghost lengths = { λ list. list.now };
+
+    fn count(&self) -> usize {
+        let numbers: &[usize] = *self;
+        numbers.count()
+    }
+
+    fn length(&self, k: usize) -> usize {
+        let numbers: &[usize] = *self;
+        numbers.length(k)
+    }
+}
+
+impl<const N: usize> PairList for &[Parameter; N] {
+    ghost lengths = { λ list. flattened list.now };
+
+    fn count(&self) -> usize {
+        let records: &[Parameter] = *self;
+        records.count()
+    }
+
+    fn length(&self, k: usize) -> usize {
+        let records: &[Parameter] = *self;
+        records.length(k)
+    }
+}

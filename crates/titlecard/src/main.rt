@@ -34,7 +34,7 @@ fn make(out: &mut [u8]) -> Result<&[u8]> {
         scan,
         options(),
         b"TitleHI",
-        &pairs[..],
+        &pairs,
         &mut work,
         out,
     )?;
