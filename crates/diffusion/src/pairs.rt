@@ -43,7 +43,9 @@ fn dither_pair(first: u8, second: u8, left: u32, right: u32) -> PairRow
     }
 }
 
-// By index: the samples and the output may be longer than the plane.
+// By index: the samples and the output may be longer than the plane. Not taken in where it is called, as `plain_rows`: there black and
+// white planes take 1.2 times as long.
+#[inline(never)]
 pub(crate) fn dither_pairs(height: usize, gray: &[u8], out: &mut [u8])
     requires { PlaneLent 2 height (length gray.now) (length out.old) }
     ensures { RowsWritten 2 height gray.now out.old height out.new }
