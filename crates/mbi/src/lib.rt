@@ -26,12 +26,15 @@ pub fn mbi_step(strict: bool, at: usize, value: u32, count: u8, byte: u8) -> Res
         return Err(WbmpError::new(Refusal::MbiNotShortest, at));
     }
     let after = at.wrapping_add(1);
-    let Ok(value) = u32::try_from(u64::from(value) * 128 + u64::from(byte % 128)) else {
+    let value = u64::from(value) * 128 + u64::from(byte % 128);
+    // No `try_from`: what it returns would make the compiler keep the low byte of each value apart.
+    if value > u64::from(u32::MAX) {
         return Err(WbmpError::new(Refusal::MbiOverflow, after));
-    };
+    }
     if count >= MAX_MBI_BYTES {
         return Err(WbmpError::new(Refusal::MbiTooLong, after));
     }
+    let value = value as u32;
     Ok(if byte < 128 {
         ControlFlow::Break(value)
     } else {
