@@ -1,22 +1,20 @@
 -- Octets of kind 00 to be written.
 use Prim.Native.Nat.{ℕ, zero, suc, ◌+◌, ◌≤◌, ◌<◌}
 use mathlib.Core.Path.{◌≡◌, ◌∙◌, sym, ap, refl}
-use mathlib.Core.Bool.{Bool, true, false, ◌&&◌}
+use mathlib.Core.Bool.{Bool}
 use mathlib.Core.List.{List, [], ◌∷◌}
 use native.Mathlib.Nat.{zero-add}
 use native.Mathlib.Numerals.{add-one}
 use native.Mathlib.Omega.{arith}
 use lib.Dec.{ltb}
-use Rattle.std.specs.Prelude.{nat_lt}
-use Rattle.ext.specs.Classes.{all}
 use lib.ListN.{length, get_or, drop, set, length-set, drop_of_length-le}
 use lib.Seq.{sets}
-use borrow.Author.Tests.{lt-ltb, ltb-true}
+use borrow.Author.Tests.{lt-ltb, le-ltb, ltb-true}
 use Rattle.error.specs.Choice.{if}
 use Rattle.error.specs.Answer.{Answer, gives, refuses, map}
 use Rattle.laws.proofs.Answers.{map_gives, when}
 use Rattle.laws.proofs.Lists.{drop_at}
-use Rattle.laws.proofs.Tests.{if-true, zero_one}
+use Rattle.laws.proofs.Tests.{if-true, if-false, zero_one}
 use Rattle.ext_write.specs.Write.{octets_bytes}
 use Rattle.ext_write.specs.Internal.Steps.{Small, continued}
 use Rattle.ext_write.proofs.PairSteps.{left-more}
@@ -36,39 +34,25 @@ octets-small (o ∷ o' ∷ os) h k =
     ∙ ap (map (λ (bytes : List ℕ). (128 + o) ∷ bytes)) (octets-small (o' ∷ os) (omega arith) (λ i l. k (suc i) (omega arith)))
     ∙ ap (λ (b : Bool). gives ((if b 128 0 + o) ∷ continued (o' ∷ os))) (sym (lt-ltb 0 (length (o' ∷ os)) (omega arith)))
 
+pub octets-length : (s : List ℕ) → 0 < length s → Small s → map length (octets_bytes s) ≡ gives (length s)
+octets-length s h k = ap (map length) (octets-small s h k) ∙ ap gives (length-continued s)
+
 pub octets-none : (s : List ℕ) → length s ≡ 0 → octets_bytes s ≡ refuses 23 0
 unfolding octets_bytes
 octets-none [] h = refl
 octets-none (o ∷ os) h = absurd (omega arith)
 
--- one octet with bit 7 refuses them all
-longer : (o : ℕ) (r : Answer (List ℕ)) → map length (map (λ (bytes : List ℕ). (128 + o) ∷ bytes) r) ≡ map suc (map length r)
-longer o (gives bytes) = refl
-longer o (refuses code place) = refl
-
-chosen : (t : Bool) (n : ℕ) → map suc (if t (gives n) (refuses 24 0)) ≡ if t (gives (suc n)) (refuses 24 0)
-chosen true n = refl
-chosen false n = refl
-
-pub octets-tested : (s : List ℕ) → 0 < length s
-    → map length (octets_bytes s) ≡ if (all (λ o. nat_lt o 128) s) (gives (length s)) (refuses 24 0)
-unfolding octets_bytes all
-octets-tested [] h = absurd (omega arith)
-octets-tested (o ∷ []) h = by-test (ltb o 128)
-  where
-    by-test : (b : Bool) → map length (if b (gives (o ∷ [])) (refuses 24 0)) ≡ if (b && true) (gives 1) (refuses 24 0)
-    by-test true = refl
-    by-test false = refl
-octets-tested (o ∷ o' ∷ os) h = by-test (octets-tested (o' ∷ os) (omega arith)) (ltb o 128)
-  where
-    rest : Bool
-    rest = all (λ p. nat_lt p 128) (o' ∷ os)
-
-    by-test : map length (octets_bytes (o' ∷ os)) ≡ if rest (gives (length (o' ∷ os))) (refuses 24 0)
-        → (b : Bool) → map length (if b (map (λ (bytes : List ℕ). (128 + o) ∷ bytes) (octets_bytes (o' ∷ os))) (refuses 24 0))
-        ≡ if (b && rest) (gives (length (o ∷ o' ∷ os))) (refuses 24 0)
-    by-test e true = longer o (octets_bytes (o' ∷ os)) ∙ ap (map suc) e ∙ chosen rest (length (o' ∷ os))
-    by-test e false = refl
+-- the first octet with bit 7 is refused
+pub octets-bad : (s : List ℕ) (i : ℕ) → i < length s → ((k : ℕ) → k < i → get_or s k 0 < 128) → 128 ≤ get_or s i 0
+    → octets_bytes s ≡ refuses 24 0
+unfolding octets_bytes
+octets-bad [] i h k b = absurd (omega arith)
+octets-bad (o ∷ []) zero h k b = if-false _ _ _ (le-ltb o 128 b)
+octets-bad (o ∷ o' ∷ os) zero h k b = if-false _ _ _ (le-ltb o 128 b)
+octets-bad (o ∷ []) (suc i) h k b = absurd (omega arith)
+octets-bad (o ∷ o' ∷ os) (suc i) h k b =
+    if-true _ _ _ (lt-ltb o 128 (k 0 (omega arith)))
+    ∙ ap (map (λ (bytes : List ℕ). (128 + o) ∷ bytes)) (octets-bad (o' ∷ os) i (omega arith) (λ j l. k (suc j) (omega arith)) b)
 
 -- what is accepted is octets of 7 bits
 small-cons : (o : ℕ) (os : List ℕ) → o < 128 → Small os → Small (o ∷ os)

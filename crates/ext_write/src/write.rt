@@ -22,8 +22,11 @@ fn check_octets(text: &[u8]) -> Result<usize>
     if text.is_empty() {
         return Err(WbmpError::new(Refusal::FieldsEmpty, 0));
     }
-    if !text.iter().all(|octet| *octet < 128) {
-        return Err(WbmpError::new(Refusal::OctetBit7, 0));
+    // By index: where the length of a text is known, the compiler makes this loop test many octets at once, but not one of `all`.
+    for i in 0..text.len() {
+        if text[i] >= 128 {
+            return Err(WbmpError::new(Refusal::OctetBit7, 0));
+        }
     }
     Ok(text.len())
 }
