@@ -29,7 +29,9 @@ pub struct PairsRun {
 fn octets_ahead(most: usize, piece: &[u8]) -> usize
     ensures { result ≡ prefix_len (nat_le 128) (take most piece.now) }
 {
-    piece.iter().take(most).take_while(|b| **b >= 128).count()
+    // The slice ends at `most`: behind an adapter `take`, each byte costs one test more.
+    let ahead = &piece[..most.min(piece.len())];
+    ahead.iter().take_while(|b| **b >= 128).count()
 }
 
 // How many bytes a pair has that another follows, by its first byte; none for the last pair and for a length of 0.
