@@ -1,5 +1,5 @@
 // Bytes of rows and planes, and the test of an image's geometry.
-ghost use Rattle.std.specs.Prelude.{◌≡◌, ◌+◌, ◌*◌};
+ghost use Rattle.std.specs.Prelude.{◌≡◌, ◌+◌, ◌*◌, leb};
 ghost use Rattle.error.specs.Answer.{checked};
 ghost use Rattle.image.specs.Geometry.{row_bytes, padding_mask, check_geometry};
 ghost use Rattle.image.specs.Internal.Parts.{row_start};
@@ -21,13 +21,25 @@ pub(crate) fn padding_mask(width: u32) -> u8
     (256 - (1u32 << bits)) as u8
 }
 
-// Where the first `count` bytes of row y start, if a plane of so many bytes has them all.
+// Whether a product, which may pass 64 bits, is at most a number.
+fn product_within(a: usize, b: usize, most: usize) -> bool
+    ensures { result ≡ leb (a * b) most }
+{
+    if b == 0 { true } else { a <= most / b }
+}
+
+// Where the first `count` bytes of row y start, if a plane of so many bytes has them all. By a quotient, which a loop over rows works out
+// once: with `checked_mul` the writing of narrow rows with gaps ran up to 1.7 times as many instructions.
 pub(crate) fn row_start(bytes: usize, stride: usize, y: usize, count: usize) -> Option<usize>
     ensures { result ≡ row_start bytes stride y count }
 {
-    let at = y.checked_mul(stride)?;
-    let end = at.checked_add(count)?;
-    (end <= bytes).then_some(at)
+    if product_within(y, stride, bytes) {
+        let at = y * stride;
+        if count <= bytes - at {
+            return Some(at);
+        }
+    }
+    None
 }
 
 // Whether a plane of so many bytes holds an image of this size.
