@@ -1,6 +1,5 @@
 // Reading a block of the list, whose form tools/oracle/src/list.rs tells.
 use crate::bytes::{Bytes, is_same};
-use std::iter;
 
 // The longest text.
 pub(crate) const TEXT: usize = 8192;
@@ -34,23 +33,21 @@ impl Bytes<'_> {
     }
 
     // Puts a part behind the first `from` bytes, and says where it ends. Not into the rest of the space: a text is the front of the whole.
-    // The part's last repetition may be cut.
+    // The last repetition may be cut.
     fn part(&mut self, out: &mut [u8], from: usize) -> usize {
         let times = self.number();
         let size = self.number();
-        let part = self.take(size).iter().copied();
-        let len = size.saturating_mul(times);
+        let part = self.take(size);
         let from = from.min(out.len());
-        // Not in chunks by copy_from_slice: tried, and that the last one is no longer than the part was not proved.
-        let bytes = part.chain(iter::repeat(0)).take(size).cycle().take(len);
-        for (to, byte) in out[from..].iter_mut().zip(bytes) {
-            *to = byte;
-        }
+        let end = from
+            .saturating_add(size.saturating_mul(times))
+            .min(out.len());
+        repeat(part, size, &mut out[from..end]);
         let last = from.saturating_add(size.saturating_mul(times.saturating_sub(1)));
         if times > out.len() || times > 0 && last >= out.len() {
             self.rest = &[];
         }
-        from.saturating_add(len).min(out.len())
+        end
     }
 
     // Whether the next text is `bytes`.
@@ -58,5 +55,22 @@ impl Bytes<'_> {
         let mut space = [0; TEXT];
         let text = self.text(&mut space);
         is_same(text, bytes)
+    }
+}
+
+// Fills the space with repetitions of `size` bytes each, the part's and zeros behind them.
+fn repeat(part: &[u8], size: usize, space: &mut [u8]) {
+    match part {
+        // Most parts that are repeated are one byte: in chunks they take twice as long.
+        [byte] if size == 1 => space.fill(*byte),
+        _ => {
+            space.fill(0);
+            // Not by copy_from_slice: tried, and that the last one is no longer than the part was not proved.
+            for chunk in space.chunks_mut(size.max(1)) {
+                for (to, byte) in chunk.iter_mut().zip(part) {
+                    *to = *byte;
+                }
+            }
+        }
     }
 }
