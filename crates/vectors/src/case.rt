@@ -2,7 +2,7 @@
 // that it has to leave alone; a plane that is changed in place.
 use crate::answer::refused;
 use crate::bytes::{Bytes, front, is_same};
-use crate::fields::{Contents, LENGTHS};
+use crate::fields::{Contents, Fields, LENGTHS};
 use crate::list::TEXT;
 use crate::planes::convert;
 use crate::stages::BEHIND;
@@ -82,19 +82,14 @@ impl Case<'_> {
             want: &want,
             len,
         };
-        let Some(fields) = self.fields() else {
-            let (text, pairs): (&[u8], &[usize]) = (&[], &[]);
-            return writing.replay(Contents { text, pairs });
-        };
-        if self.operation >= RECORDS {
-            return writing.replay(fields.over_records());
+        match self.fields() {
+            Some(fields) if self.operation >= RECORDS => writing.replay(fields.over_records()),
+            Some(fields) => writing.replay_fields(fields),
+            None => {
+                let (text, pairs): (&[u8], &[usize]) = (&[], &[]);
+                writing.replay(Contents { text, pairs })
+            }
         }
-        let mut lengths = [0; LENGTHS];
-        let mut all = writing.replay(fields.over_lengths(&mut lengths));
-        if fields.are_pairs() {
-            all.add(writing.replay(fields.over_records()));
-        }
-        all
     }
 }
 
@@ -108,6 +103,17 @@ struct Writing<'a> {
 }
 
 impl Writing<'_> {
+    // Apart, since each writer's case would pay for the lengths' space.
+    #[inline(never)]
+    fn replay_fields(self, fields: Fields) -> Replayed {
+        let mut lengths = [0; LENGTHS];
+        let mut all = self.replay(fields.over_lengths(&mut lengths));
+        if fields.are_pairs() {
+            all.add(self.replay(fields.over_records()));
+        }
+        all
+    }
+
     // A case that is accepted gets an output exactly long enough, one longer and one too short; a
     // refused one gets none and some.
     fn replay<P: PairList + Copy>(self, contents: Contents<P>) -> Replayed {
