@@ -168,8 +168,8 @@ if "--write" in sys.argv:
         f.write(present(readme))
 elif present(readme) != readme:
     tell("README.md", "the graph of crates or the table of definitions is not the present one")
-# Two pages tell of what was.
-PAST = {"docs/PORT.md", "docs/DESIGN-PASS.md"}
+# Three pages tell of what was.
+PAST = {"docs/PORT.md", "docs/DESIGN-PASS.md", "docs/LOOK-BACK.md"}
 for document in ["README.md"] + sorted(set(glob.glob("docs/**/*.md", recursive=True)) - PAST):
     check_text(document, read(document))
 check_rows("docs/TRACEABILITY.md")
