@@ -61,7 +61,7 @@ impl Bytes<'_> {
 // Fills the space with repetitions of `size` bytes each, the part's and zeros behind them.
 fn repeat(part: &[u8], size: usize, space: &mut [u8]) {
     match part {
-        // Most parts that are repeated are one byte: in chunks they take twice as long.
+        // Most parts that are repeated are one byte.
         [byte] if size == 1 => space.fill(*byte),
         _ => {
             space.fill(0);
