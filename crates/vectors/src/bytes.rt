@@ -46,8 +46,13 @@ impl<'a> Bytes<'a> {
     }
 
     pub(crate) fn byte(&mut self) -> u8 {
-        let [byte] = self.array::<1>();
-        byte
+        match self.rest.split_first() {
+            Some((byte, rest)) => {
+                self.rest = rest;
+                *byte
+            }
+            None => 0,
+        }
     }
 
     // A number in two bytes, the high one first.

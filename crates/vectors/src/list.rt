@@ -6,12 +6,15 @@ pub(crate) const TEXT: usize = 8192;
 
 impl Bytes<'_> {
     pub(crate) fn number(&mut self) -> usize {
-        let more = self.rest.iter().take_while(|b| **b >= 128).count();
-        let high = self
-            .take(more)
-            .iter()
-            .fold(0usize, |value, b| (value << 7) | usize::from(b & 127));
-        (high << 7) | usize::from(self.byte())
+        let mut value = 0;
+        for _ in 0..self.rest.len() {
+            let byte = self.byte();
+            value = (value << 7) | usize::from(byte & 127);
+            if byte < 128 {
+                return value;
+            }
+        }
+        value << 7
     }
 
     // How many entries follow, each of a byte or more: no more than the block has bytes.
