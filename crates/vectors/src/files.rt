@@ -4,7 +4,7 @@ use crate::answer::{Answer, joined, numbers, refused};
 use crate::bytes::Bytes;
 use crate::readers::fields_of;
 use crate::settings::Settings;
-use api::ImageInfo;
+use api::{ImageInfo, Sniffed};
 use decoder::DecodedImage;
 
 // The main image, or all frames: the cases test both functions.
@@ -42,7 +42,12 @@ fn told(i: ImageInfo) -> Answer {
 }
 
 pub(crate) fn sniff(file: &[u8]) -> Answer {
-    numbers(&[0, 0, api::sniff(file) as usize])
+    let told = match api::sniff(file) {
+        Sniffed::Neither => 0,
+        Sniffed::Exact => 1,
+        Sniffed::Truncated => 2,
+    };
+    numbers(&[0, 0, told])
 }
 
 pub(crate) fn probe(file: &[u8]) -> Answer {
